@@ -1,0 +1,31 @@
+-- Document 01, "The sixteen inputs": the numbers of that heading, and of times.
+-- Assumes nothing.
+use Prim.Native.Nat.{ℕ, _^_}
+
+-- "Inputs 0 to 15"
+abbrev pub inputCount : ℕ
+inputCount = 16
+
+-- "wait 0 to 12 minutes", in ms
+abbrev pub minute : ℕ
+minute = 60000
+
+-- "300 ms"
+abbrev pub freshHoldoff : ℕ
+freshHoldoff = 300
+
+-- "5 minutes"
+abbrev pub freshWait : ℕ
+freshWait = 5
+
+-- "less than 5,000 ms ago"
+abbrev pub frameLife : ℕ
+frameLife = 5000
+
+-- "three consecutive code reports"
+abbrev pub reportsNeeded : ℕ
+reportsNeeded = 3
+
+-- "2^48"
+abbrev pub timeLimit : ℕ
+timeLimit = 281474976710656

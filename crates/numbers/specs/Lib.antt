@@ -1,0 +1,6 @@
+-- Qualities and codes; the sixteen inputs; kinds of event; numbers of refusal.
+pub mod Quality
+pub mod Inputs
+pub mod Kind
+pub mod Refusal
+pub mod Cases

@@ -1,0 +1,36 @@
+-- `run::Run::at_moment` meets its contract: it is the definition, call by call.
+-- Assumes nothing.
+use Rattle.run.specs.Run.{atMoment}
+use borrow.Author.Needs.{needs}
+use Rattle.run.proofs.Run.at_moment.Statement.{statement}
+use Rattle.run.proofs.Run.at_moment.Tie as tie
+
+raw-at-requires : tie.Need-raw-at-requires
+raw-at-requires c κs = search needs
+
+is-failed-requires : tie.Need-is-failed-requires
+is-failed-requires c κs = search needs
+
+run-start-requires : tie.Need-run-start-requires
+run-start-requires c κs = search needs
+
+phase-requires : tie.Need-phase-requires
+phase-requires c κs = search needs
+
+last-good-requires : tie.Need-last-good-requires
+last-good-requires c κs = search needs
+
+returns : tie.Need-returns
+unfolding atMoment
+returns c = cc
+
+pub at-moment-spec : {M : Type 1} → statement M
+at-moment-spec =
+    tie.close
+    (tie.spec
+    raw-at-requires
+    is-failed-requires
+    run-start-requires
+    phase-requires
+    last-good-requires
+    returns)
