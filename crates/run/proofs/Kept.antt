@@ -220,6 +220,10 @@ good-raw : (test : Bool) (q : Quality) → isFailed (cond test failed q) ≡ fal
 good-raw true q e = absurd (true≢false e)
 good-raw false q e = refl
 
+rawAt-good : (forecast : Forecast) (time : ℕ) → isFailed (rawAt forecast time) ≡ false → rawAt forecast time ≡ forecast .quality
+unfolding rawAt
+rawAt-good forecast time e = good-raw (isExpired forecast time) (forecast .quality) e
+
 good-taken : (test : Bool) (good q : Quality) → isFailed (cond test failed q) ≡ false
     → cond (isFailed (cond test failed q)) good (cond test failed q) ≡ q
 good-taken test good q e = rw e (good-raw test q e)
@@ -241,6 +245,31 @@ settled-atMoment run forecast time clears =
       heldOff = λ e k. heldOff-taken _ _ _ _ e (le-leb _ time k);
       waited = λ e k. waited-taken _ _ clears _ _ e (le-leb _ time k);
     }
+
+again-any : (f h w : ℕ) (q : Quality) (x : Bool) (s : ℕ) (g : Quality) (b u : Bool) (time : ℕ)
+    → Settled (forecastOf f h w q x) (runOf s g b u) time
+    → atMoment (runOf s g b u) (forecastOf f h w q x) time false ≡ runOf s g b u
+unfolding atMoment runStart lastGood phase
+again-any f h w q x s g true u time c =
+    rw (← c .fits .fails)
+    (ap (λ (b : Bool). runOf s g true b) (judged (leb (s + h) time) false u (λ e. c .heldOff refl (leb-true (s + h) time e))))
+again-any f h w q x s g false u time c =
+    let k : rawAt (forecastOf f h w q x) time ≡ g = good-now (sym (c .fits .fails)) ∙ sym (c .fits .good refl) in
+    rw (← c .fits .fails)
+    (λ j. runOf s (k j) false (judged (leb (s + w) time) true u (λ e. c .waited refl (leb-true (s + w) time e)) j))
+  where
+    good-now : isFailed (rawAt (forecastOf f h w q x) time) ≡ false → rawAt (forecastOf f h w q x) time ≡ q
+    good-now = rawAt-good (forecastOf f h w q x) time
+
+-- one moment more where nothing is due changes nothing
+pub atMoment-settled : (run : Run) (forecast : Forecast) (time : ℕ) → Settled forecast run time
+    → atMoment run forecast time false ≡ run
+atMoment-settled run forecast time c =
+    again-any (forecast .framed) (forecast .holdoff) (forecast .wait) (forecast .quality) (forecast .expires) (run .start) (run .good)
+    (run .failed)
+    (run .up)
+    time
+    c
 
 -- a fresh run, where raw quality is failed
 pub settled-fresh : (forecast : Forecast) → isFailed (rawAt forecast 0) ≡ true → Settled forecast freshRun 0

@@ -1,0 +1,19 @@
+-- `input::Input::frame` meets its contract: it is the definition, call by call.
+-- Assumes nothing.
+use Rattle.input.specs.Record.{afterEvent, heardAfter, settingsAfter}
+use borrow.Author.Needs.{needs}
+use Rattle.input.proofs.Input.frame.Statement.{statement}
+use Rattle.input.proofs.Input.frame.Tie as tie
+
+frame-requires : tie.Need-frame-requires
+frame-requires c κs = search needs
+
+settle-requires : tie.Need-settle-requires
+settle-requires c κs = search needs
+
+returns : tie.Need-returns
+unfolding afterEvent heardAfter settingsAfter
+returns c = cc
+
+pub frame-spec : {M : Type 1} → statement M
+frame-spec = tie.close (tie.spec frame-requires settle-requires returns)

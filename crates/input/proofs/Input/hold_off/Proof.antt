@@ -1,0 +1,16 @@
+-- `input::Input::hold_off` meets its contract: it is the definition, call by call.
+-- Assumes nothing.
+use Rattle.input.specs.Record.{afterEvent, heardAfter, settingsAfter}
+use borrow.Author.Needs.{needs}
+use Rattle.input.proofs.Input.hold_off.Statement.{statement}
+use Rattle.input.proofs.Input.hold_off.Tie as tie
+
+settle-requires : tie.Need-settle-requires
+settle-requires c κs = search needs
+
+returns : tie.Need-returns
+unfolding afterEvent heardAfter settingsAfter
+returns c = cc
+
+pub hold-off-spec : {M : Type 1} → statement M
+hold-off-spec = tie.close (tie.spec settle-requires returns)

@@ -1,0 +1,19 @@
+-- `input::Input::signal` meets its contract: it is the definition, call by call.
+-- Assumes nothing.
+use Rattle.input.specs.Record.{afterEvent, heardAfter, settingsAfter}
+use borrow.Author.Needs.{needs}
+use Rattle.input.proofs.Input.signal.Statement.{statement}
+use Rattle.input.proofs.Input.signal.Tie as tie
+
+signal-requires : tie.Need-signal-requires
+signal-requires c κs = search needs
+
+settle-requires : tie.Need-settle-requires
+settle-requires c κs = search needs
+
+returns : tie.Need-returns
+unfolding afterEvent heardAfter settingsAfter
+returns c = cc
+
+pub signal-spec : {M : Type 1} → statement M
+signal-spec = tie.close (tie.spec signal-requires settle-requires returns)

@@ -1,0 +1,19 @@
+-- `input::Input::tick` meets its contract: it is the definition, call by call.
+-- Assumes nothing.
+use Rattle.input.specs.Record.{tick}
+use borrow.Author.Needs.{needs}
+use Rattle.input.proofs.Input.tick.Statement.{statement}
+use Rattle.input.proofs.Input.tick.Tie as tie
+
+forecast-requires : tie.Need-forecast-requires
+forecast-requires c κs = search needs
+
+brought-to-requires : tie.Need-brought-to-requires
+brought-to-requires c κs = search needs
+
+returns : tie.Need-returns
+unfolding tick
+returns c = cc
+
+pub tick-spec : {M : Type 1} → statement M
+tick-spec = tie.close (tie.spec forecast-requires brought-to-requires returns)

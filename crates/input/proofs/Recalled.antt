@@ -1,0 +1,297 @@
+-- What the record keeps of settings and reports is what the recorded events say. Assumes nothing.
+use Prim.Native.Nat.{ℕ, zero, suc, _+_, _-_, _*_, _≤_, _<_, min}
+use mathlib.Core.Bool.{Bool, true, false, not, _&&_, _||_, cond, and-false, true≢false, false≢true}
+use mathlib.Core.List.{List, [], _∷_}
+use mathlib.Core.Path.{_≡_, refl, sym, _∙_, ap, fun-ext}
+use native.Mathlib.Omega.{arith}
+use lib.Dec.{leb, ltb, eqb}
+use borrow.Author.Tests.{ltb-true, ltb-false, leb-true, leb-false, eqb-true, lt-ltb, le-ltb, le-leb, lt-leb, eq-eqb, ne-eqb}
+use Rattle.numbers.specs.declared.Event.{Event}
+use Rattle.numbers.specs.declared.Priority.{Priority}
+use Rattle.numbers.specs.declared.Quality.{Quality}
+use Rattle.numbers.specs.Quality.{quality, notTold, failed, isFailed, qualityOfCode}
+use Rattle.numbers.specs.Inputs.{minute, freshHoldoff, freshWait, frameLife, reportsNeeded}
+use Rattle.numbers.specs.Kind.{kindSignal, kindFrame, kindLineCode, kindPriority, kindLockout, kindHoldoff, kindWait, kindFixedQuality, kindClearWait, kindQualityMode, kindSending, kindInputKind}
+use Rattle.run.specs.declared.Run.{Run}
+use Rattle.run.specs.Run.{rawAt, isExpired, momentAt}
+use Rattle.run.proofs.Laws.{byBool}
+use Rattle.input.specs.declared.Heard.{Heard}
+use Rattle.input.specs.declared.Settings.{Settings}
+use Rattle.input.specs.declared.Input.{Input}
+use Rattle.input.specs.Recorded.{History, isOn, lastArgument, modeOn, signalGood, isEthernet, priorityOf, isLocked, holdoffOf, waitOf, fixedOf, isSending, forgets, heard, isThird, lineQuality, frameQuality, rawQualityAt, momentOf}
+use Rattle.input.specs.Record.{forgotten, freshSettings, countAfter, lineAfter, heardAfter, settingsAfter, qualityNow, canExpire, forecast, withRun, settle, tick, afterEvent, takes, recordAfter}
+
+-- ---- what the reports heard come to
+
+unfoldable pub lastCode : List Event → ℕ
+lastCode [] = 0
+lastCode (report ∷ earlier) = report .argument
+
+unfoldable pub codeCount : List Event → ℕ
+codeCount [] = 0
+codeCount (report ∷ earlier) = countAfter (report .argument) (lastCode earlier) (codeCount earlier)
+
+unfoldable pub lineSaid : List Event → Quality
+lineSaid [] = failed
+lineSaid (report ∷ earlier) = lineAfter (report .argument) (codeCount (report ∷ earlier)) (lineSaid earlier)
+
+unfoldable pub frameTime : List Event → ℕ
+frameTime [] = 0
+frameTime (report ∷ earlier) = report .time
+
+unfoldable pub frameSaid : List Event → Quality
+frameSaid [] = failed
+frameSaid (report ∷ earlier) = qualityOfCode (report .argument)
+
+-- what was heard, and the settings, by the recorded events
+unfoldable pub heardBy : ℕ → History → Heard
+heardBy input history =
+    record {
+      framed = frameTime (heard input kindFrame history);
+      frame = frameSaid (heard input kindFrame history);
+      line = lineSaid (heard input kindLineCode history);
+      code = lastCode (heard input kindLineCode history);
+      count = codeCount (heard input kindLineCode history);
+      good = signalGood input history;
+    }
+
+unfoldable pub settingsBy : ℕ → History → Settings
+settingsBy input history =
+    record {
+      holdoff = holdoffOf input history;
+      wait = lastArgument input kindWait freshWait history;
+      priority = record { 0 = priorityOf input history };
+      fixed = quality (fixedOf input history);
+      ethernet = isEthernet input history;
+      locked = isLocked input history;
+      sending = isSending input history;
+    }
+
+-- ---- one event more
+
+-- a function of a list that is forgotten, longer by one, or kept
+split : {A : Type 0} (f : List Event → A) (g p : Bool) (report : Event) (earlier : List Event)
+    → cond g (f []) (cond p (f (report ∷ earlier)) (f earlier)) ≡ f (cond g [] (cond p (report ∷ earlier) earlier))
+split f true p report earlier = refl
+split f false true report earlier = refl
+split f false false report earlier = refl
+
+good-cond : (b : Bool) (x y : ℕ) → cond b (eqb x 0) (eqb y 0) ≡ eqb (cond b x y) 0
+good-cond true x y = refl
+good-cond false x y = refl
+
+set-cond : (b : Bool) (x y : ℕ) → cond b (not (eqb x 0)) (not (eqb y 0)) ≡ not (eqb (cond b x y) 0)
+set-cond true x y = refl
+set-cond false x y = refl
+
+abbrev priority : ℕ → Priority
+priority number = record { 0 = number }
+
+quality-cond : (b : Bool) (x y : ℕ) → cond b (quality x) (quality y) ≡ quality (cond b x y)
+quality-cond true x y = refl
+quality-cond false x y = refl
+
+priority-cond : (b : Bool) (x y : ℕ) → cond b (priority x) (priority y) ≡ priority (cond b x y)
+priority-cond true x y = refl
+priority-cond false x y = refl
+
+module _ (input : ℕ) (event : Event) (earlier : History) where
+  heard-on : eqb (event .input) input ≡ true
+      → heardAfter (heardBy input earlier) (event .kind) (event .argument) (event .time) ≡ heardBy input (event ∷ earlier)
+  unfolding heardAfter heardBy heard lastArgument isOn lastCode codeCount lineSaid frameTime frameSaid
+  heard-on on =
+      let kind = event .kind in
+      let good = signalGood input earlier in
+      let g = eqb kind kindInputKind || (eqb kind kindSignal && not (eqb (event .argument) 0) && good) in
+      let frames = heard input kindFrame earlier in
+      let codes = heard input kindLineCode earlier in
+      let f = eqb kind kindFrame && good in
+      let c = eqb kind kindLineCode && good in
+      rw on
+      (λ j. record {
+        framed = split frameTime g f event frames j;
+        frame = split frameSaid g f event frames j;
+        line = split lineSaid g c event codes j;
+        code = split lastCode g c event codes j;
+        count = split codeCount g c event codes j;
+        good = good-cond (eqb kind kindSignal) (event .argument) (lastArgument input kindSignal 1 earlier) j;
+      })
+
+  heard-off : eqb (event .input) input ≡ false → heardBy input earlier ≡ heardBy input (event ∷ earlier)
+  unfolding heardBy heard lastArgument isOn
+  heard-off off = rw off
+
+  settings-on : eqb (event .input) input ≡ true
+      → settingsAfter (settingsBy input earlier) (event .kind) (event .argument) ≡ settingsBy input (event ∷ earlier)
+  unfolding settingsAfter settingsBy lastArgument isOn
+  settings-on on =
+      let kind = event .kind in
+      let a = event .argument in
+      rw on
+      (λ j. record {
+        holdoff = cond (eqb kind kindHoldoff) a (holdoffOf input earlier);
+        wait = cond (eqb kind kindWait) a (lastArgument input kindWait freshWait earlier);
+        priority = priority-cond (eqb kind kindPriority) a (priorityOf input earlier) j;
+        fixed = quality-cond (eqb kind kindFixedQuality) a (fixedOf input earlier) j;
+        ethernet = set-cond (eqb kind kindInputKind) a (lastArgument input kindInputKind 0 earlier) j;
+        locked = set-cond (eqb kind kindLockout) a (lastArgument input kindLockout 0 earlier) j;
+        sending = set-cond (eqb kind kindSending) a (lastArgument input kindSending 1 earlier) j;
+      })
+
+  settings-off : eqb (event .input) input ≡ false → settingsBy input earlier ≡ settingsBy input (event ∷ earlier)
+  unfolding settingsBy lastArgument isOn
+  settings-off off = rw off
+
+-- ---- the record
+
+heard-fresh : (input : ℕ) → forgotten false ≡ heardBy input []
+unfolding heardBy heard lastArgument lastCode codeCount lineSaid frameTime frameSaid
+heard-fresh input = refl
+
+pub heard-recalled : (input : ℕ) (history : History) → recordAfter input history .heard ≡ heardBy input history
+unfolding recordAfter takes afterEvent settle tick
+heard-recalled input [] = heard-fresh input
+heard-recalled input (event ∷ earlier) =
+    byBool (eqb (event .input) input)
+    (λ e. rw (e, heard-recalled input earlier) (heard-on input event earlier e))
+    (λ e. rw (e, heard-recalled input earlier) (heard-off input event earlier e))
+
+settings-fresh : (input : ℕ) → freshSettings ≡ settingsBy input []
+unfolding settingsBy lastArgument
+settings-fresh input = refl
+
+pub settings-recalled : (input : ℕ) (history : History) → recordAfter input history .settings ≡ settingsBy input history
+unfolding recordAfter takes afterEvent settle tick
+settings-recalled input [] = settings-fresh input
+settings-recalled input (event ∷ earlier) =
+    byBool (eqb (event .input) input)
+    (λ e. rw (e, settings-recalled input earlier) (settings-on input event earlier e))
+    (λ e. rw (e, settings-recalled input earlier) (settings-off input event earlier e))
+
+-- ---- three in a row is a count of three
+
+countAfter-least : (code before count : ℕ) → 1 ≤ countAfter code before count
+unfolding countAfter
+countAfter-least code before count =
+    byBool (eqb code before)
+    (λ e. rw e (byBool (ltb count reportsNeeded) (λ k. rw k (omega arith)) (λ k. rw k (omega arith))))
+    (λ e. rw e (omega arith))
+
+countAfter-other : (code before count : ℕ) → eqb code before ≡ false → countAfter code before count ≡ 1
+unfolding countAfter
+countAfter-other code before count e = rw e
+
+countAfter-again : (code before count : ℕ) → eqb code before ≡ true → countAfter code before count ≡ min 3 (suc count)
+unfolding countAfter
+countAfter-again code before count e =
+    rw e
+    (byBool (ltb count reportsNeeded)
+    (λ k. let h : count < 3 = ltb-true _ _ k in rw k (omega arith))
+    (λ k. let h : 3 ≤ count = ltb-false _ _ k in rw k (omega arith)))
+
+-- the second report in a row cannot be the third
+count-second : (code before : ℕ) → ltb (countAfter code before 1) 3 ≡ true
+count-second code before =
+    byBool (eqb code before) (λ e. rw (countAfter-again code before 1 e)) (λ e. rw (countAfter-other code before 1 e))
+
+count-first : (code : ℕ) → countAfter code 0 0 ≡ 1
+count-first code = byBool (eqb code 0) (λ e. rw (countAfter-again code 0 0 e)) (λ e. rw (countAfter-other code 0 0 e))
+
+count-third : (third second first count : ℕ) → 1 ≤ count
+    → ltb (countAfter third second (countAfter second first count)) 3 ≡ not (eqb third second && eqb second first)
+count-third third second first count least =
+    byBool (eqb third second)
+    (λ e. byBool (eqb second first)
+    (λ k. rw (countAfter-again second first count k, countAfter-again third second (min 3 (suc count)) e, e, k)
+    (le-ltb (min 3 (suc (min 3 (suc count)))) 3 (omega arith)))
+    (λ k. rw (countAfter-other second first count k, e, k) (count-second third second)))
+    (λ e. rw (countAfter-other third second (countAfter second first count) e, e))
+
+counted : (report : Event) (earlier : List Event) → ltb (codeCount (report ∷ earlier)) 3 ≡ not (isThird report earlier)
+unfolding codeCount isThird lastCode
+counted report [] = rw (count-first (report .argument))
+counted report (before ∷ []) = rw (count-first (before .argument)) (count-second (report .argument) (before .argument))
+counted report (before ∷ (first ∷ earlier)) =
+    count-third (report .argument) (before .argument) (first .argument) (codeCount (first ∷ earlier))
+    (countAfter-least (first .argument) (lastCode earlier) (codeCount earlier))
+
+cond-not : {A : Type 0} (b : Bool) (x y : A) → cond (not b) x y ≡ cond b y x
+cond-not true x y = refl
+cond-not false x y = refl
+
+-- what the record keeps of the codes is what they say
+line-said : (codes : List Event) → lineSaid codes ≡ lineQuality codes
+unfolding lineSaid lineQuality lineAfter
+line-said [] = refl
+line-said (report ∷ earlier) =
+    rw (counted report earlier, line-said earlier)
+    (cond-not (isThird report earlier) (lineQuality earlier) (qualityOfCode (report .argument)))
+
+-- ---- raw quality
+
+swap : (a b : ℕ) (x y : Quality) → cond (ltb a b) x y ≡ cond (leb b a) y x
+swap a b x y =
+    byBool (leb b a)
+    (λ k. let z : ltb a b ≡ false = le-ltb a b (leb-true b a k) in rw (k, z))
+    (λ k. let z : ltb a b ≡ true = lt-ltb a b (leb-false b a k) in rw (k, z))
+
+either : (b : Bool) → failed ≡ cond b failed failed
+either true = refl
+either false = refl
+
+-- the frames heard, at a time
+frame-said : (frames : List Event) (time : ℕ)
+    → frameQuality frames time ≡ cond (leb (frameTime frames + frameLife) time) failed (frameSaid frames)
+unfolding frameQuality frameTime frameSaid
+frame-said [] time = either (leb frameLife time)
+frame-said (report ∷ earlier) time = swap time (report .time + frameLife) (qualityOfCode (report .argument)) failed
+
+-- raw quality is what is forecast of it
+raw-any : (good mode fixed ethernet gone : Bool) (f l x : Quality)
+    → cond (not good) failed (cond (not mode) notTold (cond (not fixed) x (cond ethernet (cond gone failed f) l))) ≡
+    cond (good && mode && fixed && ethernet && gone) failed
+    (cond (not good) failed (cond (not mode) notTold (cond (not fixed) x (cond ethernet f l))))
+raw-any false mode fixed ethernet gone f l x = refl
+raw-any true false fixed ethernet gone f l x = refl
+raw-any true true false ethernet gone f l x = refl
+raw-any true true true false gone f l x = refl
+raw-any true true true true gone f l x = refl
+
+pub raw-recalled : (input : ℕ) (history : History) (time : ℕ)
+    → rawQualityAt input history time ≡ rawAt (forecast (recordAfter input history) (modeOn history)) time
+unfolding rawQualityAt rawAt isExpired forecast qualityNow canExpire heardBy settingsBy
+raw-recalled input history time =
+    rw (heard-recalled input history, settings-recalled input history, frame-said, ← line-said)
+    (raw-any (signalGood input history) (modeOn history) (eqb (fixedOf input history) 0) (isEthernet input history)
+    (leb (frameTime (heard input kindFrame history) + frameLife) time)
+    (frameSaid (heard input kindFrame history))
+    (lineSaid (heard input kindLineCode history))
+    (quality (fixedOf input history)))
+
+holdoff-recalled : (input : ℕ) (history : History)
+    → holdoffOf input history ≡ forecast (recordAfter input history) (modeOn history) .holdoff
+unfolding forecast settingsBy
+holdoff-recalled input history = rw (settings-recalled input history)
+
+wait-recalled : (input : ℕ) (history : History)
+    → waitOf input history ≡ forecast (recordAfter input history) (modeOn history) .wait
+unfolding forecast settingsBy
+wait-recalled input history = rw (settings-recalled input history)
+
+-- the moment by the record
+pub moment-recalled : (input : ℕ) (history : History) (clears : Bool)
+    → momentOf input history clears ≡ momentAt (forecast (recordAfter input history) (modeOn history)) clears
+unfolding momentOf
+moment-recalled input history clears =
+    fun-ext
+    (λ time j. record {
+      time = time;
+      raw = raw-recalled input history time j;
+      holdoff = holdoff-recalled input history j;
+      wait = wait-recalled input history j;
+      clears = clears;
+    })
+
+pub raw-fresh : (input : ℕ) → rawQualityAt input [] 0 ≡ failed
+unfolding rawQualityAt lastArgument
+raw-fresh input = refl

@@ -1,0 +1,4 @@
+-- `Recorded`: raw and passed quality by the recorded events alone. `Record`: what the code keeps of one input. `Demand2`: what is shown of both.
+pub mod Recorded
+pub mod Record
+pub mod Demand2

@@ -1,0 +1,372 @@
+// One input: its settings, what it hears, and its run. Document 01, "The sixteen inputs" and "Raw quality".
+//
+// An event's method is told the time and the quality mode in force after the event, takes the event's own moment, and
+// hands the record back; `tick` brings it to a time at which no event has come yet. Every time and every setting is
+// safe, and no public function has a `requires`.
+use numbers::Priority;
+use numbers::Quality;
+use numbers::quality_of_code;
+use run::Forecast;
+use run::Run;
+ghost use mathlib.Core.Path.{_≡_};
+ghost use Prim.Native.Nat.{_*_};
+ghost use Rattle.numbers.specs.Inputs.{minute};
+ghost use Rattle.numbers.specs.Kind.{flag, kindSignal, kindFrame, kindLineCode, kindPriority, kindLockout, kindHoldoff, kindWait, kindFixedQuality, kindClearWait, kindQualityMode, kindSending, kindInputKind};
+ghost use Rattle.input.specs.Record.{freshInput, freshHeard, countAfter, lineAfter, forgotten, heardAfter, settingsAfter, qualityNow, canExpire, forecast, settle, tick, afterEvent, passedOf};
+
+// How many equal codes in a row settle a line's quality.
+const REPORTS_NEEDED: u8 = 3;
+
+// A minute in ms.
+const MINUTE: u64 = 60_000;
+
+// What was heard: when the last frame came and what it said; what the last code that came three times in a row said;
+// the last code with its count, three for any more; and whether the signal is good. 7 where nothing was heard.
+pub struct Heard {
+    pub framed: u64,
+    pub frame: Quality,
+    pub line: Quality,
+    pub code: u8,
+    pub count: u8,
+    pub good: bool,
+}
+
+// What the operator has set. The hold-off is in ms, the wait in minutes; fixed quality 0 is none.
+pub struct Settings {
+    pub holdoff: u16,
+    pub wait: u8,
+    pub priority: Priority,
+    pub fixed: Quality,
+    pub ethernet: bool,
+    pub locked: bool,
+    pub sending: bool,
+}
+
+pub struct Input {
+    pub heard: Heard,
+    pub run: Run,
+    pub settings: Settings,
+}
+
+// How many equal codes have come in a row, three for any more.
+fn count_after(code: u8, last: u8, count: u8) -> u8
+    ensures { λ answer. ⌜ answer ≡ countAfter code last count ⌝ }
+{
+    if code == last {
+        if count < REPORTS_NEEDED {
+            return count + 1;
+        }
+        return REPORTS_NEEDED;
+    }
+    1
+}
+
+// What a line's codes say, once a code has come `count` times in a row.
+fn line_after(code: u8, count: u8, line: Quality) -> Quality
+    ensures { λ answer. ⌜ answer ≡ lineAfter code count line ⌝ }
+{
+    if count < REPORTS_NEEDED {
+        return line;
+    }
+    quality_of_code(code)
+}
+
+impl Heard {
+    // Nothing heard, the signal failing.
+    fn fresh() -> Heard
+        ensures { λ answer. ⌜ answer ≡ freshHeard ⌝ }
+    {
+        Heard {
+            framed: 0,
+            frame: Quality(7),
+            line: Quality(7),
+            code: 0,
+            count: 0,
+            good: false,
+        }
+    }
+
+    // The codes heard, the count of equal ones and the frames heard are forgotten.
+    fn forgotten(self, good: bool) -> Heard
+        ensures { λ answer. ⌜ answer ≡ forgotten good ⌝ }
+    {
+        Heard {
+            framed: 0,
+            frame: Quality(7),
+            line: Quality(7),
+            code: 0,
+            count: 0,
+            good,
+        }
+    }
+
+    // A signal report. A repeated fail or good changes nothing.
+    fn signal(mut self, fail: bool) -> Heard
+        ensures { λ answer. ⌜ answer ≡ heardAfter self kindSignal (flag fail) 0 ⌝ }
+    {
+        if fail {
+            if self.good {
+                return self.forgotten(false);
+            }
+            return self;
+        }
+        self.good = true;
+        self
+    }
+
+    // A code report, recorded while the signal is good.
+    fn code(mut self, code: u8) -> Heard
+        ensures { λ answer. ⌜ answer ≡ heardAfter self kindLineCode code 0 ⌝ }
+    {
+        if self.good {
+            let count = count_after(code, self.code, self.count);
+            let old = self.line;
+            let line = line_after(code, count, old);
+            self.line = line;
+            self.code = code;
+            self.count = count;
+            return self;
+        }
+        self
+    }
+
+    // A frame with its code, recorded while the signal is good.
+    fn frame(mut self, code: u8, time: u64) -> Heard
+        ensures { λ answer. ⌜ answer ≡ heardAfter self kindFrame code time ⌝ }
+    {
+        if self.good {
+            let frame = quality_of_code(code);
+            self.framed = time;
+            self.frame = frame;
+            return self;
+        }
+        self
+    }
+}
+
+// Raw quality now, but for a frame's age.
+fn quality_now(heard: Heard, settings: Settings, mode: bool) -> Quality
+    ensures { λ answer. ⌜ answer ≡ qualityNow heard settings mode ⌝ }
+{
+    if heard.good {
+        if mode {
+            if settings.fixed.0 == 0 {
+                if settings.ethernet {
+                    return heard.frame;
+                }
+                return heard.line;
+            }
+            return settings.fixed;
+        }
+        return Quality(0);
+    }
+    Quality(7)
+}
+
+// Whether raw quality is that of a frame, which expires.
+fn can_expire(heard: Heard, settings: Settings, mode: bool) -> bool
+    ensures { λ answer. ⌜ answer ≡ canExpire heard settings mode ⌝ }
+{
+    if heard.good {
+        if mode {
+            if settings.fixed.0 == 0 {
+                return settings.ethernet;
+            }
+            return false;
+        }
+        return false;
+    }
+    false
+}
+
+// A time in ms, of a setting.
+fn in_ms(holdoff: u16) -> u64
+    ensures { λ answer. ⌜ answer ≡ holdoff ⌝ }
+{
+    holdoff as u64
+}
+
+fn minutes_in_ms(minutes: u8) -> u64
+    ensures { λ answer. ⌜ answer ≡ minutes * minute ⌝ }
+{
+    (minutes as u64) * MINUTE
+}
+
+impl Input {
+    pub fn fresh() -> Input
+        ensures { λ answer. ⌜ answer ≡ freshInput ⌝ }
+    {
+        let heard = Heard::fresh();
+        let run = Run::fresh();
+        let settings = Settings {
+            holdoff: 300,
+            wait: 5,
+            priority: Priority(0),
+            fixed: Quality(0),
+            ethernet: false,
+            locked: false,
+            sending: true,
+        };
+        Input {
+            heard,
+            run,
+            settings,
+        }
+    }
+
+    // How raw quality goes on if no event comes.
+    fn forecast(self, mode: bool) -> Forecast
+        ensures { λ answer. ⌜ answer ≡ forecast self mode ⌝ }
+    {
+        let heard = self.heard;
+        let settings = self.settings;
+        let holdoff = in_ms(settings.holdoff);
+        let wait = minutes_in_ms(settings.wait);
+        let quality = quality_now(heard, settings, mode);
+        let expires = can_expire(heard, settings, mode);
+        Forecast {
+            framed: heard.framed,
+            holdoff,
+            wait,
+            quality,
+            expires,
+        }
+    }
+
+    // An event's own moment taken.
+    fn settle(mut self, time: u64, mode: bool, clears: bool) -> Input
+        ensures { λ answer. ⌜ answer ≡ settle self time mode clears ⌝ }
+    {
+        let forecast = self.forecast(mode);
+        let old = self.run;
+        let run = old.at_moment(forecast, time, clears);
+        self.run = run;
+        self
+    }
+
+    // Time going by, to a time at which no event has come yet.
+    pub fn tick(mut self, time: u64, mode: bool) -> Input
+        ensures { λ answer. ⌜ answer ≡ tick self time mode ⌝ }
+    {
+        let forecast = self.forecast(mode);
+        let old = self.run;
+        let run = old.brought_to(forecast, time);
+        self.run = run;
+        self
+    }
+
+    pub fn signal(mut self, fail: bool, time: u64, mode: bool) -> Input
+        ensures { λ answer. ⌜ answer ≡ afterEvent self kindSignal (flag fail) time mode ⌝ }
+    {
+        let old = self.heard;
+        let heard = old.signal(fail);
+        self.heard = heard;
+        self.settle(time, mode, false)
+    }
+
+    pub fn code(mut self, code: u8, time: u64, mode: bool) -> Input
+        ensures { λ answer. ⌜ answer ≡ afterEvent self kindLineCode code time mode ⌝ }
+    {
+        let old = self.heard;
+        let heard = old.code(code);
+        self.heard = heard;
+        self.settle(time, mode, false)
+    }
+
+    pub fn frame(mut self, code: u8, time: u64, mode: bool) -> Input
+        ensures { λ answer. ⌜ answer ≡ afterEvent self kindFrame code time mode ⌝ }
+    {
+        let old = self.heard;
+        let heard = old.frame(code, time);
+        self.heard = heard;
+        self.settle(time, mode, false)
+    }
+
+    pub fn priority(mut self, priority: Priority, time: u64, mode: bool) -> Input
+        ensures { λ answer. ⌜ answer ≡ afterEvent self kindPriority (priority .0) time mode ⌝ }
+    {
+        let mut settings = self.settings;
+        settings.priority = priority;
+        self.settings = settings;
+        self.settle(time, mode, false)
+    }
+
+    pub fn lockout(mut self, locked: bool, time: u64, mode: bool) -> Input
+        ensures { λ answer. ⌜ answer ≡ afterEvent self kindLockout (flag locked) time mode ⌝ }
+    {
+        let mut settings = self.settings;
+        settings.locked = locked;
+        self.settings = settings;
+        self.settle(time, mode, false)
+    }
+
+    pub fn hold_off(mut self, holdoff: u16, time: u64, mode: bool) -> Input
+        ensures { λ answer. ⌜ answer ≡ afterEvent self kindHoldoff holdoff time mode ⌝ }
+    {
+        let mut settings = self.settings;
+        settings.holdoff = holdoff;
+        self.settings = settings;
+        self.settle(time, mode, false)
+    }
+
+    pub fn wait(mut self, minutes: u8, time: u64, mode: bool) -> Input
+        ensures { λ answer. ⌜ answer ≡ afterEvent self kindWait minutes time mode ⌝ }
+    {
+        let mut settings = self.settings;
+        settings.wait = minutes;
+        self.settings = settings;
+        self.settle(time, mode, false)
+    }
+
+    pub fn fixed_quality(mut self, quality: Quality, time: u64, mode: bool) -> Input
+        ensures { λ answer. ⌜ answer ≡ afterEvent self kindFixedQuality (quality .0) time mode ⌝ }
+    {
+        let mut settings = self.settings;
+        settings.fixed = quality;
+        self.settings = settings;
+        self.settle(time, mode, false)
+    }
+
+    pub fn clear_wait(self, time: u64, mode: bool) -> Input
+        ensures { λ answer. ⌜ answer ≡ afterEvent self kindClearWait 0 time mode ⌝ }
+    {
+        self.settle(time, mode, true)
+    }
+
+    pub fn sending(mut self, sending: bool, time: u64, mode: bool) -> Input
+        ensures { λ answer. ⌜ answer ≡ afterEvent self kindSending (flag sending) time mode ⌝ }
+    {
+        let mut settings = self.settings;
+        settings.sending = sending;
+        self.settings = settings;
+        self.settle(time, mode, false)
+    }
+
+    // The input's kind set, also to the kind it has: what was heard is forgotten.
+    pub fn kind(mut self, ethernet: bool, time: u64, mode: bool) -> Input
+        ensures { λ answer. ⌜ answer ≡ afterEvent self kindInputKind (flag ethernet) time mode ⌝ }
+    {
+        let old = self.heard;
+        let heard = old.forgotten(old.good);
+        let mut settings = self.settings;
+        settings.ethernet = ethernet;
+        self.heard = heard;
+        self.settings = settings;
+        self.settle(time, mode, false)
+    }
+
+    // The quality mode changed to `mode`.
+    pub fn quality_mode(self, time: u64, mode: bool) -> Input
+        ensures { λ answer. ⌜ answer ≡ afterEvent self kindQualityMode (flag mode) time mode ⌝ }
+    {
+        self.settle(time, mode, false)
+    }
+
+    // What is passed on to the choice.
+    pub fn passed_quality(self) -> Quality
+        ensures { λ answer. ⌜ answer ≡ passedOf self ⌝ }
+    {
+        let run = self.run;
+        run.passed_quality()
+    }
+}
