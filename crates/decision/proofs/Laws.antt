@@ -1,0 +1,109 @@
+-- The definitions of `specs/Decision`, a law for each way through the function that meets it. Assumes nothing.
+use Prim.Native.Nat.{ℕ}
+use mathlib.Core.Bool.{Bool, true, false, not, _&&_, cond}
+use mathlib.Core.List.{List}
+use mathlib.Core.Path.{_≡_, refl, sym, _∙_, ap}
+use lib.ListN.{getD}
+use Rattle.numbers.specs.declared.InputNumber.{InputNumber}
+use Rattle.numbers.specs.declared.Quality.{Quality}
+use Rattle.choice.specs.declared.Candidate.{Candidate}
+use Rattle.choice.specs.declared.Selection.{Selection}
+use Rattle.choice.specs.declared.Selection.the-variants as S
+use Rattle.choice.specs.Candidate.{nobody, isEligible, eligibleAmong, betterAmong, anyLower}
+use Rattle.choice.specs.Choice.{choose}
+use Rattle.decision.specs.declared.Switch.{Switch}
+use Rattle.decision.specs.declared.Switch.the-variants as W
+use Rattle.decision.specs.Decision.{manualStands, judged, selectedBy, isLocked, isHeld}
+
+-- ---- manualStands
+
+module _ (candidates : List Candidate) (on : ℕ) (candidate : Candidate) (able : Bool) where
+  pub manualStands-barred : candidate ≡ getD candidates on nobody → able ≡ isEligible candidate → able ≡ false
+      → false ≡ manualStands candidates on
+  unfolding manualStands
+  manualStands-barred c e f = rw (← c, ← e, f)
+
+  pub manualStands-beaten : (lower : Bool) → candidate ≡ getD candidates on nobody → able ≡ isEligible candidate → able ≡ true
+      → lower ≡ anyLower candidates (candidate .quality) → lower ≡ true → false ≡ manualStands candidates on
+  unfolding manualStands
+  manualStands-beaten lower c e f l t = rw (← c, ← e, f, ← l, t)
+
+  pub manualStands-best : (lower : Bool) → candidate ≡ getD candidates on nobody → able ≡ isEligible candidate → able ≡ true
+      → lower ≡ anyLower candidates (candidate .quality) → lower ≡ false → true ≡ manualStands candidates on
+  unfolding manualStands
+  manualStands-best lower c e f l t = rw (← c, ← e, f, ← l, t)
+
+pub ruleset manualStands-laws = (manualStands-barred, manualStands-beaten, manualStands-best)
+
+-- ---- judged
+
+module _ (candidates : List Candidate) (switch : Switch) where
+  pub judged-nothing : switch ≡ W.Nothing → W.Nothing ≡ judged candidates switch
+  unfolding judged
+  judged-nothing s = rw s
+
+  pub judged-forced : (on : InputNumber) (candidate : Candidate) → switch ≡ W.Forced on
+      → candidate ≡ getD candidates (on .0) nobody → candidate .admitted ≡ true → W.Forced on ≡ judged candidates switch
+  unfolding judged
+  judged-forced on candidate s c a =
+      let k : getD candidates (on .0) nobody .admitted ≡ true = sym (ap (λ (x : Candidate). x .admitted) c) ∙ a in rw (s, k)
+
+  pub judged-forced-barred : (on : InputNumber) (candidate : Candidate) → switch ≡ W.Forced on
+      → candidate ≡ getD candidates (on .0) nobody → candidate .admitted ≡ false → W.Nothing ≡ judged candidates switch
+  unfolding judged
+  judged-forced-barred on candidate s c a =
+      let k : getD candidates (on .0) nobody .admitted ≡ false = sym (ap (λ (x : Candidate). x .admitted) c) ∙ a in rw (s, k)
+
+  pub judged-manual : (on : InputNumber) (stands : Bool) → switch ≡ W.Manual on → stands ≡ manualStands candidates (on .0)
+      → stands ≡ true → W.Manual on ≡ judged candidates switch
+  unfolding judged
+  judged-manual on stands s c a = rw (s, ← c, a)
+
+  pub judged-manual-falls : (on : InputNumber) (stands : Bool) → switch ≡ W.Manual on → stands ≡ manualStands candidates (on .0)
+      → stands ≡ false → W.Nothing ≡ judged candidates switch
+  unfolding judged
+  judged-manual-falls on stands s c a = rw (s, ← c, a)
+
+pub ruleset judged-laws = (judged-nothing, judged-forced, judged-forced-barred, judged-manual, judged-manual-falls)
+
+-- ---- selectedBy
+
+module _ (candidates : List Candidate) (switch : Switch) (before : Selection) where
+  pub selectedBy-choice : (chosen : Selection) → switch ≡ W.Nothing
+      → chosen ≡ choose (eligibleAmong candidates) (betterAmong candidates) before → chosen ≡ selectedBy candidates switch before
+  unfolding selectedBy
+  selectedBy-choice chosen s c = c ∙ (rw s)
+
+  pub selectedBy-forced : (on : InputNumber) → switch ≡ W.Forced on → S.At on ≡ selectedBy candidates switch before
+  unfolding selectedBy
+  selectedBy-forced on s = rw s
+
+  pub selectedBy-manual : (on : InputNumber) → switch ≡ W.Manual on → S.At on ≡ selectedBy candidates switch before
+  unfolding selectedBy
+  selectedBy-manual on s = rw s
+
+pub ruleset selectedBy-laws = (selectedBy-choice, selectedBy-forced, selectedBy-manual)
+
+-- ---- isLocked, isHeld
+
+module _ (candidates : List Candidate) (selection : Selection) where
+  pub isLocked-nothing : selection ≡ S.Nothing → false ≡ isLocked candidates selection
+  unfolding isLocked
+  isLocked-nothing s = rw s
+
+  pub isLocked-at : (number : InputNumber) (candidate : Candidate) → selection ≡ S.At number
+      → candidate ≡ getD candidates (number .0) nobody → candidate .usable ≡ isLocked candidates selection
+  unfolding isLocked
+  isLocked-at number candidate s c = rw (s, c)
+
+pub ruleset isLocked-laws = (isLocked-nothing, isLocked-at)
+
+pub isHeld-now : (held locked : Bool) → locked ≡ true → true ≡ isHeld held locked
+unfolding isHeld
+isHeld-now held locked e = rw e
+
+pub isHeld-before : (held locked : Bool) → locked ≡ false → held ≡ isHeld held locked
+unfolding isHeld
+isHeld-before held locked e = rw e
+
+pub ruleset isHeld-laws = (isHeld-now, isHeld-before)

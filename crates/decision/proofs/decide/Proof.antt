@@ -1,0 +1,26 @@
+-- `decision::decide` meets its contract: it is the definition, call by call.
+-- Assumes nothing.
+use Rattle.decision.specs.Decision.{decide}
+use borrow.Author.Needs.{needs}
+use Rattle.decision.proofs.decide.Statement.{statement}
+use Rattle.decision.proofs.decide.Tie as tie
+
+judge-requires : tie.Need-judge-requires
+judge-requires c κs = search needs
+
+select-requires : tie.Need-select-requires
+select-requires c κs = search needs
+
+is-locked-requires : tie.Need-is-locked-requires
+is-locked-requires c κs = search needs
+
+is-held-requires : tie.Need-is-held-requires
+is-held-requires c κs = search needs
+
+returns : tie.Need-returns
+unfolding decide
+returns c = cc
+
+pub decide-spec : {M : Type 1} → statement M
+decide-spec =
+    tie.close (tie.spec judge-requires select-requires is-locked-requires is-held-requires returns)

@@ -1,0 +1,25 @@
+-- `decision::is_locked` meets its contract: each way is a law.
+-- Assumes nothing.
+use Rattle.decision.proofs.Laws.{isLocked-laws}
+use borrow.Author.Needs.{needs}
+use Rattle.decision.proofs.is_locked.Statement.{statement}
+use Rattle.decision.proofs.is_locked.Tie as tie
+
+enum-told : tie.Need-enum-told
+enum-told c = search needs
+
+enum-known-selection : tie.Need-enum-known-selection
+enum-known-selection c = search needs
+
+candidate-at-requires : tie.Need-candidate-at-requires
+candidate-at-requires c κs = search needs
+
+returns : tie.Need-returns
+returns c = search isLocked-laws
+
+returns-2 : tie.Need-returns-2
+returns-2 c = search isLocked-laws
+
+pub is-locked-spec : {M : Type 1} → statement M
+is-locked-spec =
+    tie.close (tie.spec enum-told enum-known-selection candidate-at-requires returns returns-2)

@@ -1,0 +1,51 @@
+-- `decision::judge` meets its contract: each way is a law.
+-- Assumes nothing.
+use Rattle.decision.proofs.Laws.{judged-laws}
+use borrow.Author.Needs.{needs}
+use Rattle.decision.proofs.judge.Statement.{statement}
+use Rattle.decision.proofs.judge.Tie as tie
+
+enum-told : tie.Need-enum-told
+enum-told c = search needs
+
+enum-known-switch : tie.Need-enum-known-switch
+enum-known-switch c = search needs
+
+candidate-at-requires : tie.Need-candidate-at-requires
+candidate-at-requires c κs = search needs
+
+returns : tie.Need-returns
+returns c = search judged-laws
+
+enum-known-switch-2 : tie.Need-enum-known-switch-2
+enum-known-switch-2 c = search needs
+
+manual-stands-requires : tie.Need-manual-stands-requires
+manual-stands-requires c κs = search needs
+
+returns-2 : tie.Need-returns-2
+returns-2 c = search judged-laws
+
+returns-3 : tie.Need-returns-3
+returns-3 c = search judged-laws
+
+returns-4 : tie.Need-returns-4
+returns-4 c = search judged-laws
+
+returns-5 : tie.Need-returns-5
+returns-5 c = search judged-laws
+
+pub judge-spec : {M : Type 1} → statement M
+judge-spec =
+    tie.close
+    (tie.spec
+    enum-told
+    enum-known-switch
+    candidate-at-requires
+    returns
+    enum-known-switch-2
+    manual-stands-requires
+    returns-2
+    returns-3
+    returns-4
+    returns-5)
