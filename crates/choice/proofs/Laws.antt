@@ -1,11 +1,11 @@
 -- The definitions of `specs/`, a law for each way through the function that meets it. Assumes nothing.
-use Prim.Native.Nat.{ℕ, zero, suc, _+_, _≤_, _<_}
-use mathlib.Core.Bool.{Bool, true, false, not, _&&_, _||_, cond}
+use Prim.Native.Nat.{ℕ, _+_, _≤_, _<_}
+use mathlib.Core.Bool.{Bool, true, false}
 use mathlib.Core.List.{List}
-use mathlib.Core.Path.{_≡_, refl, sym, _∙_, ap}
+use mathlib.Core.Path.{_≡_, refl, sym, _∙_}
 use native.Mathlib.Omega.{arith}
 use native.Mathlib.Numerals.{add-one}
-use lib.Dec.{leb, ltb, eqb}
+use lib.Dec.{leb, ltb}
 use lib.ListN.{length, getD, List·getD-eq-default}
 use borrow.Author.Tests.{lt-ltb, le-ltb, le-leb, lt-leb, eq-eqb, ne-eqb}
 use Rattle.numbers.specs.declared.InputNumber.{InputNumber}
@@ -17,7 +17,7 @@ use Rattle.choice.specs.declared.Candidate.{Candidate}
 use Rattle.choice.specs.declared.Selection.{Selection}
 use Rattle.choice.specs.declared.Selection.the-variants.{Nothing, At}
 use Rattle.choice.specs.Candidate.{nobody, isUsable, isAdmitted, rankedQuality, isEligible, isBetter, eligibleAmong, betterAmong, isLower, lowerAmong, anyLower}
-use Rattle.choice.specs.Choice.{selected, seeded, offered, scanned, choose}
+use Rattle.choice.specs.Choice.{seeded, offered, scanned, choose}
 
 -- ---- isUsable
 
@@ -30,11 +30,13 @@ module _ (mode : Bool) (passed : Quality) where
   unfolding isUsable
   isUsable-too-good m h = rw (m, lt-leb _ _ h)
 
-  pub isUsable-failed : (test : Bool) → mode ≡ false → test ≡ isFailed passed → test ≡ true → false ≡ isUsable mode passed
+  pub isUsable-failed : (test : Bool) → mode ≡ false → test ≡ isFailed passed → test ≡ true
+      → false ≡ isUsable mode passed
   unfolding isUsable
   isUsable-failed test m q t = rw (m, ← q, t)
 
-  pub isUsable-off : (test : Bool) → mode ≡ false → test ≡ isFailed passed → test ≡ false → true ≡ isUsable mode passed
+  pub isUsable-off : (test : Bool) → mode ≡ false → test ≡ isFailed passed → test ≡ false
+      → true ≡ isUsable mode passed
   unfolding isUsable
   isUsable-off test m q t = rw (m, ← q, t)
 
@@ -100,14 +102,15 @@ module _ (candidate other : Candidate) where
   pub isBetter-not : other .quality .0 ≤ candidate .quality .0 → (candidate .quality .0 ≡ other .quality .0 → ⊥)
       → false ≡ isBetter candidate other
   unfolding isBetter
-  isBetter-not h e = rw (le-ltb (candidate .quality .0) (other .quality .0) h, ne-eqb (candidate .quality .0) (other .quality .0) e)
+  isBetter-not h e =
+      rw (le-ltb (candidate .quality .0) (other .quality .0) h, ne-eqb (candidate .quality .0) (other .quality .0) e)
 
 pub ruleset isBetter-laws = (isBetter-quality, isBetter-priority, isBetter-not)
 
 -- ---- the candidate with a number
 
-pub candidateAt-nobody : (candidates : List Candidate) (number : ℕ) → inputCount ≤ number → length candidates ≡ inputCount
-    → nobody ≡ getD candidates number nobody
+pub candidateAt-nobody : (candidates : List Candidate) (number : ℕ)
+    → inputCount ≤ number → length candidates ≡ inputCount → nobody ≡ getD candidates number nobody
 candidateAt-nobody candidates number h l =
     let k : length candidates ≤ number = omega arith in
     sym (List·getD-eq-default candidates nobody k)
@@ -139,8 +142,8 @@ pub lowerAmong-none : (candidates : List Candidate) (quality : Quality) → fals
 unfolding lowerAmong
 lowerAmong-none candidates quality = refl
 
-pub lowerAmong-more : (candidates : List Candidate) (quality : Quality) (count : ℕ) (found next : Bool) (candidate : Candidate)
-    → found ≡ lowerAmong candidates quality count → candidate ≡ getD candidates count nobody
+pub lowerAmong-more : (candidates : List Candidate) (quality : Quality) (count : ℕ) (found next : Bool)
+    (candidate : Candidate) → found ≡ lowerAmong candidates quality count → candidate ≡ getD candidates count nobody
     → next ≡ isLower found candidate quality → next ≡ lowerAmong candidates quality (count + 1)
 unfolding lowerAmong
 lowerAmong-more candidates quality count found next candidate f k n = rw (add-one count) (rw (← k, ← f) n)
@@ -158,7 +161,8 @@ unfolding seeded
 seeded-nothing eligible before b = rw b
 
 module _ (candidates : List Candidate) (before : Selection) (earlier : InputNumber) where
-  pub seeded-outside : before ≡ At earlier → inputCount ≤ earlier .0 → Nothing ≡ seeded (eligibleAmong candidates) before
+  pub seeded-outside : before ≡ At earlier → inputCount ≤ earlier .0
+      → Nothing ≡ seeded (eligibleAmong candidates) before
   unfolding seeded
   seeded-outside b h = rw (b, le-ltb (earlier .0) inputCount h)
 
@@ -178,7 +182,8 @@ pub ruleset seeded-laws = (seeded-nothing, seeded-outside, seeded-kept, seeded-d
 
 -- ---- offered
 
-module _ (candidates : List Candidate) (number : InputNumber) (leader : Selection) (candidate : Candidate) (test : Bool) where
+module _ (candidates : List Candidate) (number : InputNumber) (leader : Selection)
+    (candidate : Candidate) (test : Bool) where
   pub offered-first : candidate ≡ getD candidates (number .0) nobody → test ≡ isEligible candidate → test ≡ true
       → leader ≡ Nothing → At number ≡ offered (eligibleAmong candidates) (betterAmong candidates) (number .0) leader
   unfolding offered

@@ -1,13 +1,14 @@
 -- Document 01, "Choosing": eligible and better. Cited by `src/lib.rt`.
 -- Assumes nothing.
-use Prim.Native.Nat.{ℕ, zero, suc}
+use Prim.Native.Nat.{ℕ, zero, suc, _≤_}
 use mathlib.Core.Bool.{Bool, true, false, not, _&&_, _||_, cond}
 use mathlib.Core.List.{List, [], _∷_}
+use mathlib.Core.Path.{_≡_}
 use lib.Dec.{leb, ltb, eqb}
 use lib.ListN.{getD}
 use Rattle.numbers.specs.declared.Priority.{Priority}
 use Rattle.numbers.specs.declared.Quality.{Quality}
-use Rattle.numbers.specs.Quality.{notTold, isFailed}
+use Rattle.numbers.specs.Quality.{notTold, failed, isFailed}
 use Rattle.choice.specs.declared.Candidate.{Candidate}
 
 -- "usable (1 to 4 with mode on, not 7 with mode off)"
@@ -35,6 +36,13 @@ candidateOf passed priority locked mode =
 -- "Eligible: priority not 0, not locked, passed quality not 7, and with quality mode on passed quality 1 to 4"
 unfoldable pub isEligible : Candidate → Bool
 isEligible candidate = candidate .admitted && candidate .usable
+
+-- "priority not 0, not locked, passed quality not 7, and with quality mode on passed quality 1 to 4", said of one input
+pub record Eligible (passed : Quality) (priority : Priority) (locked mode : Bool) : Type 0 where
+  pub notOff : priority .0 ≡ 0 → ⊥
+  pub notLocked : locked ≡ false
+  pub notFailed : passed .0 ≡ failed .0 → ⊥
+  pub usable : mode ≡ true → (1 ≤ passed .0) × (passed .0 ≤ 4)
 
 -- "Better: lower passed quality (mode on only), then lower priority number"
 unfoldable pub isBetter : Candidate → Candidate → Bool

@@ -233,8 +233,8 @@ impl Input {
         }
     }
 
-    // An event's own moment taken.
-    fn settle(mut self, time: u64, mode: bool, clears: bool) -> Input
+    // An event's own moment taken, once the event has been heard; `clears` where it is a clear-wait on this input.
+    pub fn settle(mut self, time: u64, mode: bool, clears: bool) -> Input
         ensures { λ answer. ⌜ answer ≡ settle self time mode clears ⌝ }
     {
         let forecast = self.forecast(mode);

@@ -1,11 +1,11 @@
--- `choice::choose` meets its contract: the loop's invariant is that `leader` leads once the first `number` have been offered.
--- Assumes nothing.
+-- `choice::choose` meets its contract: the loop's invariant is that `leader` leads once the first `number`
+-- have been offered. Assumes nothing.
 use Prim.Native.Nat.{_≤_, _-_}
 use mathlib.Core.Path.{_≡_}
 use borrow.Author.Needs.{needs}
 use Rattle.choice.specs.Candidate.{eligibleAmong, betterAmong}
 use Rattle.choice.specs.Choice.{scanned}
-use Rattle.choice.proofs.Laws.{scanned-laws, scanned-none, scanned-more, scanned-all}
+use Rattle.choice.proofs.Laws.{scanned-laws}
 use Rattle.choice.proofs.choose.Statement.{statement}
 use Rattle.choice.proofs.choose.Tie as tie
 
@@ -20,7 +20,7 @@ seeded-requires : tie.Need-seeded-requires Inv-loop μ-loop
 seeded-requires c κs = search needs
 
 loop-holds : tie.Need-loop-holds Inv-loop μ-loop
-loop-holds c = (search needs, search scanned-none)
+loop-holds c = (search needs, search scanned-laws)
 
 offered-requires : tie.Need-offered-requires Inv-loop μ-loop
 offered-requires c κs = search needs
@@ -32,10 +32,10 @@ loop-less : tie.Need-loop-less Inv-loop μ-loop
 loop-less c = search needs
 
 loop-again : tie.Need-loop-again Inv-loop μ-loop
-loop-again c = (search needs, search scanned-more)
+loop-again c = (search needs, search scanned-laws)
 
 returns : tie.Need-returns Inv-loop μ-loop
-returns c = search scanned-all
+returns c = search scanned-laws
 
 pub choose-spec : {M : Type 1} → statement M
 choose-spec =

@@ -4,7 +4,7 @@ use Prim.Native.Nat.{_≤_, _-_}
 use mathlib.Core.Path.{_≡_}
 use borrow.Author.Needs.{needs}
 use Rattle.choice.specs.Candidate.{lowerAmong}
-use Rattle.choice.proofs.Laws.{lowerAmong-laws, lowerAmong-none, lowerAmong-more, lowerAmong-all}
+use Rattle.choice.proofs.Laws.{lowerAmong-laws}
 use Rattle.choice.proofs.has_lower.Statement.{statement}
 use Rattle.choice.proofs.has_lower.Tie as tie
 
@@ -15,7 +15,7 @@ abbrev μ-loop : tie.MeasureT-loop
 μ-loop quality candidates found₀ at₀ found at = 16 - at
 
 loop-holds : tie.Need-loop-holds Inv-loop μ-loop
-loop-holds c = (search needs, search lowerAmong-none)
+loop-holds c = (search needs, search lowerAmong-laws)
 
 mul-candidate : tie.Need-mul-candidate Inv-loop μ-loop
 mul-candidate c = search needs
@@ -33,10 +33,10 @@ loop-less : tie.Need-loop-less Inv-loop μ-loop
 loop-less c = search needs
 
 loop-again : tie.Need-loop-again Inv-loop μ-loop
-loop-again c = (search needs, search lowerAmong-more)
+loop-again c = (search needs, search lowerAmong-laws)
 
 returns : tie.Need-returns Inv-loop μ-loop
-returns c = search lowerAmong-all
+returns c = search lowerAmong-laws
 
 pub has-lower-spec : {M : Type 1} → statement M
 has-lower-spec =

@@ -1,0 +1,235 @@
+-- What eligible, better and lower say of candidates: document 01, "Choosing".
+-- Assumes nothing.
+use Prim.Native.Nat.{ℕ, zero, suc, _≤_, _<_}
+use mathlib.Core.Bool.{Bool, true, false, not, _&&_, cond, false≢true}
+use mathlib.Core.List.{List}
+use mathlib.Core.Path.{_≡_, refl, sym, _∙_}
+use mathlib.Core.Logic.{_⊎_, inl, inr, ⊎-elim, _↔_}
+use native.Mathlib.Omega.{arith}
+use native.Mathlib.Decide.{ℕ-discrete}
+use lib.Dec.{leb, ltb, eqb}
+use lib.ListN.{getD}
+use borrow.Author.Tests.{ltb-true, ltb-false, leb-true, eqb-false, lt-ltb, le-ltb, le-leb, ne-eqb, not-true}
+use Rattle.numbers.specs.declared.Priority.{Priority}
+use Rattle.numbers.specs.declared.Quality.{Quality}
+use Rattle.numbers.specs.Inputs.{inputCount}
+use Rattle.numbers.specs.Quality.{failed}
+use Rattle.choice.specs.declared.Candidate.{Candidate}
+use Rattle.choice.specs.Candidate.{nobody, isUsable, isAdmitted, candidateOf, isEligible, Eligible, isBetter, eligibleAmong, betterAmong, isLower, lowerAmong, anyLower}
+use Rattle.choice.specs.Choice.{Ranking}
+use Rattle.choice.proofs.Laws.{isBetter-quality, isBetter-priority, isBetter-not}
+use Rattle.choice.proofs.Choosing.{byBool, both-first, both-second, contra}
+
+-- ---- isEligible
+
+module _ (passed : Quality) (priority : Priority) (locked : Bool) where
+  usable-parts : (mode : Bool) → isUsable mode passed ≡ true
+      → (passed .0 ≡ failed .0 → ⊥) × (mode ≡ true → (1 ≤ passed .0) × (passed .0 ≤ 4))
+  unfolding isUsable
+  usable-parts true x =
+      let low : 1 ≤ passed .0 = leb-true 1 (passed .0) (both-first (leb 1 (passed .0)) (leb (passed .0) 4) x) in
+      let high : passed .0 ≤ 4 = leb-true (passed .0) 4 (both-second (leb 1 (passed .0)) (leb (passed .0) 4) x) in
+      (λ e. omega arith, λ m. (low, high))
+  usable-parts false x = (eqb-false (passed .0) 7 (not-true (eqb (passed .0) 7) x), λ m. absurd (false≢true m))
+
+  usable-whole : (mode : Bool) → (passed .0 ≡ failed .0 → ⊥) → (mode ≡ true → (1 ≤ passed .0) × (passed .0 ≤ 4))
+      → isUsable mode passed ≡ true
+  unfolding isUsable
+  usable-whole true n u = rw (le-leb 1 (passed .0) (u refl .0), le-leb (passed .0) 4 (u refl .1))
+  usable-whole false n u = rw (ne-eqb (passed .0) 7 n)
+
+  -- "Eligible: priority not 0, not locked, passed quality not 7, and with quality mode on passed quality 1 to 4"
+  pub eligible-exact : (mode : Bool)
+      → (isEligible (candidateOf passed priority locked mode) ≡ true) ↔ Eligible passed priority locked mode
+  unfolding isEligible candidateOf isAdmitted
+  eligible-exact mode = (parts, whole)
+    where
+      on : Bool
+      on = not (eqb (priority .0) 0)
+
+      parts : ((on && not locked) && isUsable mode passed) ≡ true → Eligible passed priority locked mode
+      parts x =
+          let admitted : (on && not locked) ≡ true = both-first (on && not locked) (isUsable mode passed) x in
+          let usable = usable-parts mode (both-second (on && not locked) (isUsable mode passed) x) in
+          record {
+            notOff = eqb-false (priority .0) 0 (not-true (eqb (priority .0) 0) (both-first on (not locked) admitted));
+            notLocked = not-true locked (both-second on (not locked) admitted);
+            notFailed = usable .0;
+            usable = usable .1;
+          }
+
+      whole : Eligible passed priority locked mode → ((on && not locked) && isUsable mode passed) ≡ true
+      whole e =
+          rw (ne-eqb (priority .0) 0 (e .notOff), e .notLocked) (usable-whole mode (e .notFailed) (e .usable))
+
+-- ---- isBetter
+
+-- "lower passed quality (mode on only), then lower priority number"
+abbrev pub Before : Candidate → Candidate → Type 0
+Before candidate other =
+    (candidate .quality .0 < other .quality .0)
+    ⊎ ((candidate .quality .0 ≡ other .quality .0) × (candidate .priority .0 < other .priority .0))
+
+-- and not so
+abbrev pub NotBefore : Candidate → Candidate → Type 0
+NotBefore candidate other =
+    (other .quality .0 < candidate .quality .0)
+    ⊎ ((candidate .quality .0 ≡ other .quality .0) × (other .priority .0 ≤ candidate .priority .0))
+
+module _ (candidate other : Candidate) where
+  before-better : Before candidate other → isBetter candidate other ≡ true
+  before-better (inl h) = sym (isBetter-quality candidate other h)
+  before-better (inr h) = sym (isBetter-priority candidate other (h .0)) ∙ lt-ltb _ _ (h .1)
+
+  notBefore-worse : NotBefore candidate other → isBetter candidate other ≡ false
+  notBefore-worse (inl h) =
+      let e : candidate .quality .0 ≡ other .quality .0 → ⊥ = λ x. omega arith in
+      let k : other .quality .0 ≤ candidate .quality .0 = omega arith in
+      sym (isBetter-not candidate other k e)
+  notBefore-worse (inr h) = sym (isBetter-priority candidate other (h .0)) ∙ le-ltb _ _ (h .1)
+
+  before-decided : Before candidate other ⊎ NotBefore candidate other
+  before-decided =
+      byBool (ltb (candidate .quality .0) (other .quality .0))
+      (λ x. inl (inl (ltb-true (candidate .quality .0) (other .quality .0) x)))
+      (λ x. byBool (ltb (other .quality .0) (candidate .quality .0))
+      (λ y. inr (inl (ltb-true (other .quality .0) (candidate .quality .0) y)))
+      (λ y.
+      let e : candidate .quality .0 ≡ other .quality .0 =
+      omega (
+        arith,
+        ltb-false (candidate .quality .0) (other .quality .0) x,
+        ltb-false (other .quality .0) (candidate .quality .0) y,
+      ) in
+      byBool (ltb (candidate .priority .0) (other .priority .0))
+      (λ z. inl (inr (e, ltb-true (candidate .priority .0) (other .priority .0) z)))
+      (λ z. inr (inr (e, ltb-false (candidate .priority .0) (other .priority .0) z)))))
+
+  better-before : isBetter candidate other ≡ true → Before candidate other
+  better-before x = ⊎-elim (λ h. h) (λ h. contra x (notBefore-worse h)) before-decided
+
+  worse-notBefore : isBetter candidate other ≡ false → NotBefore candidate other
+  worse-notBefore x = ⊎-elim (λ h. contra (before-better h) x) (λ h. h) before-decided
+
+  -- "Better: lower passed quality (mode on only), then lower priority number"
+  pub isBetter-exact : (isBetter candidate other ≡ true) ↔ Before candidate other
+  isBetter-exact = (better-before, before-better)
+
+module _ (candidate middle other : Candidate) where
+  before-transitive : Before candidate middle → Before middle other → Before candidate other
+  before-transitive (inl x) (inl y) = inl (omega arith)
+  before-transitive (inl x) (inr y) = inl (omega arith)
+  before-transitive (inr x) (inl y) = inl (omega arith)
+  before-transitive (inr x) (inr y) = inr (omega arith, omega arith)
+
+  notBefore-transitive : NotBefore candidate middle → NotBefore middle other → NotBefore candidate other
+  notBefore-transitive (inl x) (inl y) = inl (omega arith)
+  notBefore-transitive (inl x) (inr y) = inl (omega arith)
+  notBefore-transitive (inr x) (inl y) = inl (omega arith)
+  notBefore-transitive (inr x) (inr y) = inr (omega arith, omega arith)
+
+-- better is a ranking
+pub isBetter-ranking : (candidates : List Candidate) → Ranking (betterAmong candidates)
+isBetter-ranking candidates =
+    record {
+      irreflexive = λ a. notBefore-worse (at a) (at a) (inr (refl, omega arith));
+      transitive = λ a b c x y.
+          before-better (at a) (at c)
+          (before-transitive (at a) (at b) (at c) (better-before (at a) (at b) x) (better-before (at b) (at c) y));
+      negatively-transitive = λ a b c x y.
+          notBefore-worse (at a) (at c)
+          (notBefore-transitive (at a) (at b) (at c)
+          (worse-notBefore (at a) (at b) x) (worse-notBefore (at b) (at c) y));
+    }
+  where
+    at : ℕ → Candidate
+    at number = getD candidates number nobody
+
+-- ---- anyLower
+
+-- an input has lower quality
+abbrev lowerAt : List Candidate → Quality → ℕ → Bool
+lowerAt candidates quality number = ltb ((getD candidates number nobody) .quality .0) (quality .0)
+
+-- an input that is eligible with lower quality
+pub record Lower (candidates : List Candidate) (quality : Quality) (number : ℕ) : Type 0 where
+  pub isEligible : eligibleAmong candidates number ≡ true
+  pub isLower : (getD candidates number nobody) .quality .0 < quality .0
+
+module _ (candidates : List Candidate) (quality : Quality) where
+  found-step : (count : ℕ) (test : Bool)
+      → (eligibleAmong candidates count && lowerAt candidates quality count) ≡ test
+      → (lowerAmong candidates quality count ≡ true → (number : ℕ) × (number < count) × Lower candidates quality number)
+      → cond test true (lowerAmong candidates quality count) ≡ true
+      → (number : ℕ) × (number < suc count) × Lower candidates quality number
+  found-step count true x f y = (
+    count,
+    omega arith,
+    record {
+      isEligible = both-first (eligibleAmong candidates count) (lowerAt candidates quality count) x;
+      isLower =
+          ltb-true ((getD candidates count nobody) .quality .0) (quality .0)
+          (both-second (eligibleAmong candidates count) (lowerAt candidates quality count) x);
+    },
+  )
+  found-step count false x f y = let n = f y in (n .0, omega (arith, n .1), n .2)
+
+  found-among : (count : ℕ) → lowerAmong candidates quality count ≡ true
+      → (number : ℕ) × (number < count) × Lower candidates quality number
+  unfolding lowerAmong isLower
+  found-among zero x = absurd (false≢true x)
+  found-among (suc count) x =
+      found-step count
+      (eligibleAmong candidates count && lowerAt candidates quality count)
+      refl
+      (found-among count)
+      x
+
+  some-step : (count number : ℕ) → Lower candidates quality number
+      → (number < count → lowerAmong candidates quality count ≡ true)
+      → number < suc count → lowerAmong candidates quality (suc count) ≡ true
+  unfolding lowerAmong isLower
+  some-step count number l f h = go (ℕ-discrete number count)
+    where
+      later : (test rest : Bool) → rest ≡ true → cond test true rest ≡ true
+      later true rest x = refl
+      later false rest x = x
+
+      go : Dec (number ≡ count) → lowerAmong candidates quality (suc count) ≡ true
+      go (yes x) =
+          rw (← x, l .isEligible, lt-ltb ((getD candidates number nobody) .quality .0) (quality .0) (l .isLower))
+      go (no x) =
+          later (eligibleAmong candidates count && lowerAt candidates quality count)
+          (lowerAmong candidates quality count) (f (omega arith))
+
+  some-among : (count number : ℕ) → Lower candidates quality number → number < count
+      → lowerAmong candidates quality count ≡ true
+  some-among zero number l h = absurd (omega arith)
+  some-among (suc count) number l h = some-step count number l (some-among count number l) h
+
+  -- one is lower only if an eligible one of the sixteen is
+  pub lower-found : anyLower candidates quality ≡ true
+      → (number : ℕ) × (number < inputCount) × Lower candidates quality number
+  lower-found = found-among inputCount
+
+  -- and if one is
+  pub lower-some : (number : ℕ) → number < inputCount → Lower candidates quality number
+      → anyLower candidates quality ≡ true
+  lower-some number h l = some-among inputCount number l h
+
+  -- none is lower: every eligible one of the sixteen has this quality or a higher one
+  pub lower-none : anyLower candidates quality ≡ false → (number : ℕ) → number < inputCount
+      → eligibleAmong candidates number ≡ true → quality .0 ≤ (getD candidates number nobody) .quality .0
+  lower-none x number h e =
+      byBool (ltb (at .quality .0) (quality .0))
+      (λ y. let l : at .quality .0 < quality .0 = ltb-true (at .quality .0) (quality .0) y in
+      contra (lower-some number h (record { isEligible = e; isLower = l })) x)
+      (λ y. ltb-false (at .quality .0) (quality .0) y)
+    where
+      at : Candidate
+      at = getD candidates number nobody
+
+  -- "an eligible input has lower passed quality (mode on)"
+  pub lower-exact :
+      (anyLower candidates quality ≡ true) ↔ ((number : ℕ) × (number < inputCount) × Lower candidates quality number)
+  lower-exact = (lower-found, λ n. lower-some (n .0) (n .1) (n .2))

@@ -1,0 +1,215 @@
+-- The definitions of `specs/`, a law for each way through the function that meets it. Assumes nothing.
+use Prim.Native.Nat.{ℕ, zero, suc, _+_, _≤_, _<_}
+use mathlib.Core.Bool.{Bool, true, false, not, _||_, cond}
+use mathlib.Core.List.{List, [], _∷_, map}
+use mathlib.Core.Path.{_≡_, refl, sym, _∙_, ap}
+use native.Mathlib.Omega.{arith}
+use lib.Dec.{eqb}
+use lib.ListN.{length, getD, set}
+use Rattle.numbers.specs.declared.InputNumber.{InputNumber}
+use Rattle.numbers.specs.declared.Quality.{Quality}
+use Rattle.numbers.specs.Quality.{notTold, sec, codeDnu}
+use Rattle.input.specs.declared.Input.{Input}
+use Rattle.input.specs.Record.{freshInput}
+use Rattle.choice.specs.declared.Candidate.{Candidate}
+use Rattle.choice.specs.declared.Selection.{Selection}
+use Rattle.choice.specs.declared.Selection.the-variants as S
+use Rattle.choice.specs.Candidate.{nobody, isEligible}
+use Rattle.decision.specs.declared.Switch.{Switch}
+use Rattle.decision.specs.declared.Switch.the-variants as W
+use Rattle.selector.specs.State.{candidateFor}
+use Rattle.selector.proofs.Filled.{filled, filled-turn}
+use Rattle.selector.specs.Answer.{noInput, freeRun, holdover, locked, manualIneligible, selectedCandidate, switchFails, clockState, clockQuality, outgoingCode, selectedNumber, switchNumber, switchInput, codeFor, ports}
+
+-- ---- getD
+
+-- inside a list the default does not matter
+pub getD-any : {A : Type 0} (list : List A) (number : ℕ) (d other : A) → number < length list → getD list number d ≡ getD list number other
+getD-any [] number d other h = absurd (omega arith)
+getD-any (x ∷ list) zero d other h = refl
+getD-any (x ∷ list) (suc number) d other h = getD-any list number d other (omega arith)
+
+-- past it there is the default alone
+pub getD-past : {A : Type 0} (list : List A) (number : ℕ) (d : A) → length list ≤ number → getD list number d ≡ d
+getD-past [] number d h = refl
+getD-past (x ∷ list) zero d h = absurd (omega arith)
+getD-past (x ∷ list) (suc number) d h = getD-past list number d (omega arith)
+
+module _ (inputs : List Input) (number : ℕ) where
+  pub inputAt-inside : (zeroed : Input) → number < 16 → length inputs ≡ 16 → getD inputs number zeroed ≡ getD inputs number freshInput
+  inputAt-inside zeroed h k = let m : number < length inputs = omega arith in getD-any inputs number zeroed freshInput m
+
+  pub inputAt-past : (found : Input) → 16 ≤ number → length inputs ≡ 16 → found ≡ freshInput → found ≡ getD inputs number freshInput
+  inputAt-past found h k e = let m : length inputs ≤ number = omega arith in e ∙ sym (getD-past inputs number freshInput m)
+
+pub ruleset inputAt-laws = (inputAt-inside, inputAt-past)
+
+-- ---- selectedCandidate
+
+module _ (inputs : List Input) (mode : Bool) (selection : Selection) where
+  pub selectedCandidate-nothing : selection ≡ S.Nothing → nobody ≡ selectedCandidate inputs mode selection
+  unfolding selectedCandidate
+  selectedCandidate-nothing s = rw s
+
+  pub selectedCandidate-at : (number : InputNumber) (input : Input) (candidate : Candidate) → selection ≡ S.At number
+      → input ≡ getD inputs (number .0) freshInput → candidate ≡ candidateFor mode input
+      → candidate ≡ selectedCandidate inputs mode selection
+  unfolding selectedCandidate
+  selectedCandidate-at number input candidate s i c = c ∙ (rw (s, i))
+
+pub ruleset selectedCandidate-laws = (selectedCandidate-nothing, selectedCandidate-at)
+
+-- ---- switchFails
+
+module _ (inputs : List Input) (mode : Bool) (switch : Switch) where
+  pub switchFails-nothing : switch ≡ W.Nothing → false ≡ switchFails inputs mode switch
+  unfolding switchFails
+  switchFails-nothing s = rw s
+
+  pub switchFails-forced : (on : InputNumber) → switch ≡ W.Forced on → false ≡ switchFails inputs mode switch
+  unfolding switchFails
+  switchFails-forced on s = rw s
+
+  pub switchFails-manual : (on : InputNumber) (input : Input) (candidate : Candidate) (able : Bool) → switch ≡ W.Manual on
+      → input ≡ getD inputs (on .0) freshInput → candidate ≡ candidateFor mode input → able ≡ isEligible candidate → able ≡ true
+      → false ≡ switchFails inputs mode switch
+  unfolding switchFails
+  switchFails-manual on input candidate able s i c a t = rw (s, ← i, ← c, ← a, t)
+
+  pub switchFails-ineligible : (on : InputNumber) (input : Input) (candidate : Candidate) (able : Bool) → switch ≡ W.Manual on
+      → input ≡ getD inputs (on .0) freshInput → candidate ≡ candidateFor mode input → able ≡ isEligible candidate → able ≡ false
+      → true ≡ switchFails inputs mode switch
+  unfolding switchFails
+  switchFails-ineligible on input candidate able s i c a t = rw (s, ← i, ← c, ← a, t)
+
+pub ruleset switchFails-laws = (switchFails-nothing, switchFails-forced, switchFails-manual, switchFails-ineligible)
+
+-- ---- clockState, clockQuality, outgoingCode
+
+module _ (fails isLocked held : Bool) where
+  pub clockState-fails : fails ≡ true → manualIneligible ≡ clockState fails isLocked held
+  unfolding clockState
+  clockState-fails f = rw f
+
+  pub clockState-locked : fails ≡ false → isLocked ≡ true → locked ≡ clockState fails isLocked held
+  unfolding clockState
+  clockState-locked f l = rw (f, l)
+
+  pub clockState-holdover : fails ≡ false → isLocked ≡ false → held ≡ true → holdover ≡ clockState fails isLocked held
+  unfolding clockState
+  clockState-holdover f l h = rw (f, l, h)
+
+  pub clockState-free : fails ≡ false → isLocked ≡ false → held ≡ false → freeRun ≡ clockState fails isLocked held
+  unfolding clockState
+  clockState-free f l h = rw (f, l, h)
+
+pub ruleset clockState-laws = (clockState-fails, clockState-locked, clockState-holdover, clockState-free)
+
+module _ (mode : Bool) (candidate : Candidate) where
+  pub clockQuality-off : mode ≡ false → notTold ≡ clockQuality mode candidate
+  unfolding clockQuality
+  clockQuality-off m = rw m
+
+  pub clockQuality-locked : mode ≡ true → candidate .usable ≡ true → candidate .quality ≡ clockQuality mode candidate
+  unfolding clockQuality
+  clockQuality-locked m u = rw (m, u)
+
+  pub clockQuality-own : mode ≡ true → candidate .usable ≡ false → sec ≡ clockQuality mode candidate
+  unfolding clockQuality
+  clockQuality-own m u = rw (m, u)
+
+pub ruleset clockQuality-laws = (clockQuality-off, clockQuality-locked, clockQuality-own)
+
+module _ (mode sending isSelected : Bool) (code : ℕ) where
+  pub outgoingCode-off : mode ≡ false → codeDnu ≡ outgoingCode mode sending isSelected code
+  unfolding outgoingCode
+  outgoingCode-off m = rw m
+
+  pub outgoingCode-silent : mode ≡ true → sending ≡ false → codeDnu ≡ outgoingCode mode sending isSelected code
+  unfolding outgoingCode
+  outgoingCode-silent m s = rw (m, s)
+
+  pub outgoingCode-selected : mode ≡ true → sending ≡ true → isSelected ≡ true → codeDnu ≡ outgoingCode mode sending isSelected code
+  unfolding outgoingCode
+  outgoingCode-selected m s i = rw (m, s, i)
+
+  pub outgoingCode-told : mode ≡ true → sending ≡ true → isSelected ≡ false → code ≡ outgoingCode mode sending isSelected code
+  unfolding outgoingCode
+  outgoingCode-told m s i = rw (m, s, i)
+
+pub ruleset outgoingCode-laws = (outgoingCode-off, outgoingCode-silent, outgoingCode-selected, outgoingCode-told)
+
+-- ---- selectedNumber, switchNumber, switchInput
+
+pub selectedNumber-nothing : (selection : Selection) → selection ≡ S.Nothing → noInput ≡ selectedNumber selection
+unfolding selectedNumber
+selectedNumber-nothing selection s = rw s
+
+pub selectedNumber-at : (selection : Selection) (number : InputNumber) → selection ≡ S.At number → number .0 ≡ selectedNumber selection
+unfolding selectedNumber
+selectedNumber-at selection number s = rw s
+
+pub ruleset selectedNumber-laws = (selectedNumber-nothing, selectedNumber-at)
+
+module _ (switch : Switch) where
+  pub switchNumber-nothing : switch ≡ W.Nothing → 0 ≡ switchNumber switch
+  unfolding switchNumber
+  switchNumber-nothing s = rw s
+
+  pub switchNumber-forced : (on : InputNumber) → switch ≡ W.Forced on → 1 ≡ switchNumber switch
+  unfolding switchNumber
+  switchNumber-forced on s = rw s
+
+  pub switchNumber-manual : (on : InputNumber) → switch ≡ W.Manual on → 2 ≡ switchNumber switch
+  unfolding switchNumber
+  switchNumber-manual on s = rw s
+
+  pub switchInput-nothing : switch ≡ W.Nothing → noInput ≡ switchInput switch
+  unfolding switchInput
+  switchInput-nothing s = rw s
+
+  pub switchInput-forced : (on : InputNumber) → switch ≡ W.Forced on → on .0 ≡ switchInput switch
+  unfolding switchInput
+  switchInput-forced on s = rw s
+
+  pub switchInput-manual : (on : InputNumber) → switch ≡ W.Manual on → on .0 ≡ switchInput switch
+  unfolding switchInput
+  switchInput-manual on s = rw s
+
+pub ruleset switchNumber-laws = (switchNumber-nothing, switchNumber-forced, switchNumber-manual)
+
+pub ruleset switchInput-laws = (switchInput-nothing, switchInput-forced, switchInput-manual)
+
+-- ---- codeFor
+
+numbersFrom : ℕ → ℕ → List ℕ
+numbersFrom first zero = []
+numbersFrom first (suc count) = first ∷ numbersFrom (suc first) count
+
+numbersFrom-at : (first count number : ℕ) → number < count → getD (numbersFrom first count) number 0 ≡ first + number
+unfolding numbersFrom
+numbersFrom-at first zero number h = absurd (omega arith)
+numbersFrom-at first (suc count) zero h = omega arith
+numbersFrom-at first (suc count) (suc number) h =
+    let e : suc first + number ≡ first + suc number = omega arith in numbersFrom-at (suc first) count number (omega arith) ∙ e
+
+-- the ports are their own numbers
+pub port-number : (port : ℕ) → port < 16 → getD ports port 0 ≡ port
+unfolding numbersFrom
+port-number port h = let e : 0 + port ≡ port = omega arith in numbersFrom-at 0 16 port h ∙ e
+
+-- a turn of the loop over the ports
+pub codeFor-turn : (inputs : List Input) (mode : Bool) (selected code port : ℕ) (into now : List ℕ) (told : ℕ) (zeroed : Input)
+    → now ≡ filled (codeFor inputs mode selected code) port ports into
+    → told ≡ outgoingCode mode (getD inputs port zeroed .settings .sending) (eqb selected port) code → length inputs ≡ 16
+    → length into ≡ 16 → port < 16 → set now port told ≡ filled (codeFor inputs mode selected code) (port + 1) ports into
+unfolding codeFor
+codeFor-turn inputs mode selected code port into now told zeroed e o h k lt =
+    let m : port < length inputs = omega arith in
+    filled-turn (codeFor inputs mode selected code) 16 port ports into now 0 told e
+    (rw (port-number port lt)
+    (o ∙
+    ap (λ (x : Input). outgoingCode mode (x .settings .sending) (eqb selected port) code) (getD-any inputs port zeroed freshInput m)))
+    refl
+    k
+    lt

@@ -1,0 +1,44 @@
+-- `selector::Selector::answer` meets its contract: it is the definition, call by call.
+-- Assumes nothing.
+use Rattle.selector.specs.Answer.{answerOf}
+use borrow.Author.Needs.{needs}
+use Rattle.selector.proofs.Selector.answer.Statement.{statement}
+use Rattle.selector.proofs.Selector.answer.Tie as tie
+
+selected-candidate-requires : tie.Need-selected-candidate-requires
+selected-candidate-requires c κs = search needs
+
+switch-fails-requires : tie.Need-switch-fails-requires
+switch-fails-requires c κs = search needs
+
+clock-quality-requires : tie.Need-clock-quality-requires
+clock-quality-requires c κs = search needs
+
+selected-number-requires : tie.Need-selected-number-requires
+selected-number-requires c κs = search needs
+
+clock-state-requires : tie.Need-clock-state-requires
+clock-state-requires c κs = search needs
+
+switch-number-requires : tie.Need-switch-number-requires
+switch-number-requires c κs = search needs
+
+switch-input-requires : tie.Need-switch-input-requires
+switch-input-requires c κs = search needs
+
+returns : tie.Need-returns
+unfolding answerOf
+returns c = cc
+
+pub answer-spec : {M : Type 1} → statement M
+answer-spec =
+    tie.close
+    (tie.spec
+    selected-candidate-requires
+    switch-fails-requires
+    clock-quality-requires
+    selected-number-requires
+    clock-state-requires
+    switch-number-requires
+    switch-input-requires
+    returns)

@@ -1,0 +1,64 @@
+-- `selector::tick_all` meets its contract: a turn of the loop brings one input to the time.
+-- Assumes nothing.
+use Prim.Native.Nat.{ℕ, _≤_, _-_}
+use mathlib.Core.Path.{_≡_}
+use lib.ListN.{length}
+use Rattle.input.specs.declared.Input.{Input}
+use borrow.Author.Needs.{needs}
+use Rattle.input.specs.Record.{tick}
+use Rattle.selector.proofs.Filled.{filled, filled-turn-in-place, filled-done}
+use Rattle.selector.proofs.tick_all.Statement.{statement}
+use Rattle.selector.proofs.tick_all.Tie as tie
+
+abbrev Inv-loop : tie.InvT-loop
+Inv-loop time mode all₀ at₀ all at = (at ≤ 16) × (length all₀ ≡ 16) × (all ≡ filled (λ (input : Input). tick input time mode) at all₀ all₀)
+
+abbrev μ-loop : tie.MeasureT-loop
+μ-loop time mode all₀ at₀ all at = 16 - at
+
+loop-holds : tie.Need-loop-holds Inv-loop μ-loop
+loop-holds c = search needs
+
+mul-input : tie.Need-mul-input Inv-loop μ-loop
+mul-input c = search needs
+
+array-copy-out-input : tie.Need-array-copy-out-input Inv-loop μ-loop
+array-copy-out-input c = search needs
+
+tick-requires : tie.Need-tick-requires Inv-loop μ-loop
+tick-requires c κs = search needs
+
+mul-all : tie.Need-mul-all Inv-loop μ-loop
+mul-all c = search needs
+
+array-set-from-all : tie.Need-array-set-from-all Inv-loop μ-loop
+array-set-from-all c = search needs
+
+add-at : tie.Need-add-at Inv-loop μ-loop
+add-at c = search needs
+
+loop-less : tie.Need-loop-less Inv-loop μ-loop
+loop-less c = search needs
+
+loop-again : tie.Need-loop-again Inv-loop μ-loop
+loop-again c = (search needs, search needs, search filled-turn-in-place)
+
+returns : tie.Need-returns Inv-loop μ-loop
+returns c = search filled-done
+
+pub tick-all-spec : {M : Type 1} → statement M
+tick-all-spec =
+    tie.close
+    (tie.spec
+    Inv-loop
+    μ-loop
+    loop-holds
+    mul-input
+    array-copy-out-input
+    tick-requires
+    mul-all
+    array-set-from-all
+    add-at
+    loop-less
+    loop-again
+    returns)

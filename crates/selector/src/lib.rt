@@ -1,0 +1,332 @@
+// The selector's state, by value, what a tick makes of it, and what is answered of it. Document 01, "The sixteen
+// inputs", "Choosing" and the answer line of "The event log".
+//
+// No public function has a `requires`: a state with any numbers in it is answered for.
+use choice::Candidate;
+use choice::Selection;
+use choice::candidate_of;
+use decision::Switch;
+use decision::decide;
+use input::Input;
+use numbers::Answer;
+use numbers::InputNumber;
+use numbers::Priority;
+use numbers::Quality;
+use numbers::code_of_quality;
+ghost use mathlib.Core.Path.{_≡_};
+ghost use mathlib.Core.Bool.{false};
+ghost use mathlib.Core.List.{map};
+ghost use lib.ListN.{getD};
+ghost use Rattle.input.specs.Record.{freshInput, settle, tick};
+ghost use Rattle.selector.specs.State.{candidateFor, candidatesOf, freshSelector, decided, ticked};
+ghost use Rattle.selector.specs.Answer.{selectedNumber, switchNumber, switchInput, switchFails, clockState, clockQuality, outgoingCode, selectedCandidate, codeFor, ports, answerOf, outgoingCodes};
+
+// How many inputs there are.
+const INPUT_COUNT: u8 = 16;
+
+// Stands for no input in an answer.
+const NO_INPUT: u8 = 255;
+
+// The clock states.
+const FREE_RUN: u8 = 0;
+
+const HOLDOVER: u8 = 1;
+
+const LOCKED: u8 = 2;
+
+const MANUAL_INELIGIBLE: u8 = 3;
+
+// The code that says: do not use.
+const DO_NOT_USE: u8 = 0b1111;
+
+// The whole state: sixteen inputs beside time, switch and selection, the quality mode, and whether the clock has ever
+// been locked.
+pub struct Selector {
+    pub inputs: [Input; 16],
+    pub time: u64,
+    pub switch: Switch,
+    pub selection: Selection,
+    pub mode: bool,
+    pub held: bool,
+}
+
+// An input, or a fresh one where there is no such number.
+pub fn input_at(inputs: [Input; 16], number: InputNumber) -> Input
+    ensures { λ answer. ⌜ answer ≡ getD inputs (number .0) freshInput ⌝ }
+{
+    if number.0 < INPUT_COUNT {
+        let at = number.0 as usize;
+        return inputs[at];
+    }
+    Input::fresh()
+}
+
+// What a choice looks at of an input.
+pub fn candidate_for(input: Input, mode: bool) -> Candidate
+    ensures { λ answer. ⌜ answer ≡ candidateFor mode input ⌝ }
+{
+    let passed = input.passed_quality();
+    let settings = input.settings;
+    let priority = settings.priority;
+    candidate_of(passed, priority, settings.locked, mode)
+}
+
+// What a choice looks at of all inputs.
+pub fn candidates_of(inputs: [Input; 16], mode: bool) -> [Candidate; 16]
+    ensures { λ answer. ⌜ answer ≡ candidatesOf inputs mode ⌝ }
+{
+    let nobody = Candidate {
+        quality: Quality(0),
+        priority: Priority(0),
+        admitted: false,
+        usable: false,
+    };
+    let mut candidates = [nobody; 16];
+    let mut at: usize = 0;
+    while at < 16 {
+        let input = inputs[at];
+        let candidate = candidate_for(input, mode);
+        candidates[at] = candidate;
+        at += 1;
+    }
+    candidates
+}
+
+// All inputs brought to a time.
+fn tick_all(inputs: [Input; 16], time: u64, mode: bool) -> [Input; 16]
+    ensures { λ answer. ⌜ answer ≡ map (λ input. tick input time mode) inputs ⌝ }
+{
+    let mut all = inputs;
+    let mut at: usize = 0;
+    while at < 16 {
+        let input = all[at];
+        let after = input.tick(time, mode);
+        all[at] = after;
+        at += 1;
+    }
+    all
+}
+
+// All inputs at the moment of an event that changes the quality mode.
+pub fn settle_all(inputs: [Input; 16], time: u64, mode: bool) -> [Input; 16]
+    ensures { λ answer. ⌜ answer ≡ map (λ input. settle input time mode false) inputs ⌝ }
+{
+    let mut all = inputs;
+    let mut at: usize = 0;
+    while at < 16 {
+        let input = all[at];
+        let after = input.settle(time, mode, false);
+        all[at] = after;
+        at += 1;
+    }
+    all
+}
+
+impl Selector {
+    // Time 0, quality mode on, no switch, nothing selected, sixteen fresh inputs.
+    pub fn fresh() -> Selector
+        ensures { λ answer. ⌜ answer ≡ freshSelector ⌝ }
+    {
+        let input = Input::fresh();
+        let inputs = [input; 16];
+        let switch = Switch::Nothing;
+        let selection = Selection::Nothing;
+        Selector {
+            inputs,
+            time: 0,
+            switch,
+            selection,
+            mode: true,
+            held: false,
+        }
+    }
+
+    // The switch judged and the choice made.
+    pub fn decided(self) -> Selector
+        ensures { λ answer. ⌜ answer ≡ decided self ⌝ }
+    {
+        let inputs = self.inputs;
+        let candidates = candidates_of(inputs, self.mode);
+        let before = self.switch;
+        let earlier = self.selection;
+        let decision = decide(candidates, before, earlier, self.held);
+        let switch = decision.switch;
+        let selection = decision.selection;
+        Selector {
+            inputs,
+            time: self.time,
+            switch,
+            selection,
+            mode: self.mode,
+            held: decision.held,
+        }
+    }
+
+    // A tick: all passed qualities brought up to date, the switch judged, the choice made.
+    pub fn tick(mut self, time: u64) -> Selector
+        ensures { λ answer. ⌜ answer ≡ ticked self time ⌝ }
+    {
+        let before = self.inputs;
+        let inputs = tick_all(before, time, self.mode);
+        self.inputs = inputs;
+        self.time = time;
+        self.decided()
+    }
+
+    // The five values of an answer line, behind a number.
+    pub fn answer(self, number: u8) -> Answer
+        ensures { λ answer. ⌜ answer ≡ answerOf number self ⌝ }
+    {
+        let inputs = self.inputs;
+        let switch = self.switch;
+        let selection = self.selection;
+        let candidate = selected_candidate(inputs, self.mode, selection);
+        let fails = switch_fails(inputs, self.mode, switch);
+        let quality = clock_quality(self.mode, candidate);
+        Answer {
+            number,
+            selected: selected_number(selection),
+            state: clock_state(fails, candidate.usable, self.held),
+            quality: quality.0,
+            switch: switch_number(switch),
+            on: switch_input(switch),
+        }
+    }
+
+    // The codes that go out of the sixteen ports.
+    pub fn outgoing_codes(self) -> [u8; 16]
+        ensures { λ answer. ⌜ answer ≡ outgoingCodes self ⌝ }
+    {
+        let inputs = self.inputs;
+        let selection = self.selection;
+        let candidate = selected_candidate(inputs, self.mode, selection);
+        let quality = clock_quality(self.mode, candidate);
+        let code = code_of_quality(quality);
+        let selected = selected_number(selection);
+        codes_for(inputs, self.mode, selected, code)
+    }
+}
+
+// The codes that go out of the sixteen ports, where the clock quality has a code.
+fn codes_for(inputs: [Input; 16], mode: bool, selected: u8, code: u8) -> [u8; 16]
+    ensures { λ answer. ⌜ answer ≡ map (codeFor inputs mode selected code) ports ⌝ }
+{
+    let mut codes = [0u8; 16];
+    let mut port: u8 = 0;
+    while port < INPUT_COUNT {
+        let input = inputs[port as usize];
+        let settings = input.settings;
+        codes[port as usize] = outgoing_code(mode, settings.sending, selected == port, code);
+        port += 1;
+    }
+    codes
+}
+
+// The selected input as a choice sees it; none where nothing is selected.
+fn selected_candidate(inputs: [Input; 16], mode: bool, selection: Selection) -> Candidate
+    ensures { λ answer. ⌜ answer ≡ selectedCandidate inputs mode selection ⌝ }
+{
+    match selection {
+        Selection::Nothing => Candidate {
+            quality: Quality(0),
+            priority: Priority(0),
+            admitted: false,
+            usable: false,
+        },
+        Selection::At(number) => {
+            let input = input_at(inputs, number);
+            candidate_for(input, mode)
+        }
+    }
+}
+
+// Whether a manual switch stands on an ineligible input.
+fn switch_fails(inputs: [Input; 16], mode: bool, switch: Switch) -> bool
+    ensures { λ answer. ⌜ answer ≡ switchFails inputs mode switch ⌝ }
+{
+    match switch {
+        Switch::Nothing => false,
+        Switch::Forced(_) => false,
+        Switch::Manual(on) => {
+            let input = input_at(inputs, on);
+            let candidate = candidate_for(input, mode);
+            if candidate.is_eligible() {
+                return false;
+            }
+            true
+        }
+    }
+}
+
+fn clock_state(fails: bool, locked: bool, held: bool) -> u8
+    ensures { λ answer. ⌜ answer ≡ clockState fails locked held ⌝ }
+{
+    if fails {
+        return MANUAL_INELIGIBLE;
+    }
+    if locked {
+        return LOCKED;
+    }
+    if held {
+        return HOLDOVER;
+    }
+    FREE_RUN
+}
+
+// 0 with mode off; the passed quality when locked; otherwise 4.
+fn clock_quality(mode: bool, candidate: Candidate) -> Quality
+    ensures { λ answer. ⌜ answer ≡ clockQuality mode candidate ⌝ }
+{
+    if mode {
+        if candidate.usable {
+            return candidate.quality;
+        }
+        return Quality(4);
+    }
+    Quality(0)
+}
+
+// The code that goes out of a port.
+fn outgoing_code(mode: bool, sending: bool, selected: bool, code: u8) -> u8
+    ensures { λ answer. ⌜ answer ≡ outgoingCode mode sending selected code ⌝ }
+{
+    if mode {
+        if sending {
+            if selected {
+                return DO_NOT_USE;
+            }
+            return code;
+        }
+        return DO_NOT_USE;
+    }
+    DO_NOT_USE
+}
+
+fn selected_number(selection: Selection) -> u8
+    ensures { λ answer. ⌜ answer ≡ selectedNumber selection ⌝ }
+{
+    match selection {
+        Selection::Nothing => NO_INPUT,
+        Selection::At(number) => number.0,
+    }
+}
+
+fn switch_number(switch: Switch) -> u8
+    ensures { λ answer. ⌜ answer ≡ switchNumber switch ⌝ }
+{
+    match switch {
+        Switch::Nothing => 0,
+        Switch::Forced(_) => 1,
+        Switch::Manual(_) => 2,
+    }
+}
+
+fn switch_input(switch: Switch) -> u8
+    ensures { λ answer. ⌜ answer ≡ switchInput switch ⌝ }
+{
+    match switch {
+        Switch::Nothing => NO_INPUT,
+        Switch::Forced(on) => on.0,
+        Switch::Manual(on) => on.0,
+    }
+}
