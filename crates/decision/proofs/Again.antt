@@ -1,0 +1,77 @@
+-- Deciding again, by the same candidates and with no command, changes nothing.
+-- Assumes nothing.
+use Prim.Native.Nat.{ℕ}
+use mathlib.Core.Bool.{Bool, true, false, cond}
+use mathlib.Core.List.{List, _∷_}
+use mathlib.Core.Path.{_≡_, refl, sym, _∙_, ap}
+use mathlib.Core.Logic.{⊎-elim}
+use native.Mathlib.Omega.{arith}
+use Rattle.numbers.specs.Kind.{kindTick}
+use Rattle.choice.specs.declared.Candidate.{Candidate}
+use Rattle.choice.specs.declared.Selection.{Selection}
+use Rattle.choice.specs.Candidate.{eligibleAmong, betterAmong}
+use Rattle.choice.proofs.Choosing.{choose-again}
+use Rattle.choice.proofs.Ranks.{isBetter-ranking}
+use Rattle.decision.specs.declared.Switch.{Switch}
+use Rattle.decision.specs.declared.Switch.the-variants as W
+use Rattle.decision.specs.declared.Decision.{Decision}
+use Rattle.decision.specs.Decision.{judged, selectedBy, isLocked, isHeld, decide}
+use Rattle.decision.specs.Choices.{ChoiceMoment, Choices, Commands, commanded, decidedOver}
+use Rattle.decision.proofs.Standing.{stands, judged-stands, commanded-other}
+
+-- a switch that stands by these candidates stands by them again
+pub judged-again : (candidates : List Candidate) (switch : Switch)
+    → judged candidates (judged candidates switch) ≡ judged candidates switch
+judged-again candidates switch =
+    rw (judged-stands candidates switch) (go (stands candidates switch) refl)
+  where
+    go : (able : Bool) → stands candidates switch ≡ able
+        → judged candidates (cond able switch W.Nothing) ≡ cond able switch W.Nothing
+    go true x = judged-stands candidates switch ∙ rw x
+    go false x = judged-stands candidates W.Nothing
+
+-- what is selected is selected again
+pub selectedBy-again : (candidates : List Candidate) (switch : Switch) (before : Selection)
+    → selectedBy candidates switch (selectedBy candidates switch before) ≡ selectedBy candidates switch before
+unfolding selectedBy
+selectedBy-again candidates W.Nothing before =
+    choose-again (eligibleAmong candidates) (betterAmong candidates) before (isBetter-ranking candidates)
+selectedBy-again candidates (W.Forced on) before = refl
+selectedBy-again candidates (W.Manual on) before = refl
+
+pub isHeld-again : (held locked : Bool) → isHeld (isHeld held locked) locked ≡ isHeld held locked
+unfolding isHeld
+isHeld-again held true = refl
+isHeld-again held false = refl
+
+-- ---- the theorems
+
+module _ (candidates : List Candidate) (switch : Switch) (before : Selection) (held : Bool) where
+  -- deciding again changes nothing
+  pub decided-again :
+      decide candidates (decide candidates switch before held .switch) (decide candidates switch before held .selection)
+      (decide candidates switch before held .held)
+      ≡ decide candidates switch before held
+  unfolding decide
+  decided-again =
+      rw (
+        judged-again candidates switch,
+        selectedBy-again candidates (judged candidates switch) before,
+        isHeld-again held (isLocked candidates (selectedBy candidates (judged candidates switch) before)),
+      )
+
+module _ (again choice : ChoiceMoment) (earlier : Choices) where
+  -- nor does a choice that follows no command, where every input is as it was at the choice before
+  pub decidedOver-again : again .candidates ≡ choice .candidates → (Commands (again ∷ (choice ∷ earlier)) → ⊥)
+      → decidedOver (again ∷ (choice ∷ earlier)) ≡ decidedOver (choice ∷ earlier)
+  unfolding decidedOver
+  decidedOver-again same none =
+      rw (same, commanded-other (again .kind) (again .on) (decidedOver (choice ∷ earlier) .switch) none)
+      (decided-again (choice .candidates) (commanded (choice .kind) (choice .on) (decidedOver earlier .switch))
+      (decidedOver earlier .selection) (decidedOver earlier .held))
+
+  -- such as a tick's
+  pub decidedOver-tick : again .candidates ≡ choice .candidates → again .kind ≡ kindTick
+      → decidedOver (again ∷ (choice ∷ earlier)) ≡ decidedOver (choice ∷ earlier)
+  decidedOver-tick same tick =
+      decidedOver-again same (⊎-elim (λ x. omega arith) (⊎-elim (λ x. omega arith) (λ x. omega arith)))

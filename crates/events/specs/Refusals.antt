@@ -1,0 +1,84 @@
+-- Document 01, "Numbers of refusal": the rows that an event can meet, in the table's order. Cited by `src/lib.rt`.
+-- Assumes nothing.
+use Prim.Native.Nat.{ℕ}
+use mathlib.Core.Bool.{Bool, true, false, not, _&&_, cond}
+use mathlib.Core.List.{List, [], _∷_}
+use lib.Dec.{eqb, leb, ltb}
+use lib.ListN.{getD}
+use Rattle.numbers.specs.declared.Event.{Event}
+use Rattle.numbers.specs.Inputs.{timeLimit}
+use Rattle.numbers.specs.Kind.{kindOf, isKnown, isInputOut, isArgumentOut, kindFrame, kindLineCode, kindForced, kindManual}
+use Rattle.numbers.specs.Refusal.{accepted, kindUnknown, timeTooLarge, timeBeforeState, inputOutOfRange, argumentOutOfRange, wrongInputKind, forcedBarred, manualForcedStands, manualNotEligible, manualLowerQuality}
+use Rattle.frame.specs.declared.FrameRead.{FrameRead}
+use Rattle.frame.specs.Read.{numberOfRead}
+use Rattle.input.specs.declared.Input.{Input}
+use Rattle.input.specs.Record.{freshInput}
+use Rattle.choice.specs.declared.Candidate.{Candidate}
+use Rattle.choice.specs.Candidate.{nobody, eligibleAmong, anyLower}
+use Rattle.decision.specs.declared.Switch.{Switch}
+use Rattle.decision.specs.declared.Switch.the-variants as W
+use Rattle.decision.specs.Decision.{forcedStands}
+
+-- a row of the table: its number, and whether it applies
+pub record Refusal : Type 0 where
+  pub number : ℕ
+  pub applies : Bool
+
+-- a row
+abbrev pub refusal : ℕ → Bool → Refusal
+refusal number applies = record { number = number; applies = applies }
+
+-- "The smallest number that applies is given": the first row that applies, of rows in rising order; 0 where none does
+unfoldable pub firstThatApplies : List Refusal → ℕ
+firstThatApplies [] = accepted
+firstThatApplies (row ∷ rows) = cond (row .applies) (row .number) (firstThatApplies rows)
+
+-- "code for an Ethernet input, frame for a line input"
+unfoldable pub isWrongKind : ℕ → Bool → Bool
+isWrongKind kind ethernet =
+    cond (eqb kind kindLineCode) ethernet
+    (cond (eqb kind kindFrame) (not ethernet)
+    false)
+
+-- the number of a frame's reading, 8 to 13 where the frame is refused; of a frame event alone
+unfoldable pub frameRefusal : ℕ → FrameRead → ℕ
+frameRefusal kind read = cond (eqb kind kindFrame) (numberOfRead read) accepted
+
+-- rows 2 to 13, for a state at a time, whose input has a kind
+abbrev pub earlyRows : ℕ → Bool → Event → FrameRead → List Refusal
+earlyRows time ethernet event read =
+    refusal kindUnknown (not (isKnown (kindOf (event .kind)))) ∷
+    refusal timeTooLarge (leb timeLimit (event .time)) ∷
+    refusal timeBeforeState (ltb (event .time) time) ∷
+    refusal inputOutOfRange (isInputOut (kindOf (event .kind)) (event .input)) ∷
+    refusal argumentOutOfRange (isArgumentOut (kindOf (event .kind)) (event .argument)) ∷
+    refusal wrongInputKind (isWrongKind (event .kind) ethernet) ∷
+    refusal (frameRefusal (event .kind) read) (not (eqb (frameRefusal (event .kind) read) accepted)) ∷
+    []
+
+-- the number of an event that is refused before the tick
+unfoldable pub earlyRefusal : ℕ → Bool → Event → FrameRead → ℕ
+earlyRefusal time ethernet event read = firstThatApplies (earlyRows time ethernet event read)
+
+-- an input is of the Ethernet kind
+abbrev pub ethernetAt : List Input → ℕ → Bool
+ethernetAt inputs number = getD inputs number freshInput .settings .ethernet
+
+-- "a forced switch stands"
+unfoldable pub isForcedSwitch : Switch → Bool
+isForcedSwitch W.Nothing = false
+isForcedSwitch (W.Forced on) = true
+isForcedSwitch (W.Manual on) = false
+
+-- rows 14 to 17, for the inputs and the switch after the tick
+abbrev pub lateRows : List Candidate → Switch → ℕ → ℕ → List Refusal
+lateRows candidates switch kind on =
+    refusal forcedBarred (eqb kind kindForced && not (forcedStands candidates on)) ∷
+    refusal manualForcedStands (eqb kind kindManual && isForcedSwitch switch) ∷
+    refusal manualNotEligible (eqb kind kindManual && not (eligibleAmong candidates on)) ∷
+    refusal manualLowerQuality (eqb kind kindManual && anyLower candidates (getD candidates on nobody .quality)) ∷
+    []
+
+-- the number of an event that is refused after the tick
+unfoldable pub lateRefusal : List Candidate → Switch → ℕ → ℕ → ℕ
+lateRefusal candidates switch kind on = firstThatApplies (lateRows candidates switch kind on)

@@ -1,0 +1,7 @@
+-- Rows of octets; the laws of reading and of writing; the answers to demands 1 and 2; a table of frames.
+pub mod Rows
+pub mod ReadLaws
+pub mod WriteLaws
+pub mod Demand1
+pub mod RoundTrip
+pub mod Cases

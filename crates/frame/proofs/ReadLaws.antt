@@ -1,0 +1,69 @@
+-- Laws of reading, one for each way through.
+-- Assumes nothing.
+use Prim.Native.Nat.{ℕ, _≤_, _<_}
+use mathlib.Core.Bool.{Bool, true, false, cond}
+use mathlib.Core.List.{List}
+use mathlib.Core.Path.{_≡_, refl, sym}
+use native.Mathlib.Omega.{arith}
+use lib.Dec.{eqb, leb}
+use lib.ListN.{length}
+use borrow.Author.Tests.{eq-eqb, ne-eqb, eqb-true, leb-true, le-leb, lt-leb}
+use Rattle.numbers.specs.Refusal.{accepted, frameLength}
+use Rattle.frame.specs.declared.FrameRead.the-variants.{Code, Refused}
+use Rattle.frame.specs.Octets.{shortestFrame, longestFrame}
+use Rattle.frame.specs.Read.{rightLength, frameNumber, frameCode, readFrame, numberOfRead}
+
+module _ (frame : List ℕ) where
+  -- ---- rightLength
+
+  pub rightLength-right : shortestFrame ≤ length frame → length frame ≤ longestFrame → rightLength frame ≡ true
+  unfolding rightLength
+  rightLength-right long fits = rw (le-leb _ _ long, le-leb _ _ fits)
+
+  pub rightLength-short : length frame < shortestFrame → rightLength frame ≡ false
+  unfolding rightLength
+  rightLength-short short = rw (lt-leb _ _ short)
+
+  pub rightLength-long : longestFrame < length frame → rightLength frame ≡ false
+  unfolding rightLength
+  rightLength-long long = rw (le-leb shortestFrame (length frame) (omega arith), lt-leb _ _ long)
+
+  -- ---- frameNumber
+
+  -- a frame that is accepted is not too short
+  pub frameNumber-accepted : frameNumber frame ≡ accepted → shortestFrame ≤ length frame
+  unfolding frameNumber rightLength
+  frameNumber-accepted = go (leb shortestFrame (length frame)) refl
+    where
+      go :
+          (long : Bool) → leb shortestFrame (length frame) ≡ long
+          → frameNumber frame ≡ accepted
+          → shortestFrame ≤ length frame
+      go true long number = leb-true _ _ long
+      go false short number = let wrong : _≡_ {A = ℕ} frameLength accepted = rw short at number in absurd (omega arith)
+
+  -- ---- readFrame
+
+  pub readFrame-refused :
+      (number : ℕ) → number ≡ frameNumber frame
+      → (number ≡ accepted → ⊥)
+      → Refused number ≡ readFrame frame
+  unfolding readFrame
+  readFrame-refused number given refused = rw (← given, ne-eqb _ _ refused)
+
+  pub readFrame-code : frameNumber frame ≡ accepted → Code (frameCode frame) ≡ readFrame frame
+  unfolding readFrame
+  readFrame-code given = rw (eq-eqb _ _ given)
+
+  -- ---- numberOfRead
+
+  -- the answer says the number that the frame is refused with
+  pub numberOfRead-readFrame : numberOfRead (readFrame frame) ≡ frameNumber frame
+  unfolding readFrame
+  numberOfRead-readFrame = go (eqb (frameNumber frame) accepted) refl
+    where
+      go :
+          (none : Bool) → eqb (frameNumber frame) accepted ≡ none
+          → numberOfRead (cond none (Code (frameCode frame)) (Refused (frameNumber frame))) ≡ frameNumber frame
+      go true equal = sym (eqb-true _ _ equal)
+      go false _ = refl

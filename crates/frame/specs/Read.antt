@@ -1,0 +1,70 @@
+-- Document 01, "ESMC frame" and rows 8 to 13 of "Numbers of refusal": what reading a frame answers.
+-- Cited by `src/lib.rt`. Nothing here says how the octets are gone through.
+-- Assumes nothing.
+use Prim.Native.Nat.{ℕ}
+use mathlib.Core.Bool.{Bool, cond, not, _&&_}
+use mathlib.Core.List.{List}
+use lib.Dec.{eqb, leb}
+use lib.ListN.{length}
+use Rattle.numbers.specs.Refusal.{accepted, frameLength, frameDestination, frameProtocol, frameOrganisation, frameVersion, frameTlv}
+use Rattle.frame.specs.declared.FrameRead.{FrameRead}
+use Rattle.frame.specs.declared.FrameRead.the-variants.{Code, Refused}
+use Rattle.frame.specs.declared.Heard.{Heard}
+use Rattle.frame.specs.Octets.{shortestFrame, longestFrame, octet, octets, destination, protocol, organisation, version, tlv, upperHalf, lowerHalf, same}
+
+-- "Lengths are without FCS: 60 to 1,514 octets"
+unfoldable pub rightLength : List ℕ → Bool
+rightLength frame = leb shortestFrame (length frame) && leb (length frame) longestFrame
+
+-- "destination 01-80-C2-00-00-02"
+unfoldable pub rightDestination : List ℕ → Bool
+rightDestination frame = same (octets frame 1 6) destination
+
+-- "13-14 88-09; 15 0A"
+unfoldable pub rightProtocol : List ℕ → Bool
+rightProtocol frame = same (octets frame 13 15) protocol
+
+-- "16-18 00-19-A7; 19-20 00-01"
+unfoldable pub rightOrganisation : List ℕ → Bool
+rightOrganisation frame = same (octets frame 16 20) organisation
+
+-- "21 upper half version 1"
+unfoldable pub rightVersion : List ℕ → Bool
+rightVersion frame = eqb (upperHalf (octet frame 21)) version
+
+-- "25 type 01; 26-27 length 00-04"
+unfoldable pub rightTlv : List ℕ → Bool
+rightTlv frame = same (octets frame 25 27) tlv
+
+-- "The smallest number that applies is given"; 0 accepted
+unfoldable pub frameNumber : List ℕ → ℕ
+frameNumber frame =
+    cond (not (rightLength frame)) frameLength
+    (cond (not (rightDestination frame)) frameDestination
+    (cond (not (rightProtocol frame)) frameProtocol
+    (cond (not (rightOrganisation frame)) frameOrganisation
+    (cond (not (rightVersion frame)) frameVersion
+    (cond (not (rightTlv frame)) frameTlv
+    accepted)))))
+
+-- "28 upper half unused, lower half the code"
+abbrev pub frameCode : List ℕ → ℕ
+frameCode frame = lowerHalf (octet frame 28)
+
+-- the code of a frame that is accepted, the number of one that is refused
+unfoldable pub readFrame : List ℕ → FrameRead
+readFrame frame = cond (eqb (frameNumber frame) accepted) (Code (frameCode frame)) (Refused (frameNumber frame))
+
+-- the number that each answer says: 0 accepted
+abbrev pub numberOfRead : FrameRead → ℕ
+numberOfRead (Code code) = accepted
+numberOfRead (Refused number) = number
+
+-- the code that each answer says: 0 where the frame is refused
+abbrev pub codeOfRead : FrameRead → ℕ
+codeOfRead (Code code) = code
+codeOfRead (Refused number) = 0
+
+-- what is heard by a frame: number and code of its reading
+abbrev pub hear : List ℕ → Heard
+hear frame = record { number = numberOfRead (readFrame frame); code = codeOfRead (readFrame frame) }
