@@ -19,6 +19,7 @@ use Rattle.decision.specs.declared.Switch.{Switch}
 use Rattle.decision.specs.declared.Switch.the-variants as W
 use Rattle.selector.specs.State.{candidateFor}
 use Rattle.selector.proofs.Filled.{filled, filled-turn}
+use Rattle.selector.proofs.Ports.{port-number}
 use Rattle.selector.specs.Answer.{noInput, freeRun, holdover, locked, manualIneligible, selectedCandidate, switchFails, clockState, clockQuality, outgoingCode, selectedNumber, switchNumber, switchInput, codeFor, ports}
 
 -- ---- getD
@@ -181,22 +182,6 @@ pub ruleset switchNumber-laws = (switchNumber-nothing, switchNumber-forced, swit
 pub ruleset switchInput-laws = (switchInput-nothing, switchInput-forced, switchInput-manual)
 
 -- ---- codeFor
-
-numbersFrom : ℕ → ℕ → List ℕ
-numbersFrom first zero = []
-numbersFrom first (suc count) = first ∷ numbersFrom (suc first) count
-
-numbersFrom-at : (first count number : ℕ) → number < count → getD (numbersFrom first count) number 0 ≡ first + number
-unfolding numbersFrom
-numbersFrom-at first zero number h = absurd (omega arith)
-numbersFrom-at first (suc count) zero h = omega arith
-numbersFrom-at first (suc count) (suc number) h =
-    let e : suc first + number ≡ first + suc number = omega arith in numbersFrom-at (suc first) count number (omega arith) ∙ e
-
--- the ports are their own numbers
-pub port-number : (port : ℕ) → port < 16 → getD ports port 0 ≡ port
-unfolding numbersFrom
-port-number port h = let e : 0 + port ≡ port = omega arith in numbersFrom-at 0 16 port h ∙ e
 
 -- a turn of the loop over the ports
 pub codeFor-turn : (inputs : List Input) (mode : Bool) (selected code port : ℕ) (into now : List ℕ) (told : ℕ) (zeroed : Input)

@@ -1,0 +1,472 @@
+-- After any sequence of events the state is what the recorded events and the choices made say. Assumes nothing.
+use Prim.Native.Nat.{ℕ, zero, suc, _+_, _≤_, _<_}
+use mathlib.Core.Bool.{Bool, true, false, not, _&&_, _||_, cond, and-false, true≢false, false≢true}
+use mathlib.Core.List.{List, [], _∷_, map}
+use mathlib.Core.Path.{_≡_, refl, sym, _∙_, ap, subst, fun-ext}
+use native.Mathlib.Omega.{arith}
+use lib.Dec.{eqb, leb}
+use lib.ListN.{getD, set}
+use borrow.Author.Tests.{eqb-true, eqb-false, eq-eqb, ne-eqb, le-leb, lt-leb}
+use Rattle.numbers.specs.declared.Event.{Event}
+use Rattle.numbers.specs.declared.Priority.{Priority}
+use Rattle.numbers.specs.declared.Quality.{Quality}
+use Rattle.numbers.specs.Kind.{kindTick, kindQualityMode, kindClearWait}
+use Rattle.numbers.specs.Refusal.{accepted, frameTlv}
+use Rattle.frame.specs.Read.{readFrame}
+use Rattle.run.proofs.Laws.{byBool}
+use Rattle.input.specs.declared.Input.{Input}
+use Rattle.input.specs.declared.Settings.{Settings}
+use Rattle.input.specs.Recorded.{History, isOn, lastArgument, modeOn, priorityOf, isLocked, timeOf, passedAt, Ordered}
+use Rattle.input.specs.Record.{freshInput, heardAfter, settingsAfter, settle, tick, afterEvent, passedOf, takes, recordAfter}
+use Rattle.input.specs.Demand2.{tickEvent}
+use Rattle.input.proofs.Recalled.{settingsBy, settings-recalled}
+use Rattle.input.proofs.Demand2.{passed-tick, passed-now, takes-other, takes-tick, demand-2-tick-adds-nothing}
+use Rattle.choice.specs.declared.Candidate.{Candidate}
+use Rattle.choice.specs.Candidate.{candidateOf}
+use Rattle.decision.specs.declared.Decision.{Decision}
+use Rattle.decision.specs.declared.Switch.{Switch}
+use Rattle.decision.specs.Decision.{decide}
+use Rattle.decision.specs.Choices.{ChoiceMoment, Choices, commanded, decidedOver}
+use Rattle.selector.specs.declared.Selector.{Selector}
+use Rattle.selector.specs.State.{freshSelector, candidateFor, candidatesOf, withDecision, decided, broughtTo, ticked}
+use Rattle.selector.specs.Answer.{ports}
+use Rattle.selector.proofs.Ports.{butAt, set-ports, getD-ports}
+use Rattle.events.specs.declared.Stepped.{Stepped}
+use Rattle.events.specs.Refusals.{earlyRefusal, lateRefusal, ethernetAt}
+use Rattle.events.specs.Step.{heldArgument, inputAfter, inputsAfter, modeAfter, recordedArgument, recordedEvent, placed, stepped, earlyNumber, lateNumber, stepRead, step}
+use Rattle.events.specs.Sequence.{Given, Sequence, stateAfter, numberAfter, byNumber, asRecorded, recorded, candidateBy, candidatesBy, tickChoice, eventChoice, choicesOf}
+use Rattle.events.specs.Demand3.{MadeAt}
+use Rattle.events.proofs.Refused.{early-most, late-above, accepted-time, accepted-input, accepted-mode, accepted-argument}
+
+-- ---- the records of sixteen inputs
+
+-- the records after the recorded events
+abbrev pub records : History → List Input
+records history = map (λ (number : ℕ). recordAfter number history) ports
+
+-- the records after the recorded events, brought to a time
+abbrev pub recordsAt : History → ℕ → List Input
+recordsAt history time = map (λ (number : ℕ). tick (recordAfter number history) time (modeOn history)) ports
+
+-- two functions that agree at each number agree on the list of ports
+ports-alike : {A : Type 0} (f g : ℕ → A) → ((number : ℕ) → f number ≡ g number) → map f ports ≡ map g ports
+ports-alike f g alike = ap (λ (h : ℕ → _). map h ports) (fun-ext alike)
+
+-- ---- candidates
+
+tick-settings : (input : Input) (time : ℕ) (mode : Bool) → tick input time mode .settings ≡ input .settings
+unfolding tick
+tick-settings input time mode = refl
+
+-- what a choice looks at, of a record whose passed quality and settings are those of the recorded events
+candidate-recorded : (number time : ℕ) (history : History) (input : Input) → passedOf input ≡ passedAt number history time
+    → input .settings ≡ settingsBy number history → candidateFor (modeOn history) input ≡ candidateBy history time number
+unfolding candidateFor candidateBy settingsBy
+candidate-recorded number time history input passed settings =
+    rw (passed, settings) refl
+
+-- the candidates of the records brought to a time are those of the recorded events
+pub candidates-at : (history : History) (time : ℕ) → Ordered history → timeOf history ≤ time
+    → candidatesOf (recordsAt history time) (modeOn history) ≡ candidatesBy history time
+candidates-at history time ordered later =
+    ports-alike (λ (number : ℕ). candidateFor (modeOn history) (tick (recordAfter number history) time (modeOn history)))
+    (candidateBy history time)
+    (λ number. candidate-recorded number time history (tick (recordAfter number history) time (modeOn history))
+    (passed-tick number history time ordered later)
+    (tick-settings (recordAfter number history) time (modeOn history) ∙ settings-recalled number history))
+
+-- the same at the time of the last event
+pub candidates-now : (history : History) → Ordered history
+    → candidatesOf (records history) (modeOn history) ≡ candidatesBy history (timeOf history)
+candidates-now history ordered =
+    ports-alike (λ (number : ℕ). candidateFor (modeOn history) (recordAfter number history)) (candidateBy history (timeOf history))
+    (λ number. candidate-recorded number (timeOf history) history (recordAfter number history) (passed-now number history ordered)
+    (settings-recalled number history))
+
+-- ---- one event taken by sixteen inputs
+
+-- the quality mode that the recorded events say
+mode-after : (event : Event) (history : History) → (event .kind ≡ kindQualityMode → event .input ≡ 0)
+    → modeAfter (event .kind) (event .argument) (modeOn history) ≡ modeOn (event ∷ history)
+unfolding modeAfter lastArgument isOn
+mode-after event history zeroed =
+    byBool (eqb (event .kind) kindQualityMode)
+    (λ e. let k : eqb (event .input) 0 ≡ true = eq-eqb (event .input) 0 (zeroed (eqb-true (event .kind) kindQualityMode e)) in rw (e, k))
+    (λ e. rw (e, and-false))
+
+-- an event that sets the mode is a moment to every input
+takes-mode : (number : ℕ) (event : Event) (mode : Bool) (input : Input) → event .kind ≡ kindQualityMode
+    → settle input (event .time) mode false ≡ takes number event mode input
+unfolding takes afterEvent heardAfter settingsAfter
+takes-mode number event mode input e =
+    byBool (eqb (event .input) number) (λ k. rw (k, e)) (λ k. rw k)
+
+-- an event that does not set the mode leaves it
+mode-kept : (event : Event) (history : History) → eqb (event .kind) kindQualityMode ≡ false → modeOn (event ∷ history) ≡ modeOn history
+unfolding lastArgument isOn
+mode-kept event history e = rw (e, and-false)
+
+-- the event's own input takes it
+takes-own : (event : Event) (history : History) → event .input < 16 → heldArgument (event .kind) (event .argument) ≡ event .argument
+    → afterEvent (getD (recordsAt history (event .time)) (event .input) freshInput) (event .kind)
+    (heldArgument (event .kind) (event .argument))
+    (event .time)
+    (modeOn (event ∷ history)) ≡
+    recordAfter (event .input) (event ∷ history)
+unfolding recordAfter takes
+takes-own event history inside whole =
+    let k : eqb (event .input) (event .input) ≡ true = eq-eqb (event .input) (event .input) refl in
+    rw k
+    (ap
+    (λ (argument : ℕ). afterEvent (getD (recordsAt history (event .time)) (event .input) freshInput) (event .kind) argument (event .time)
+    (modeOn (event ∷ history)))
+    whole ∙
+    ap (λ (input : Input). afterEvent input (event .kind) (event .argument) (event .time) (modeOn (event ∷ history)))
+    (getD-ports (λ (number : ℕ). tick (recordAfter number history) (event .time) (modeOn history)) freshInput (event .input) inside))
+
+-- all inputs after an event are the records of the recorded events
+pub inputs-after : (event : Event) (history : History) → Ordered history → timeOf history ≤ event .time → event .input < 16
+    → (event .kind ≡ kindQualityMode → event .input ≡ 0) → heldArgument (event .kind) (event .argument) ≡ event .argument
+    → inputsAfter (recordsAt history (event .time)) event (modeOn (event ∷ history)) ≡ records (event ∷ history)
+unfolding inputsAfter recordAfter inputAfter
+inputs-after event history ordered later inside zeroed whole =
+    byBool (eqb (event .kind) kindQualityMode)
+    (λ e. rw e
+    (ports-alike
+    (λ (number : ℕ). settle (tick (recordAfter number history) (event .time) (modeOn history)) (event .time) (modeOn (event ∷ history)) false)
+    (λ (number : ℕ). recordAfter number (event ∷ history))
+    (λ number. takes-mode number event (modeOn (event ∷ history)) (tick (recordAfter number history) (event .time) (modeOn history))
+    (eqb-true (event .kind) kindQualityMode e))))
+    (λ e. rw e
+    (set-ports before own (event .input) inside ∙
+    ports-alike (butAt before own (event .input)) (λ (number : ℕ). recordAfter number (event ∷ history)) (λ number. one e number)))
+  where
+    before : ℕ → Input
+    before number = tick (recordAfter number history) (event .time) (modeOn history)
+
+    own : Input
+    own =
+        afterEvent (getD (recordsAt history (event .time)) (event .input) freshInput) (event .kind)
+        (heldArgument (event .kind) (event .argument))
+        (event .time)
+        (modeOn (event ∷ history))
+
+    one : eqb (event .kind) kindQualityMode ≡ false → (number : ℕ)
+        → butAt before own (event .input) number ≡ recordAfter number (event ∷ history)
+    one e number =
+        byBool (eqb number (event .input))
+        (λ k. rw k
+        (takes-own event history inside whole ∙
+        ap (λ (other : ℕ). recordAfter other (event ∷ history)) (sym (eqb-true number (event .input) k))))
+        (λ k. rw k
+        (sym
+        (takes-other number event history ordered later
+        (ne-eqb (event .input) number (λ same. eqb-false number (event .input) k (sym same)))
+        (mode-kept event history e))))
+
+-- ---- a tick, and then the event
+
+-- what a state agrees with: the recorded events and the choices made
+pub record Agrees (state : Selector) (history : History) (choices : Choices) : Type 0 where
+  pub ordered : Ordered history
+  pub time : state .time ≡ timeOf history
+  pub inputs : state .inputs ≡ records history
+  pub mode : state .mode ≡ modeOn history
+  pub switch : state .switch ≡ decidedOver choices .switch
+  pub selection : state .selection ≡ decidedOver choices .selection
+  pub held : state .held ≡ decidedOver choices .held
+  pub made : MadeAt history (timeOf history) choices
+
+-- a state decided on the candidates of a choice
+decided-choice : (state : Selector) (choice : ChoiceMoment) (earlier : Choices)
+    → candidatesOf (state .inputs) (state .mode) ≡ choice .candidates
+    → state .switch ≡ commanded (choice .kind) (choice .on) (decidedOver earlier .switch)
+    → state .selection ≡ decidedOver earlier .selection → state .held ≡ decidedOver earlier .held
+    → decided state ≡ withDecision state (decidedOver (choice ∷ earlier))
+unfolding decided decidedOver
+decided-choice state choice earlier c s l h = rw (c, s, l, h)
+
+-- what a tick leaves
+pub record TickAgrees (state : Selector) (history : History) (time : ℕ) (choices : Choices) : Type 0 where
+  pub brought : state .time ≡ time
+  pub inputs : state .inputs ≡ recordsAt history time
+  pub mode : state .mode ≡ modeOn history
+  pub switch : state .switch ≡ decidedOver (tickChoice history time ∷ choices) .switch
+  pub selection : state .selection ≡ decidedOver (tickChoice history time ∷ choices) .selection
+  pub held : state .held ≡ decidedOver (tickChoice history time ∷ choices) .held
+
+-- the inputs brought to a time are the records brought there
+brought-inputs : (inputs : List Input) (history : History) (time : ℕ) (mode : Bool) → inputs ≡ records history → mode ≡ modeOn history
+    → map (λ (input : Input). tick input time mode) inputs ≡ recordsAt history time
+brought-inputs inputs history time mode i m = rw (i, m) refl
+
+-- a tick commands nothing
+tick-command : (switch : Switch) → switch ≡ commanded kindTick 0 switch
+unfolding commanded
+tick-command switch = refl
+
+pub tick-agrees : (state : Selector) (history : History) (time : ℕ) (choices : Choices) → Agrees state history choices
+    → timeOf history ≤ time → TickAgrees (ticked state time) history time choices
+unfolding ticked
+tick-agrees state history time choices agrees later =
+    let i : broughtTo state time .inputs ≡ recordsAt history time =
+    brought-inputs (state .inputs) history time (state .mode) (agrees .inputs) (agrees .mode)
+    in
+    let c : candidatesOf (broughtTo state time .inputs) (broughtTo state time .mode) ≡ candidatesBy history time =
+    ap (λ (inputs : List Input). candidatesOf inputs (state .mode)) i ∙
+    ap (λ (mode : Bool). candidatesOf (recordsAt history time) mode) (agrees .mode) ∙
+    candidates-at history time (agrees .ordered) later
+    in
+    let d : decided (broughtTo state time) ≡ withDecision (broughtTo state time) (decidedOver (tickChoice history time ∷ choices)) =
+    decided-choice (broughtTo state time) (tickChoice history time) choices c (agrees .switch ∙ tick-command (decidedOver choices .switch)) (agrees .selection)
+    (agrees .held)
+    in
+    record {
+      brought = ap (λ (s : Selector). s .time) d;
+      inputs = ap (λ (s : Selector). s .inputs) d ∙ i;
+      mode = ap (λ (s : Selector). s .mode) d ∙ agrees .mode;
+      switch = ap (λ (s : Selector). s .switch) d;
+      selection = ap (λ (s : Selector). s .selection) d;
+      held = ap (λ (s : Selector). s .held) d;
+    }
+
+candidate-tick : (history : History) (time number : ℕ) → passedAt number (tickEvent time ∷ history) time ≡ passedAt number history time
+    → candidateBy history time number ≡ candidateBy (tickEvent time ∷ history) time number
+unfolding candidateBy lastArgument isOn
+candidate-tick history time number same = rw (same, and-false)
+
+-- a tick recorded changes nothing that a choice sees
+candidates-tick : (history : History) (time : ℕ) → Ordered history → timeOf history ≤ time
+    → candidatesBy history time ≡ candidatesBy (tickEvent time ∷ history) time
+candidates-tick history time ordered later =
+    ports-alike (candidateBy history time) (candidateBy (tickEvent time ∷ history) time) (λ number. one number)
+  where
+    one : (number : ℕ) → candidateBy history time number ≡ candidateBy (tickEvent time ∷ history) time number
+    one number = candidate-tick history time number (demand-2-tick-adds-nothing number history time time ordered later (omega arith))
+
+-- a refusal 14 to 17 leaves what a tick leaves
+pub late-agrees : (state : Selector) (history : History) (time : ℕ) (choices : Choices) → Ordered history → timeOf history ≤ time
+    → TickAgrees state history time choices → Agrees state (tickEvent time ∷ history) (tickChoice history time ∷ choices)
+late-agrees state history time choices ordered later agrees =
+    record {
+      ordered = (later, ordered);
+      time = agrees .brought;
+      inputs =
+          agrees .inputs ∙
+          ports-alike (λ (number : ℕ). tick (recordAfter number history) time (modeOn history))
+          (λ (number : ℕ). recordAfter number (tickEvent time ∷ history))
+          (λ number. sym (takes-tick number history time ordered later));
+      mode = agrees .mode ∙ sym (mode-kept (tickEvent time) history refl);
+      switch = agrees .switch;
+      selection = agrees .selection;
+      held = agrees .held;
+      made = candidates-tick history time ordered later;
+    }
+
+-- an accepted event leaves what the recorded events say
+pub placed-agrees : (state : Selector) (history : History) (event : Event) (choices : Choices) → Ordered history
+    → timeOf history ≤ event .time → event .input < 16 → (event .kind ≡ kindQualityMode → event .input ≡ 0)
+    → heldArgument (event .kind) (event .argument) ≡ event .argument → TickAgrees state history (event .time) choices
+    → Agrees (placed state event) (event ∷ history)
+    (eventChoice history event ∷ (tickChoice history (event .time) ∷ choices))
+unfolding placed
+placed-agrees state history event choices ordered later inside zeroed whole agrees =
+    let m : modeAfter (event .kind) (event .argument) (state .mode) ≡ modeOn (event ∷ history) =
+    ap (λ (mode : Bool). modeAfter (event .kind) (event .argument) mode) (agrees .mode) ∙ mode-after event history zeroed
+    in
+    let i : inputsAfter (state .inputs) event (modeAfter (event .kind) (event .argument) (state .mode)) ≡ records (event ∷ history) =
+    ap (λ (inputs : List Input). inputsAfter inputs event (modeAfter (event .kind) (event .argument) (state .mode))) (agrees .inputs) ∙
+    ap (λ (mode : Bool). inputsAfter (recordsAt history (event .time)) event mode) m ∙
+    inputs-after event history ordered later inside zeroed whole
+    in
+    let next : Selector =
+    record {
+      inputs = inputsAfter (state .inputs) event (modeAfter (event .kind) (event .argument) (state .mode));
+      time = state .time;
+      switch = commanded (event .kind) (event .input) (state .switch);
+      selection = state .selection;
+      mode = modeAfter (event .kind) (event .argument) (state .mode);
+      held = state .held;
+    }
+    in
+    let c : candidatesOf (next .inputs) (next .mode) ≡ candidatesBy (event ∷ history) (event .time) =
+    ap (λ (inputs : List Input). candidatesOf inputs (next .mode)) i ∙
+    ap (λ (mode : Bool). candidatesOf (records (event ∷ history)) mode) m ∙
+    candidates-now (event ∷ history) (later, ordered)
+    in
+    let d : decided next ≡
+    withDecision next (decidedOver (eventChoice history event ∷ (tickChoice history (event .time) ∷ choices))) =
+    decided-choice next (eventChoice history event) (tickChoice history (event .time) ∷ choices) c
+    (ap (λ (switch : Switch). commanded (event .kind) (event .input) switch) (agrees .switch))
+    (agrees .selection)
+    (agrees .held)
+    in
+    record {
+      ordered = (later, ordered);
+      time = ap (λ (s : Selector). s .time) d ∙ agrees .brought;
+      inputs = ap (λ (s : Selector). s .inputs) d ∙ i;
+      mode = ap (λ (s : Selector). s .mode) d ∙ m;
+      switch = ap (λ (s : Selector). s .switch) d;
+      selection = ap (λ (s : Selector). s .selection) d;
+      held = ap (λ (s : Selector). s .held) d;
+      made = refl;
+    }
+
+-- ---- any sequence
+
+-- the three ways of a step, with the number that each answers
+pub step-early : (state : Selector) (event : Event) (frame : List ℕ) → (earlyNumber state event (readFrame frame) ≡ accepted → ⊥)
+    → step state event frame ≡ stepped (earlyNumber state event (readFrame frame)) state
+unfolding step stepRead
+step-early state event frame given = rw (ne-eqb _ _ given)
+
+pub step-late : (state : Selector) (event : Event) (frame : List ℕ) → earlyNumber state event (readFrame frame) ≡ accepted
+    → (lateNumber (ticked state (event .time)) event ≡ accepted → ⊥)
+    → step state event frame ≡ stepped (lateNumber (ticked state (event .time)) event) (ticked state (event .time))
+unfolding step stepRead
+step-late state event frame none given = rw (none, ne-eqb _ _ given)
+
+pub step-accepted : (state : Selector) (event : Event) (frame : List ℕ) → earlyNumber state event (readFrame frame) ≡ accepted
+    → lateNumber (ticked state (event .time)) event ≡ accepted
+    → step state event frame ≡
+    stepped accepted (placed (ticked state (event .time)) (recordedEvent event (readFrame frame)))
+unfolding step stepRead
+step-accepted state event frame none later = rw (none, later)
+
+module _ {A : Type 0} (number : ℕ) (x y z : A) where
+  byNumber-accepted : number ≡ accepted → byNumber number x y z ≡ x
+  unfolding byNumber
+  byNumber-accepted e = rw (eq-eqb number accepted e)
+
+  byNumber-early : (number ≡ accepted → ⊥) → number ≤ frameTlv → byNumber number x y z ≡ y
+  unfolding byNumber
+  byNumber-early n h = rw (ne-eqb number accepted n, le-leb number frameTlv h)
+
+  byNumber-late : frameTlv < number → byNumber number x y z ≡ z
+  unfolding byNumber
+  byNumber-late h = let n : number ≡ accepted → ⊥ = λ e. omega arith in rw (ne-eqb number accepted n, lt-leb number frameTlv h)
+
+-- a number is accepted or not
+accepted-or-not : {C : Type 0} (number : ℕ) → (number ≡ accepted → C) → ((number ≡ accepted → ⊥) → C) → C
+accepted-or-not number here other =
+    byBool (eqb number accepted) (λ e. here (eqb-true number accepted e)) (λ e. other (eqb-false number accepted e))
+
+agrees-as : (state state' : Selector) (history history' : History) (choices choices' : Choices) → state' ≡ state → history' ≡ history
+    → choices' ≡ choices → Agrees state history choices → Agrees state' history' choices'
+agrees-as state state' history history' choices choices' s h c agrees = rw (s, h, c) agrees
+
+-- a fresh selector
+fresh-agrees : Agrees (stateAfter []) (recorded []) (choicesOf [])
+unfolding stateAfter recorded choicesOf recordAfter decidedOver lastArgument
+fresh-agrees = record { ordered = tt; time = refl; inputs = refl; mode = refl; switch = refl; selection = refl; held = refl; made = tt }
+
+module _ (given : Given) (earlier : Sequence) where
+  -- what the event before its tick, and after it, is refused with
+  abbrev early : ℕ
+  early = earlyNumber (stateAfter earlier) (given .event) (readFrame (given .frame))
+
+  abbrev brought : Selector
+  brought = ticked (stateAfter earlier) (given .event .time)
+
+  abbrev late : ℕ
+  late = lateNumber brought (given .event)
+
+  after-state : stateAfter (given ∷ earlier) ≡ step (stateAfter earlier) (given .event) (given .frame) .state
+  unfolding stateAfter
+  after-state = refl
+
+  after-number : numberAfter given earlier ≡ step (stateAfter earlier) (given .event) (given .frame) .number
+  unfolding numberAfter
+  after-number = refl
+
+  after-recorded : recorded (given ∷ earlier) ≡
+      byNumber (numberAfter given earlier) (asRecorded given ∷ recorded earlier) (recorded earlier)
+      (tickEvent (given .event .time) ∷ recorded earlier)
+  unfolding recorded
+  after-recorded = refl
+
+  after-choices : choicesOf (given ∷ earlier) ≡
+      byNumber (numberAfter given earlier)
+      (eventChoice (recorded earlier) (asRecorded given) ∷
+      (tickChoice (recorded earlier) (given .event .time) ∷ choicesOf earlier))
+      (choicesOf earlier)
+      (tickChoice (recorded earlier) (given .event .time) ∷ choicesOf earlier)
+  unfolding choicesOf
+  after-choices = refl
+
+  -- an event refused before its tick
+  after-early : (early ≡ accepted → ⊥) → Agrees (stateAfter earlier) (recorded earlier) (choicesOf earlier)
+      → Agrees (stateAfter (given ∷ earlier)) (recorded (given ∷ earlier)) (choicesOf (given ∷ earlier))
+  after-early refused agrees =
+      let s : step (stateAfter earlier) (given .event) (given .frame) ≡ stepped early (stateAfter earlier) =
+      step-early (stateAfter earlier) (given .event) (given .frame) refused
+      in
+      let n : numberAfter given earlier ≡ early = after-number ∙ ap (λ (x : Stepped). x .number) s in
+      let positive : numberAfter given earlier ≡ accepted → ⊥ = λ e. refused (sym n ∙ e) in
+      let most : numberAfter given earlier ≤ frameTlv =
+      subst (λ (x : ℕ). x ≤ frameTlv) (sym n)
+      (early-most (stateAfter earlier .time) (ethernetAt (stateAfter earlier .inputs) (given .event .input)) (given .event) (given .frame))
+      in
+      agrees-as _ _ _ _ _ _ (after-state ∙ ap (λ (x : Stepped). x .state) s)
+      (after-recorded ∙ byNumber-early (numberAfter given earlier) _ _ _ positive most)
+      (after-choices ∙ byNumber-early (numberAfter given earlier) _ _ _ positive most)
+      agrees
+
+  -- an event that gets past its tick
+  module _ (none : early ≡ accepted) (agrees : Agrees (stateAfter earlier) (recorded earlier) (choicesOf earlier)) where
+    ethernet : Bool
+    ethernet = ethernetAt (stateAfter earlier .inputs) (given .event .input)
+
+    later : timeOf (recorded earlier) ≤ given .event .time
+    unfolding ethernet
+    later =
+        subst (λ (x : ℕ). x ≤ given .event .time) (agrees .time)
+        (accepted-time (stateAfter earlier .time) ethernet (given .event) (given .frame) none)
+
+    tick-left : TickAgrees brought (recorded earlier) (given .event .time) (choicesOf earlier)
+    tick-left = tick-agrees (stateAfter earlier) (recorded earlier) (given .event .time) (choicesOf earlier) agrees later
+
+    -- refused after the tick
+    after-late : (late ≡ accepted → ⊥)
+        → Agrees (stateAfter (given ∷ earlier)) (recorded (given ∷ earlier)) (choicesOf (given ∷ earlier))
+    after-late refused =
+        let s : step (stateAfter earlier) (given .event) (given .frame) ≡ stepped late brought =
+        step-late (stateAfter earlier) (given .event) (given .frame) none refused
+        in
+        let n : numberAfter given earlier ≡ late = after-number ∙ ap (λ (x : Stepped). x .number) s in
+        let above : frameTlv < numberAfter given earlier =
+        subst (λ (x : ℕ). frameTlv < x) (sym n)
+        (late-above (candidatesOf (brought .inputs) (brought .mode)) (brought .switch) (given .event .kind) (given .event .input) refused)
+        in
+        agrees-as _ _ _ _ _ _ (after-state ∙ ap (λ (x : Stepped). x .state) s)
+        (after-recorded ∙ byNumber-late (numberAfter given earlier) _ _ _ above)
+        (after-choices ∙ byNumber-late (numberAfter given earlier) _ _ _ above)
+        (late-agrees brought (recorded earlier) (given .event .time) (choicesOf earlier) (agrees .ordered) later tick-left)
+
+    -- accepted
+    after-accepted : late ≡ accepted
+        → Agrees (stateAfter (given ∷ earlier)) (recorded (given ∷ earlier)) (choicesOf (given ∷ earlier))
+    unfolding ethernet
+    after-accepted taken =
+        let s : step (stateAfter earlier) (given .event) (given .frame) ≡ stepped accepted (placed brought (asRecorded given)) =
+        step-accepted (stateAfter earlier) (given .event) (given .frame) none taken
+        in
+        let n : numberAfter given earlier ≡ accepted = after-number ∙ ap (λ (x : Stepped). x .number) s in
+        agrees-as _ _ _ _ _ _ (after-state ∙ ap (λ (x : Stepped). x .state) s)
+        (after-recorded ∙ byNumber-accepted (numberAfter given earlier) _ _ _ n)
+        (after-choices ∙ byNumber-accepted (numberAfter given earlier) _ _ _ n)
+        (placed-agrees brought (recorded earlier) (asRecorded given) (choicesOf earlier) (agrees .ordered) later
+        (accepted-input (stateAfter earlier .time) ethernet (given .event) (given .frame) none)
+        (accepted-mode (stateAfter earlier .time) ethernet (given .event) (given .frame) none)
+        (accepted-argument (stateAfter earlier .time) ethernet (given .event) (given .frame) none)
+        tick-left)
+
+-- after any sequence of events, refused ones included
+pub sequence-agrees : (sequence : Sequence) → Agrees (stateAfter sequence) (recorded sequence) (choicesOf sequence)
+sequence-agrees [] = fresh-agrees
+sequence-agrees (given ∷ earlier) =
+    accepted-or-not (early given earlier)
+    (λ none. accepted-or-not (late given earlier)
+    (λ taken. after-accepted given earlier none (sequence-agrees earlier) taken)
+    (λ refused. after-late given earlier none (sequence-agrees earlier) refused))
+    (λ refused. after-early given earlier refused (sequence-agrees earlier))
