@@ -1,0 +1,3 @@
+-- Lowercase hexadecimal: digits and what they stand for; what the scans of the code have passed.
+pub mod Digits
+pub mod Scan
