@@ -13,7 +13,11 @@ use Rattle.choice.specs.Candidate.{nobody, isEligible, eligibleAmong, betterAmo
 use Rattle.choice.specs.Choice.{choose}
 use Rattle.decision.specs.declared.Switch.{Switch}
 use Rattle.decision.specs.declared.Switch.the-variants as W
-use Rattle.decision.specs.Decision.{manualStands, judged, selectedBy, isLocked, isHeld}
+use Rattle.decision.specs.declared.Decision.{Decision}
+use Rattle.decision.specs.Decision.{manualStands, judged, selectedBy, isLocked, isHeld, decide}
+
+abbrev pub decision : Switch → Selection → Bool → Decision
+decision switch selection held = record { switch = switch; selection = selection; held = held }
 
 -- ---- manualStands
 
@@ -107,3 +111,12 @@ unfolding isHeld
 isHeld-before held locked e = rw e
 
 pub ruleset isHeld-laws = (isHeld-now, isHeld-before)
+
+-- ---- decide
+
+pub decide-made : (candidates : List Candidate) (switch : Switch) (before : Selection) (held : Bool) (standing : Switch)
+    (selection : Selection) (locked ever : Bool) → standing ≡ judged candidates switch
+    → selection ≡ selectedBy candidates standing before → locked ≡ isLocked candidates selection → ever ≡ isHeld held locked
+    → decision standing selection ever ≡ decide candidates switch before held
+unfolding decide
+decide-made candidates switch before held standing selection locked ever s l k e = rw (e, k, l, s)

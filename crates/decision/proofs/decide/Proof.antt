@@ -1,6 +1,6 @@
--- `decision::decide` meets its contract: it is the definition, call by call.
+-- `decision::decide` meets its contract: the law of its one way.
 -- Assumes nothing.
-use Rattle.decision.specs.Decision.{decide}
+use Rattle.decision.proofs.Laws.{decide-made}
 use borrow.Author.Needs.{needs}
 use Rattle.decision.proofs.decide.Statement.{statement}
 use Rattle.decision.proofs.decide.Tie as tie
@@ -18,8 +18,7 @@ is-held-requires : tie.Need-is-held-requires
 is-held-requires c κs = search needs
 
 returns : tie.Need-returns
-unfolding decide
-returns c = cc
+returns c = search decide-made
 
 pub decide-spec : {M : Type 1} → statement M
 decide-spec =
