@@ -239,67 +239,34 @@ pub ruleset recordedArgument-laws = (recordedArgument-code, recordedArgument-ref
 
 -- a byte that is told as 0 or 1 does what it does itself
 module _ (input : Input) (byte time : ℕ) (mode : Bool) where
-  flag-signal : afterEvent input kindSignal (flag (not (eqb byte 0))) time mode ≡ afterEvent input kindSignal byte time mode
+  pub flag-signal : afterEvent input kindSignal (flag (not (eqb byte 0))) time mode ≡ afterEvent input kindSignal byte time mode
   unfolding afterEvent heardAfter settingsAfter
   flag-signal = byBool (eqb byte 0) (λ e. rw e) (λ e. rw e)
 
-  flag-lockout : afterEvent input kindLockout (flag (not (eqb byte 0))) time mode ≡ afterEvent input kindLockout byte time mode
+  pub flag-lockout : afterEvent input kindLockout (flag (not (eqb byte 0))) time mode ≡ afterEvent input kindLockout byte time mode
   unfolding afterEvent heardAfter settingsAfter
   flag-lockout = byBool (eqb byte 0) (λ e. rw e) (λ e. rw e)
 
-  flag-sending : afterEvent input kindSending (flag (not (eqb byte 0))) time mode ≡ afterEvent input kindSending byte time mode
+  pub flag-sending : afterEvent input kindSending (flag (not (eqb byte 0))) time mode ≡ afterEvent input kindSending byte time mode
   unfolding afterEvent heardAfter settingsAfter
   flag-sending = byBool (eqb byte 0) (λ e. rw e) (λ e. rw e)
 
-  flag-kind : afterEvent input kindInputKind (flag (not (eqb byte 0))) time mode ≡ afterEvent input kindInputKind byte time mode
+  pub flag-kind : afterEvent input kindInputKind (flag (not (eqb byte 0))) time mode ≡ afterEvent input kindInputKind byte time mode
   unfolding afterEvent heardAfter settingsAfter
   flag-kind = byBool (eqb byte 0) (λ e. rw e) (λ e. rw e)
 
-module _ (input : Input) (kind argument byte time : ℕ) (mode : Bool) (after : Input) where
-  pub inputAfter-signal : kind ≡ kindSignal → byte ≡ octet argument
-      → after ≡ afterEvent input kindSignal (flag (not (eqb byte 0))) time mode → after ≡ inputAfter input kind argument time mode
+module _ (input : Input) (kind argument byte time : ℕ) (mode : Bool) (after : Input) (known : ℕ) where
+  -- a kind whose argument is a byte
+  pub inputAfter-byte : kind ≡ known → eqb known kindHoldoff ≡ false → byte ≡ octet argument
+      → after ≡ afterEvent input known byte time mode → after ≡ inputAfter input kind argument time mode
   unfolding inputAfter heldArgument
-  inputAfter-signal k b a = a ∙ flag-signal input byte time mode ∙ (rw (k, b))
+  inputAfter-byte k h b a = a ∙ (rw (k, h, b))
 
-  pub inputAfter-frame : kind ≡ kindFrame → byte ≡ octet argument → after ≡ afterEvent input kindFrame byte time mode
-      → after ≡ inputAfter input kind argument time mode
-  unfolding inputAfter heldArgument
-  inputAfter-frame k b a = a ∙ (rw (k, b))
-
-  pub inputAfter-code : kind ≡ kindLineCode → byte ≡ octet argument → after ≡ afterEvent input kindLineCode byte time mode
-      → after ≡ inputAfter input kind argument time mode
-  unfolding inputAfter heldArgument
-  inputAfter-code k b a = a ∙ (rw (k, b))
-
-  pub inputAfter-priority : kind ≡ kindPriority → byte ≡ octet argument → after ≡ afterEvent input kindPriority byte time mode
-      → after ≡ inputAfter input kind argument time mode
-  unfolding inputAfter heldArgument
-  inputAfter-priority k b a = a ∙ (rw (k, b))
-
-  pub inputAfter-lockout : kind ≡ kindLockout → byte ≡ octet argument
-      → after ≡ afterEvent input kindLockout (flag (not (eqb byte 0))) time mode → after ≡ inputAfter input kind argument time mode
-  unfolding inputAfter heldArgument
-  inputAfter-lockout k b a = a ∙ flag-lockout input byte time mode ∙ (rw (k, b))
-
-  pub inputAfter-wait : kind ≡ kindWait → byte ≡ octet argument → after ≡ afterEvent input kindWait byte time mode
-      → after ≡ inputAfter input kind argument time mode
-  unfolding inputAfter heldArgument
-  inputAfter-wait k b a = a ∙ (rw (k, b))
-
-  pub inputAfter-fixed : kind ≡ kindFixedQuality → byte ≡ octet argument → after ≡ afterEvent input kindFixedQuality byte time mode
-      → after ≡ inputAfter input kind argument time mode
-  unfolding inputAfter heldArgument
-  inputAfter-fixed k b a = a ∙ (rw (k, b))
-
-  pub inputAfter-sending : kind ≡ kindSending → byte ≡ octet argument
-      → after ≡ afterEvent input kindSending (flag (not (eqb byte 0))) time mode → after ≡ inputAfter input kind argument time mode
-  unfolding inputAfter heldArgument
-  inputAfter-sending k b a = a ∙ flag-sending input byte time mode ∙ (rw (k, b))
-
-  pub inputAfter-kind : kind ≡ kindInputKind → byte ≡ octet argument
-      → after ≡ afterEvent input kindInputKind (flag (not (eqb byte 0))) time mode → after ≡ inputAfter input kind argument time mode
-  unfolding inputAfter heldArgument
-  inputAfter-kind k b a = a ∙ flag-kind input byte time mode ∙ (rw (k, b))
+  -- a kind whose argument is 0 or 1
+  pub inputAfter-flag : kind ≡ known → eqb known kindHoldoff ≡ false → byte ≡ octet argument
+      → afterEvent input known (flag (not (eqb byte 0))) time mode ≡ afterEvent input known byte time mode
+      → after ≡ afterEvent input known (flag (not (eqb byte 0))) time mode → after ≡ inputAfter input kind argument time mode
+  inputAfter-flag k h b same a = inputAfter-byte k h b (a ∙ same)
 
 module _ (input : Input) (kind argument time : ℕ) (mode : Bool) (after : Input) where
   pub inputAfter-holdoff : kind ≡ kindHoldoff → after ≡ afterEvent input kindHoldoff argument time mode
@@ -335,7 +302,7 @@ inputAfter-unheard input kind argument time mode after a n1 n2 n3 n4 n5 n6 n7 n8
       ne-eqb _ _ n11,
     ))
 
-pub ruleset inputAfter-laws = (inputAfter-signal, inputAfter-frame, inputAfter-code, inputAfter-priority, inputAfter-lockout, inputAfter-wait, inputAfter-fixed, inputAfter-sending, inputAfter-kind, inputAfter-holdoff, inputAfter-clear)
+pub ruleset inputAfter-laws = (inputAfter-byte, inputAfter-flag, flag-signal, flag-lockout, flag-sending, flag-kind, inputAfter-holdoff, inputAfter-clear)
 
 -- ---- inputsAfter
 
