@@ -59,7 +59,7 @@ unfolding tick
 tick-settings input time mode = refl
 
 -- what a choice looks at, of a record whose passed quality and settings are those of the recorded events
-candidate-recorded : (number time : ℕ) (history : History) (input : Input) → passedOf input ≡ passedAt number history time
+pub candidate-recorded : (number time : ℕ) (history : History) (input : Input) → passedOf input ≡ passedAt number history time
     → input .settings ≡ settingsBy number history → candidateFor (modeOn history) input ≡ candidateBy history time number
 unfolding candidateFor candidateBy settingsBy
 candidate-recorded number time history input passed settings =

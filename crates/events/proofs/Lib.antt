@@ -3,4 +3,5 @@ pub mod Laws
 pub mod Refused
 pub mod Agrees
 pub mod Demand1
+pub mod Demand2
 pub mod Demand3

@@ -4,4 +4,5 @@ pub mod Refusals
 pub mod Step
 pub mod Sequence
 pub mod Demand1
+pub mod Demand2
 pub mod Demand3
