@@ -215,7 +215,7 @@ impl Input {
     }
 
     // How raw quality goes on if no event comes.
-    fn forecast(self, mode: bool) -> Forecast
+    pub fn forecast(self, mode: bool) -> Forecast
         ensures { λ answer. ⌜ answer ≡ forecast self mode ⌝ }
     {
         let heard = self.heard;

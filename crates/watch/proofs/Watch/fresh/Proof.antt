@@ -1,0 +1,14 @@
+-- `watch::Watch::fresh` meets its contract: it is the definition, call by call.
+-- Assumes nothing.
+use borrow.Author.Needs.{needs}
+use Rattle.watch.proofs.Watch.fresh.Statement.{statement}
+use Rattle.watch.proofs.Watch.fresh.Tie as tie
+
+fresh-requires : tie.Need-fresh-requires
+fresh-requires c κs = search needs
+
+returns : tie.Need-returns
+returns c = cc
+
+pub fresh-spec : {M : Type 1} → statement M
+fresh-spec = tie.close (tie.spec fresh-requires returns)

@@ -1,0 +1,19 @@
+-- `watch::served` meets its contract: it is the definition, call by call.
+-- Assumes nothing.
+use Rattle.watch.specs.Watch.{servedWatch}
+use borrow.Author.Needs.{needs}
+use Rattle.watch.proofs.served.Statement.{statement}
+use Rattle.watch.proofs.served.Tie as tie
+
+step-read-requires : tie.Need-step-read-requires
+step-read-requires c κs = search needs
+
+due-of-all-requires : tie.Need-due-of-all-requires
+due-of-all-requires c κs = search needs
+
+returns : tie.Need-returns
+unfolding servedWatch
+returns c = cc
+
+pub served-spec : {M : Type 1} → statement M
+served-spec = tie.close (tie.spec step-read-requires due-of-all-requires returns)

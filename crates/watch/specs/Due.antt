@@ -1,0 +1,53 @@
+-- When something is next due of an input if no event comes: a hold-off or a wait over, or a frame expired. Cited by
+-- `src/lib.rt`.
+-- Assumes nothing.
+use Prim.Native.Nat.{ℕ, zero, suc, _+_}
+use mathlib.Core.Bool.{Bool, cond}
+use mathlib.Core.List.{List}
+use lib.Dec.{leb}
+use lib.ListN.{getD}
+use Rattle.numbers.specs.Inputs.{inputCount, frameLife}
+use Rattle.run.specs.declared.Forecast.{Forecast}
+use Rattle.run.specs.declared.Run.{Run}
+use Rattle.input.specs.declared.Input.{Input}
+use Rattle.input.specs.Record.{freshInput, forecast}
+
+-- stands for a time that never comes: 2^64 - 1, the largest that 64 bits hold, where times of events are below 2^48
+abbrev pub never : ℕ
+never = 18446744073709551615
+
+-- the lesser of two times
+unfoldable pub lesser : ℕ → ℕ → ℕ
+lesser one other = cond (leb one other) one other
+
+-- a time of so many ms from a start is over, never where that is later than never
+unfoldable pub sumOrNever : ℕ → ℕ → ℕ
+sumOrNever start length = lesser (start + length) never
+
+-- a run that is not failed: "began at least the wait ago", where it is not up yet
+unfoldable pub waitDue : Bool → ℕ → ℕ → ℕ
+waitDue up start wait = cond up never (sumOrNever start wait)
+
+-- "if it came less than 5,000 ms ago", where raw quality is that of a frame
+unfoldable pub expiryDue : Bool → ℕ → ℕ
+expiryDue expires framed = cond expires (sumOrNever framed frameLife) never
+
+-- something is next due of a run
+unfoldable pub runDue : Run → Forecast → ℕ
+runDue run forecast =
+    cond (run .failed)
+    (cond (run .up) (sumOrNever (run .start) (forecast .holdoff)) never)
+    (lesser (waitDue (run .up) (run .start) (forecast .wait)) (expiryDue (forecast .expires) (forecast .framed)))
+
+-- something is next due of an input, with the quality mode in force
+unfoldable pub dueOf : Input → Bool → ℕ
+dueOf input mode = runDue (input .run) (forecast input mode)
+
+-- something is next due of any of the first `count` inputs
+unfoldable pub dueAmong : List Input → Bool → ℕ → ℕ
+dueAmong inputs mode zero = never
+dueAmong inputs mode (suc count) = lesser (dueAmong inputs mode count) (dueOf (getD inputs count freshInput) mode)
+
+-- something is next due of any of the sixteen
+abbrev pub dueOfAll : List Input → Bool → ℕ
+dueOfAll inputs mode = dueAmong inputs mode inputCount

@@ -1,0 +1,5 @@
+-- `Due`: when something is next due of an input. `Watch`: what a watch makes of an event. `Sequence`: any sequence of
+-- events, and the statement that a watch answers as the plain step does.
+pub mod Due
+pub mod Watch
+pub mod Sequence

@@ -1,0 +1,104 @@
+-- What a watch makes of an event: the plain step where something is due or the event commands, otherwise the event's
+-- own input alone. Cited by `src/lib.rt`.
+-- Assumes nothing.
+use Prim.Native.Nat.{ℕ}
+use mathlib.Core.Bool.{Bool, not, _&&_, _||_, cond}
+use mathlib.Core.List.{List}
+use mathlib.Core.Path.{_≡_}
+use lib.Dec.{eqb, leb}
+use lib.ListN.{length, getD, set}
+use Rattle.numbers.specs.declared.Event.{Event}
+use Rattle.numbers.specs.Inputs.{inputCount}
+use Rattle.numbers.specs.Kind.{kindForced, kindManual, kindClearSwitch, kindQualityMode, kindTick}
+use Rattle.numbers.specs.Refusal.{accepted}
+use Rattle.frame.specs.declared.FrameRead.{FrameRead}
+use Rattle.run.specs.Passed.{alike}
+use Rattle.input.specs.declared.Input.{Input}
+use Rattle.input.specs.Record.{freshInput, passedOf}
+use Rattle.selector.specs.declared.Selector.{Selector}
+use Rattle.selector.specs.State.{freshSelector, decided}
+use Rattle.events.specs.Step.{inputAfter, recordedArgument, earlyNumber, stepRead}
+use Rattle.watch.specs.declared.Watch.{Watch}
+use Rattle.watch.specs.Due.{never, lesser, dueOf, dueOfAll}
+
+-- how many inputs there are
+pub record InputCount (inputs : List Input) (answer : ℕ) : Type 0 where
+  pub sixteen : answer ≡ inputCount
+  pub whole : answer ≡ length inputs
+
+-- a watch by its parts
+abbrev pub watchOf : Selector → ℕ → ℕ → Watch
+watchOf state due number = record { state = state; due = due; number = number }
+
+-- a fresh state: signals fail and all inputs are down, so nothing is due
+abbrev pub freshWatch : Watch
+freshWatch = watchOf freshSelector never accepted
+
+-- the event touches more than its own input: the switch or the quality mode
+unfoldable pub commands : ℕ → Bool
+commands kind = eqb kind kindForced || eqb kind kindManual || eqb kind kindClearSwitch || eqb kind kindQualityMode
+
+-- an event is served: something is due by its time, or it commands
+unfoldable pub isServed : ℕ → ℕ → ℕ → Bool
+isServed due kind time = leb due time || commands kind
+
+-- a choice sees two records of an input alike: "passed quality", "priority", "locked"
+unfoldable pub ranksAlike : Input → Input → Bool
+ranksAlike before after =
+    eqb (passedOf before .0) (passedOf after .0) &&
+    eqb (before .settings .priority .0) (after .settings .priority .0) &&
+    alike (before .settings .locked) (after .settings .locked)
+
+-- the state at another time, with other inputs
+abbrev pub movedTo : Selector → List Input → ℕ → Selector
+movedTo state inputs time =
+    record {
+      inputs = inputs;
+      time = time;
+      switch = state .switch;
+      selection = state .selection;
+      mode = state .mode;
+      held = state .held;
+    }
+
+-- the event's own input before it
+abbrev pub ownBefore : Selector → Event → Input
+ownBefore state event = getD (state .inputs) (event .input) freshInput
+
+-- the event's own input after it
+abbrev pub ownAfter : Selector → Event → FrameRead → Input
+ownAfter state event read =
+    inputAfter (ownBefore state event) (event .kind) (recordedArgument (event .kind) (event .argument) read)
+    (event .time)
+    (state .mode)
+
+-- the state with the event's own input taken, and no choice made
+abbrev pub ownTaken : Selector → Event → FrameRead → Selector
+ownTaken state event read = movedTo state (set (state .inputs) (event .input) (ownAfter state event read)) (event .time)
+
+-- an event before anything is due that commands nothing: a tick moves the time alone; any other is taken by its own
+-- input, and a choice is made only where it would see that input otherwise than before
+unfoldable pub quickState : Selector → Event → FrameRead → Selector
+quickState state event read =
+    cond (eqb (event .kind) kindTick) (movedTo state (state .inputs) (event .time))
+    (cond (ranksAlike (ownBefore state event) (ownAfter state event read)) (ownTaken state event read)
+    (decided (ownTaken state event read)))
+
+-- something is next due after such an event
+unfoldable pub quickDue : Selector → ℕ → Event → FrameRead → ℕ
+quickDue state due event read =
+    cond (eqb (event .kind) kindTick) due (lesser due (dueOf (ownAfter state event read) (state .mode)))
+
+-- the plain step, and what is next due made anew
+unfoldable pub servedWatch : Selector → Event → FrameRead → Watch
+servedWatch state event read =
+    let after = stepRead state event read in
+    watchOf (after .state) (dueOfAll (after .state .inputs) (after .state .mode)) (after .number)
+
+-- one event: refused at once; or served, where something is due or the event commands; or quick
+unfoldable pub watchStep : Watch → Event → FrameRead → Watch
+watchStep watch event read =
+    let early = earlyNumber (watch .state) event read in
+    cond (not (eqb early accepted)) (watchOf (watch .state) (watch .due) early)
+    (cond (isServed (watch .due) (event .kind) (event .time)) (servedWatch (watch .state) event read)
+    (watchOf (quickState (watch .state) event read) (quickDue (watch .state) (watch .due) event read) accepted))
