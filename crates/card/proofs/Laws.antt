@@ -1,0 +1,106 @@
+-- The definitions of `specs/`, a law for each way through the function that meets it. Assumes nothing.
+use Prim.Native.Nat.{ℕ, _≤_, _<_}
+use mathlib.Core.Bool.{Bool}
+use mathlib.Core.List.{List, map}
+use mathlib.Core.Path.{_≡_}
+use lib.ListN.{getD}
+use borrow.Author.Tests.{eq-eqb, ne-eqb, lt-ltb, le-ltb}
+use Rattle.numbers.specs.declared.Answer.{Answer}
+use Rattle.numbers.specs.declared.InputNumber.{InputNumber}
+use Rattle.numbers.specs.Kind.{flag}
+use Rattle.numbers.specs.Refusal.{inputOutOfRange}
+use Rattle.frame.specs.declared.FrameWrite.{FrameWrite}
+use Rattle.frame.specs.Write.{WriteFrame}
+use Rattle.choice.specs.declared.Selection.{Selection}
+use Rattle.choice.specs.declared.Selection.the-variants as S
+use Rattle.decision.specs.declared.Switch.the-variants as W
+use Rattle.selector.specs.declared.Selector.{Selector}
+use Rattle.selector.specs.Answer.{answerOf, outgoingCodes}
+use Rattle.card.specs.declared.Card.{Card}
+use Rattle.card.specs.declared.CardInput.{CardInput}
+use Rattle.card.specs.Flat.{flatInput, flatAnswer, switchForced, switchManual, switchOf, selectionOf, isSelected, selectorOf, cardOf}
+use Rattle.card.specs.Card.{lastPort, portCode, numberOfWrite, WritePort}
+
+-- ---- switchOf
+
+module _ (kind : ℕ) (on : InputNumber) where
+  pub switchOf-forced : kind ≡ switchForced → W.Forced on ≡ switchOf kind on
+  unfolding switchOf
+  switchOf-forced e = rw (eq-eqb _ _ e)
+
+  pub switchOf-manual : (kind ≡ switchForced → ⊥) → kind ≡ switchManual → W.Manual on ≡ switchOf kind on
+  unfolding switchOf
+  switchOf-manual n e = rw (ne-eqb _ _ n, eq-eqb _ _ e)
+
+  pub switchOf-other : (kind ≡ switchForced → ⊥) → (kind ≡ switchManual → ⊥) → W.Nothing ≡ switchOf kind on
+  unfolding switchOf
+  switchOf-other n m = rw (ne-eqb _ _ n, ne-eqb _ _ m)
+
+pub ruleset switchOf-laws = (switchOf-forced, switchOf-manual, switchOf-other)
+
+-- ---- selectionOf, isSelected
+
+module _ (selection : ℕ) (number : InputNumber) where
+  pub selectionOf-nothing : selection ≡ 0 → S.Nothing ≡ selectionOf selection number
+  unfolding selectionOf
+  selectionOf-nothing e = rw (eq-eqb _ _ e)
+
+  pub selectionOf-at : (selection ≡ 0 → ⊥) → S.At number ≡ selectionOf selection number
+  unfolding selectionOf
+  selectionOf-at n = rw (ne-eqb _ _ n)
+
+pub ruleset selectionOf-laws = (selectionOf-nothing, selectionOf-at)
+
+module _ (selection : Selection) where
+  pub isSelected-nothing : selection ≡ S.Nothing → 0 ≡ isSelected selection
+  unfolding isSelected
+  isSelected-nothing e = rw e
+
+  pub isSelected-at : (number : InputNumber) → selection ≡ S.At number → 1 ≡ isSelected selection
+  unfolding isSelected
+  isSelected-at number e = rw e
+
+pub ruleset isSelected-laws = (isSelected-nothing, isSelected-at)
+
+-- ---- cardOf
+
+-- the card of a selector, of its inputs' numbers and its answer
+abbrev pub cardWith : List CardInput → ℕ → Answer → Selector → Card
+cardWith flat selection answer state =
+    record {
+      inputs = flat;
+      time = state .time;
+      mode = flag (state .mode);
+      held = flag (state .held);
+      switch = answer .switch;
+      on = answer .on;
+      selection = selection;
+      selected = answer .selected;
+      answer = flatAnswer answer;
+      spare = 0;
+    }
+
+pub cardOf-answered : (number : ℕ) (state : Selector) (flat : List CardInput) (selection : ℕ) (answer : Answer)
+    → flat ≡ map flatInput (state .inputs) → selection ≡ isSelected (state .selection) → answer ≡ answerOf number state
+    → cardWith flat selection answer state ≡ cardOf number state
+unfolding cardOf answerOf
+cardOf-answered number state flat selection answer f s a = rw (f, s, a)
+
+-- ---- WritePort
+
+module _ (card : Card) (port : ℕ) (event : Bool) (source before : List ℕ) where
+  pub writePort-no-port : lastPort < port → WritePort card port event source before inputOutOfRange before
+  writePort-no-port p = record { answered = rw (lt-ltb _ _ p); content = rw (lt-ltb _ _ p) }
+
+  pub writePort-port : (state : Selector) (codes : List ℕ) (written : FrameWrite) (answer : ℕ) (after : List ℕ)
+      → port ≤ lastPort → state ≡ selectorOf card → codes ≡ outgoingCodes state
+      → WriteFrame before source event (getD codes port 0) written after → answer ≡ numberOfWrite written
+      → WritePort card port event source before answer after
+  writePort-port state codes written answer after p s c w a =
+      let code : getD codes port 0 ≡ portCode card port = rw (c, s) in
+      record {
+        answered = rw (le-ltb _ _ p, a, w .answered, code);
+        content = rw (le-ltb _ _ p, w .content, code);
+      }
+
+pub ruleset writePort-laws = (writePort-no-port, writePort-port)

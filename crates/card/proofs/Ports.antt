@@ -1,0 +1,132 @@
+-- What is written for a port, whatever the card holds. Assumes nothing.
+use Prim.Native.Nat.{ℕ, zero, suc, _≤_}
+use mathlib.Core.Bool.{Bool, true, false, not, _||_, cond}
+use mathlib.Core.List.{List, [], _∷_, map}
+use mathlib.Core.Logic.{_≢_}
+use mathlib.Core.Path.{_≡_, refl, sym, _∙_}
+use native.Mathlib.Omega.{arith}
+use lib.Dec.{eqb, ltb}
+use lib.ListN.{length, getD}
+use borrow.Author.Tests.{le-ltb}
+use Rattle.numbers.specs.declared.Quality.{Quality}
+use Rattle.numbers.specs.Quality.{codeDnu, codeOfQuality}
+use Rattle.numbers.specs.Refusal.{accepted}
+use Rattle.frame.specs.declared.FrameWrite.{FrameWrite}
+use Rattle.frame.specs.declared.FrameWrite.the-variants.{Written, Refused}
+use Rattle.frame.specs.Write.{writtenLength, sourceLength, writeAnswer, contentAfter}
+use Rattle.frame.proofs.RoundTrip.{demand-2-round-trip}
+use Rattle.input.specs.declared.Input.{Input}
+use Rattle.input.specs.Record.{freshInput}
+use Rattle.run.proofs.Laws.{byBool}
+use Rattle.selector.specs.Answer.{selectedNumber, qualityOf, outgoingCode, codeFor, outgoingCodes, ports}
+use Rattle.card.specs.declared.Card.{Card}
+use Rattle.card.specs.Flat.{selectorOf}
+use Rattle.card.specs.Card.{lastPort, portCode, portWrite, numberOfWrite, WritePort}
+use Rattle.card.specs.Ports.{portNumber, PortFrame}
+
+-- ---- an outgoing code is one of the sixteen
+
+cond-small : (test : Bool) (one other : ℕ) → one ≤ 15 → other ≤ 15 → cond test one other ≤ 15
+cond-small true one other a b = a
+cond-small false one other a b = b
+
+codeOfQuality-small : (told : Quality) → codeOfQuality told ≤ 15
+unfolding codeOfQuality
+codeOfQuality-small told =
+    cond-small (eqb (told .0) 1) _ _ (omega arith)
+    (cond-small (eqb (told .0) 2) _ _ (omega arith)
+    (cond-small (eqb (told .0) 3) _ _ (omega arith)
+    (cond-small (eqb (told .0) 4) _ _ (omega arith) (omega arith))))
+
+outgoingCode-small : (mode sending selected : Bool) (code : ℕ) → code ≤ 15
+    → outgoingCode mode sending selected code ≤ 15
+unfolding outgoingCode
+outgoingCode-small mode sending selected code small =
+    cond-small (not mode || not sending || selected) codeDnu code (omega arith) small
+
+codeFor-small : (inputs : List Input) (mode : Bool) (selected : ℕ) (told : Quality) (port : ℕ)
+    → codeFor inputs mode selected (codeOfQuality told) port ≤ 15
+unfolding codeFor
+codeFor-small inputs mode selected told port =
+    outgoingCode-small mode (getD inputs port freshInput .settings .sending) (eqb selected port) _
+    (codeOfQuality-small told)
+
+getD-small : (code : ℕ → ℕ) → ((port : ℕ) → code port ≤ 15) → (list : List ℕ) (port : ℕ)
+    → getD (map code list) port 0 ≤ 15
+getD-small code small [] port = omega arith
+getD-small code small (first ∷ list) zero = small first
+getD-small code small (first ∷ list) (suc port) = getD-small code small list port
+
+-- whatever the card holds
+pub portCode-small : (card : Card) (port : ℕ) → portCode card port ≤ 15
+unfolding outgoingCodes
+portCode-small card port =
+    let state = selectorOf card in
+    getD-small _ (codeFor-small (state .inputs) (state .mode) (selectedNumber (state .selection)) (qualityOf state))
+    ports
+    port
+
+-- ---- what writing comes to
+
+-- a code that is one of the sixteen is not refused with 6
+writeAnswer-small : (before source : List ℕ) (code : ℕ) → code ≤ 15
+    → numberOfWrite (writeAnswer before source code) ≡ portNumber 0 source before
+unfolding writeAnswer
+writeAnswer-small before source code small =
+    rw (le-ltb _ _ small)
+    (byBool (eqb (length source) sourceLength)
+    (λ six. rw six (byBool (ltb (length before) writtenLength) (λ short. rw short) (λ long. rw long)))
+    (λ other. rw other))
+
+-- where no refusal applies, it is written
+writeAnswer-written : (before source : List ℕ) (code : ℕ) → code ≤ 15
+    → numberOfWrite (writeAnswer before source code) ≡ accepted → writeAnswer before source code ≡ Written
+unfolding writeAnswer
+writeAnswer-written before source code small =
+    rw (le-ltb _ _ small)
+    (byBool (eqb (length source) sourceLength)
+    (λ six.
+    rw six
+    (byBool (ltb (length before) writtenLength)
+    (λ short. rw short (λ accepts. absurd (omega arith)))
+    (λ long. rw long (λ accepts. refl))))
+    (λ other. rw other (λ accepts. absurd (omega arith))))
+
+refused-kept : (written : FrameWrite) (before source : List ℕ) (event : Bool) (code : ℕ)
+    → numberOfWrite written ≢ accepted → contentAfter written before source event code ≡ before
+refused-kept Written before source event code refused = absurd (refused refl)
+refused-kept (Refused number) before source event code refused = refl
+
+module _ (card : Card) (port : ℕ) (event : Bool) (source before : List ℕ) (answer : ℕ) (after : List ℕ)
+    (write : WritePort card port event source before answer after) where
+  -- a port that there is: what is answered, and what is left
+  there-answered : ltb lastPort port ≡ false → answer ≡ numberOfWrite (portWrite card port source before)
+  there-answered there = write .answered ∙ (rw there)
+
+  there-content : ltb lastPort port ≡ false
+      → after ≡ contentAfter (portWrite card port source before) before source event (portCode card port)
+  there-content there = write .content ∙ (rw there)
+
+  -- What is written for a port tells its outgoing code; the numbers are 5, 19 and 18, and each keeps the buffer.
+  pub port-frame : PortFrame card port source before answer after
+  port-frame =
+      byBool (ltb lastPort port)
+      (λ past.
+      record {
+        number = write .answered ∙ (rw past);
+        kept = λ refused. write .content ∙ (rw past);
+        reads = λ accepts. let five : answer ≡ 5 = write .answered ∙ (rw past) in absurd (omega arith);
+      })
+      (λ there.
+      record {
+        number = there-answered there ∙ writeAnswer-small before source _ (portCode-small card port) ∙ (rw there);
+        kept = λ refused.
+            there-content there
+            ∙ refused-kept (portWrite card port source before) before source event (portCode card port)
+            (λ accepts. refused (there-answered there ∙ accepts));
+        reads = λ accepts.
+            demand-2-round-trip before source after event (portCode card port) (portWrite card port source before)
+            (record { answered = refl; content = there-content there })
+            .front
+            (writeAnswer-written before source _ (portCode-small card port) (sym (there-answered there) ∙ accepts));
+      })

@@ -1,0 +1,69 @@
+-- What each function that C calls answers and leaves, by the selector's own definitions. Cited by `src/lib.rt`.
+-- Assumes nothing.
+use Prim.Native.Nat.{ℕ}
+use mathlib.Core.Bool.{Bool, cond}
+use mathlib.Core.List.{List}
+use mathlib.Core.Path.{_≡_}
+use lib.Dec.{ltb}
+use lib.ListN.{getD}
+use Rattle.numbers.specs.declared.Event.{Event}
+use Rattle.numbers.specs.Refusal.{accepted, inputOutOfRange}
+use Rattle.frame.specs.declared.FrameWrite.{FrameWrite}
+use Rattle.frame.specs.declared.FrameWrite.the-variants.{Written, Refused}
+use Rattle.frame.specs.Write.{writeAnswer, contentAfter}
+use Rattle.selector.specs.State.{freshSelector}
+use Rattle.selector.specs.Answer.{outgoingCodes}
+use Rattle.events.specs.declared.Stepped.{Stepped}
+use Rattle.events.specs.Step.{step}
+use Rattle.card.specs.declared.Card.{Card}
+use Rattle.card.specs.declared.CardCodes.{CardCodes}
+use Rattle.card.specs.Flat.{selectorOf, cardOf}
+
+-- "Inputs 0 to 15 are also the outgoing ports"
+abbrev pub lastPort : ℕ
+lastPort = 15
+
+-- "The selector starts at time 0, quality mode on, no switch, nothing selected"
+unfoldable pub freshCard : Card
+freshCard = cardOf accepted freshSelector
+
+-- an event, of the numbers that C gives
+abbrev pub eventOf : ℕ → ℕ → ℕ → ℕ → Event
+eventOf kind time input argument = record { kind = kind; time = time; input = input; argument = argument }
+
+-- what a step leaves, as a card
+abbrev pub steppedCard : Stepped → Card
+steppedCard stepped = cardOf (stepped .number) (stepped .state)
+
+-- the card after one event with a lent frame, with its answer
+unfoldable pub stepCard : Card → ℕ → ℕ → ℕ → ℕ → List ℕ → Card
+stepCard card kind time input argument frame =
+    steppedCard (step (selectorOf card) (eventOf kind time input argument) frame)
+
+-- "Outgoing code, for each of the sixteen ports"
+unfoldable pub cardCodes : Card → CardCodes
+cardCodes card = record { codes = outgoingCodes (selectorOf card) }
+
+-- the code that goes out of a port
+abbrev pub portCode : Card → ℕ → ℕ
+portCode card port = getD (outgoingCodes (selectorOf card)) port 0
+
+-- the number that each answer of writing says: 0 written
+abbrev pub numberOfWrite : FrameWrite → ℕ
+numberOfWrite Written = accepted
+numberOfWrite (Refused number) = number
+
+-- what writing a port's code answers
+abbrev pub portWrite : Card → ℕ → List ℕ → List ℕ → FrameWrite
+portWrite card port source before = writeAnswer before source (portCode card port)
+
+-- a frame with a port's code, written into a buffer: 5 where there is no such port, otherwise as writing has it
+pub record WritePort
+    (card : Card) (port : ℕ) (event : Bool) (source before : List ℕ) (answer : ℕ) (after : List ℕ)
+    : Type 0 where
+  pub answered :
+      answer ≡ cond (ltb lastPort port) inputOutOfRange (numberOfWrite (portWrite card port source before))
+  pub content :
+      after
+      ≡ cond (ltb lastPort port) before
+      (contentAfter (portWrite card port source before) before source event (portCode card port))

@@ -1,0 +1,143 @@
+-- The selector's state as the numbers that C holds, and back. Cited by `src/lib.rt`.
+-- Assumes nothing.
+use Prim.Native.Nat.{ℕ}
+use mathlib.Core.Bool.{Bool, not, cond}
+use mathlib.Core.List.{map}
+use lib.Dec.{eqb}
+use Rattle.numbers.specs.declared.Answer.{Answer}
+use Rattle.numbers.specs.declared.InputNumber.{InputNumber}
+use Rattle.numbers.specs.Quality.{quality}
+use Rattle.numbers.specs.Kind.{flag}
+use Rattle.input.specs.declared.Input.{Input}
+use Rattle.choice.specs.declared.Selection.{Selection}
+use Rattle.choice.specs.declared.Selection.the-variants as S
+use Rattle.decision.specs.declared.Switch.{Switch}
+use Rattle.decision.specs.declared.Switch.the-variants as W
+use Rattle.selector.specs.declared.Selector.{Selector}
+use Rattle.selector.specs.Answer.{selectedNumber, switchNumber, switchInput, answerOf}
+use Rattle.card.specs.declared.Card.{Card}
+use Rattle.card.specs.declared.CardAnswer.{CardAnswer}
+use Rattle.card.specs.declared.CardInput.{CardInput}
+
+-- a number that says yes: any but 0
+abbrev pub isSet : ℕ → Bool
+isSet number = not (eqb number 0)
+
+-- an input of the selector, of its numbers
+unfoldable pub inputOf : CardInput → Input
+inputOf flat =
+    record {
+      heard =
+          record {
+            framed = flat .framed;
+            frame = quality (flat .frame);
+            line = quality (flat .line);
+            code = flat .code;
+            count = flat .count;
+            good = isSet (flat .signal);
+          };
+      run =
+          record {
+            start = flat .start;
+            good = quality (flat .good);
+            failed = isSet (flat .failed);
+            up = isSet (flat .up);
+          };
+      settings =
+          record {
+            holdoff = flat .holdoff;
+            wait = flat .wait;
+            priority = record { 0 = flat .priority };
+            fixed = quality (flat .fixed);
+            ethernet = isSet (flat .ethernet);
+            locked = isSet (flat .locked);
+            sending = isSet (flat .sending);
+          };
+    }
+
+-- the numbers of an input; yes is 1, no is 0
+unfoldable pub flatInput : Input → CardInput
+flatInput input =
+    record {
+      framed = input .heard .framed;
+      start = input .run .start;
+      holdoff = input .settings .holdoff;
+      wait = input .settings .wait;
+      priority = input .settings .priority .0;
+      fixed = input .settings .fixed .0;
+      ethernet = flag (input .settings .ethernet);
+      locked = flag (input .settings .locked);
+      sending = flag (input .settings .sending);
+      frame = input .heard .frame .0;
+      line = input .heard .line .0;
+      code = input .heard .code;
+      count = input .heard .count;
+      signal = flag (input .heard .good);
+      good = input .run .good .0;
+      failed = flag (input .run .failed);
+      up = flag (input .run .up);
+    }
+
+-- "01 forced"
+abbrev pub switchForced : ℕ
+switchForced = 1
+
+-- "02 manual"
+abbrev pub switchManual : ℕ
+switchManual = 2
+
+-- "switch (00 none, 01 forced, 02 manual), its input", read back; any other kind is none
+unfoldable pub switchOf : ℕ → InputNumber → Switch
+switchOf kind on =
+    cond (eqb kind switchForced) (W.Forced on)
+    (cond (eqb kind switchManual) (W.Manual on)
+    W.Nothing)
+
+-- what is selected, of whether anything is and its input
+unfoldable pub selectionOf : ℕ → InputNumber → Selection
+selectionOf selection number = cond (eqb selection 0) S.Nothing (S.At number)
+
+-- 1 where an input is selected
+unfoldable pub isSelected : Selection → ℕ
+isSelected S.Nothing = 0
+isSelected (S.At number) = 1
+
+-- the selector that a card holds
+unfoldable pub selectorOf : Card → Selector
+selectorOf card =
+    record {
+      inputs = map inputOf (card .inputs);
+      time = card .time;
+      switch = switchOf (card .switch) (record { 0 = card .on });
+      selection = selectionOf (card .selection) (record { 0 = card .selected });
+      mode = isSet (card .mode);
+      held = isSet (card .held);
+    }
+
+-- the six values of an answer
+abbrev pub flatAnswer : Answer → CardAnswer
+flatAnswer answer =
+    record {
+      number = answer .number;
+      selected = answer .selected;
+      state = answer .state;
+      quality = answer .quality;
+      switch = answer .switch;
+      on = answer .on;
+    }
+
+-- the card that holds a selector, with what is answered behind a number
+unfoldable pub cardOf : ℕ → Selector → Card
+cardOf number state =
+    record {
+      inputs = map flatInput (state .inputs);
+      time = state .time;
+      mode = flag (state .mode);
+      held = flag (state .held);
+      switch = switchNumber (state .switch);
+      on = switchInput (state .switch);
+      selection = isSelected (state .selection);
+      selected = selectedNumber (state .selection);
+      answer = flatAnswer (answerOf number state);
+      spare = 0;
+    }

@@ -1,0 +1,295 @@
+/*
+ * The clock selector of a timing card, for C firmware.
+ *
+ * The firmware holds the selector's whole state as one plain struct and makes one call for each
+ * event. What each function does with any card, event, frame and buffer is proved of its code
+ * (crates/card); the library itself is what `rt staticlib card` writes, libcard.a. Words and
+ * numbers are those of document 01.
+ *
+ *     #include "nurrispane.h"
+ *     void clock_follow(uint8_t input);
+ *     void port_send(uint8_t port, const uint8_t *frame, size_t length);
+ *     static struct nurrispane_card card;
+ *
+ *     void on_start(void)
+ *     {
+ *         card = nurrispane_fresh();
+ *         nurrispane_step_in_place(&card, NURRISPANE_EVENT_PRIORITY, 0, 3, 1, NURRISPANE_NO_FRAME, 0);
+ *     }
+ *     void on_frame(uint64_t ms, uint8_t port, const uint8_t *frame, size_t length)
+ *     {
+ *         nurrispane_step_in_place(&card, NURRISPANE_EVENT_FRAME, ms, port, 0, frame, length);
+ *         if (card.answer.number == NURRISPANE_ACCEPTED)
+ *             clock_follow(card.answer.selected);
+ *     }
+ *     void on_second(uint8_t port, const uint8_t source[6])
+ *     {
+ *         uint8_t frame[NURRISPANE_FRAME_OCTETS];
+ *         if (nurrispane_write_frame(card, port, 0, source, 6, frame, sizeof frame) == 0)
+ *             port_send(port, frame, sizeof frame);
+ *     }
+ *
+ * What C owes
+ *
+ * - The card. Start from nurrispane_fresh(), and pass to each call the card that the last one
+ *   handed out, unchanged but for `answer`, which no function reads. Then the card is the selector
+ *   after those events, and all that is proved of the selector holds of it. A card is plain data
+ *   with no pointer in it: copy it, keep it, send it to a standby card of the same byte order, go
+ *   back to an older copy. A card that was filled in any other way is safe too: every field is a
+ *   plain number and every value of it is answered for, but the answers may be wrong.
+ * - Pointers. None may be NULL, also where its length is 0 (NURRISPANE_NO_FRAME is there for that).
+ *   Each must be good for as many octets as the length says, and `card` for sizeof *card. A card is
+ *   aligned to 8, as C aligns it by itself; octets need no alignment.
+ * - Ownership. Nothing is kept after a call returns: no pointer, no static data. What is lent for
+ *   writing (`card` in place, `buffer`) is nobody else's during the call and overlaps nothing else
+ *   that is lent. Calls on different cards may run at the same time; an interrupt may make calls on
+ *   a card of its own.
+ * - Time. Milliseconds from any zero, below 2^48 and never falling; else the event is refused. The
+ *   selector judges and chooses at events only: send NURRISPANE_EVENT_TICK as often as the end of a
+ *   hold-off, a wait or a frame's five seconds is to be noticed without one.
+ * - The machine. libcard.a is for x86-64 with the System V calling convention, its red zone and its
+ *   SSE2 registers included. It needs memcpy and memmove: no heap, no floating point, no operating
+ *   system. It is 18 KB of code and constants, with no data that is written. No call waits.
+ *
+ * Sizes, in bytes: a card 536, aligned to 8; an input 32; an answer 6; the codes 16. There is no
+ * padding in any of them, so cards can be compared by memcmp() and summed by a checksum.
+ *
+ * Stack, in bytes, measured from the call on, with what C passes by value: nurrispane_fresh 3,032,
+ * nurrispane_step 10,808, nurrispane_step_in_place 10,840, nurrispane_outgoing_codes 3,112,
+ * nurrispane_write_frame 3,160. tests/card measures it anew and holds it to NURRISPANE_STACK.
+ */
+#ifndef NURRISPANE_H
+#define NURRISPANE_H
+
+#include <stddef.h>
+#include <stdint.h>
+
+#ifdef __cplusplus
+extern "C" {
+#define NURRISPANE_HOLDS(fact) static_assert(fact, #fact)
+#define NURRISPANE_ALIGNMENT(type) alignof(type)
+#else
+#define NURRISPANE_HOLDS(fact) _Static_assert(fact, #fact)
+#define NURRISPANE_ALIGNMENT(type) _Alignof(type)
+#endif
+
+/* Inputs 0 to 15 are also the outgoing ports. */
+#define NURRISPANE_INPUTS 16
+
+/* Stands for no input in an answer. */
+#define NURRISPANE_NO_INPUT 255
+
+/* "We write 60 octets from a lent six-octet source address" */
+#define NURRISPANE_FRAME_OCTETS 60
+#define NURRISPANE_SOURCE_OCTETS 6
+
+/* The frame of an event that has none, with length 0. */
+#define NURRISPANE_NO_FRAME ((const uint8_t *)"")
+
+/* No call takes more stack than this. */
+#define NURRISPANE_STACK 12288
+
+/* The kinds of event, with their arguments. */
+enum nurrispane_event {
+    NURRISPANE_EVENT_SIGNAL = 0x01,        /* 0 good, 1 fail */
+    NURRISPANE_EVENT_FRAME = 0x02,         /* 0; the frame is lent */
+    NURRISPANE_EVENT_LINE_CODE = 0x03,     /* 0 to 15 */
+    NURRISPANE_EVENT_PRIORITY = 0x04,      /* 1 to 16, 1 best; 0 off */
+    NURRISPANE_EVENT_LOCKOUT = 0x05,       /* 1 set, 0 clear */
+    NURRISPANE_EVENT_HOLDOFF = 0x06,       /* 300 to 1,800 ms */
+    NURRISPANE_EVENT_WAIT = 0x07,          /* 0 to 12 minutes */
+    NURRISPANE_EVENT_FIXED_QUALITY = 0x08, /* 1 to 5; 0 none */
+    NURRISPANE_EVENT_CLEAR_WAIT = 0x09,    /* 0 */
+    NURRISPANE_EVENT_FORCED = 0x0a,        /* 0 */
+    NURRISPANE_EVENT_MANUAL = 0x0b,        /* 0 */
+    NURRISPANE_EVENT_CLEAR_SWITCH = 0x0c,  /* 0; input 0 */
+    NURRISPANE_EVENT_QUALITY_MODE = 0x0d,  /* 0 off, 1 on; input 0 */
+    NURRISPANE_EVENT_SENDING = 0x0e,       /* 0 off, 1 on */
+    NURRISPANE_EVENT_TICK = 0x0f,          /* 0; input 0 */
+    NURRISPANE_EVENT_INPUT_KIND = 0x10     /* 0 line, 1 Ethernet */
+};
+
+/*
+ * The numbers of an answer. Of those that apply to an event the smallest is given. 2 to 13 leave
+ * the state, its time included; 14 to 17 leave what a tick at the event's time leaves. Writing a
+ * frame checks 5, 19, 18, and leaves the buffer where it refuses.
+ */
+enum nurrispane_number {
+    NURRISPANE_ACCEPTED = 0,
+    NURRISPANE_REFUSED_LINE_MALFORMED = 1,        /* for programs that read logs: not given here */
+    NURRISPANE_REFUSED_KIND_UNKNOWN = 2,
+    NURRISPANE_REFUSED_TIME_TOO_LARGE = 3,        /* at or above 2^48 */
+    NURRISPANE_REFUSED_TIME_BEFORE_STATE = 4,     /* before that of the state */
+    NURRISPANE_REFUSED_INPUT_OUT_OF_RANGE = 5,    /* above 15, also a port; not 0 for 0c, 0d, 0f */
+    NURRISPANE_REFUSED_ARGUMENT_OUT_OF_RANGE = 6,
+    NURRISPANE_REFUSED_WRONG_INPUT_KIND = 7,      /* code for Ethernet, frame for a line */
+    NURRISPANE_REFUSED_FRAME_LENGTH = 8,          /* not 60 to 1,514 octets */
+    NURRISPANE_REFUSED_FRAME_DESTINATION = 9,
+    NURRISPANE_REFUSED_FRAME_PROTOCOL = 10,       /* octets 13-15 */
+    NURRISPANE_REFUSED_FRAME_ORGANISATION = 11,   /* octets 16-20 */
+    NURRISPANE_REFUSED_FRAME_VERSION = 12,
+    NURRISPANE_REFUSED_FRAME_TLV = 13,            /* octets 25-27 */
+    NURRISPANE_REFUSED_FORCED_BARRED = 14,        /* forced: input off or locked */
+    NURRISPANE_REFUSED_MANUAL_FORCED_STANDS = 15, /* manual: a forced switch stands */
+    NURRISPANE_REFUSED_MANUAL_NOT_ELIGIBLE = 16,  /* manual: input not eligible */
+    NURRISPANE_REFUSED_MANUAL_LOWER_QUALITY = 17, /* manual: an eligible input has lower quality */
+    NURRISPANE_REFUSED_BUFFER_TOO_SHORT = 18,     /* frame buffer under 60 octets */
+    NURRISPANE_REFUSED_SOURCE_NOT_SIX = 19        /* source address not six octets */
+};
+
+/* The clock states. */
+enum nurrispane_clock_state {
+    NURRISPANE_FREE_RUN = 0,
+    NURRISPANE_HOLDOVER = 1,
+    NURRISPANE_LOCKED = 2,
+    NURRISPANE_MANUAL_INELIGIBLE = 3
+};
+
+/* The operator's switch. */
+enum nurrispane_switch {
+    NURRISPANE_SWITCH_NONE = 0,
+    NURRISPANE_SWITCH_FORCED = 1,
+    NURRISPANE_SWITCH_MANUAL = 2
+};
+
+/*
+ * Qualities, lower is better: 1 PRC, 2 SSU-A, 3 SSU-B, 4 SEC, 5 DNU, 6 invalid, 7 failed, 0 not
+ * told.
+ */
+
+/* One input: to be read if need be, never to be written. A yes is 1, a no is 0. */
+struct nurrispane_input {
+    uint64_t framed;  /* when the last recorded frame came, ms */
+    uint64_t start;   /* when the present run began, ms */
+    uint16_t holdoff; /* ms */
+    uint8_t wait;     /* minutes */
+    uint8_t priority; /* 1 to 16; 0 off */
+    uint8_t fixed;    /* fixed quality; 0 none */
+    uint8_t ethernet; /* its kind: 1 Ethernet, 0 line */
+    uint8_t locked;   /* lockout */
+    uint8_t sending;  /* SSM sending */
+    uint8_t frame;    /* the quality that the last recorded frame said */
+    uint8_t line;     /* the quality that the last code to come three times in a row said */
+    uint8_t code;     /* the last code recorded */
+    uint8_t count;    /* how often in a row, 3 for any more */
+    uint8_t signal;   /* the signal: 1 good, 0 failing */
+    uint8_t good;     /* the last raw quality that was not 7 */
+    uint8_t failed;   /* the present run is failed */
+    uint8_t up;       /* the last down or up moment was up */
+};
+
+/* The answer to an event, the six bytes of an answer line. */
+struct nurrispane_answer {
+    uint8_t number;        /* NURRISPANE_ACCEPTED, or the number of the refusal */
+    uint8_t selected;      /* the selected input, or NURRISPANE_NO_INPUT */
+    uint8_t clock_state;   /* enum nurrispane_clock_state */
+    uint8_t clock_quality; /* 1 to 4; 0 with quality mode off */
+    uint8_t switch_kind;   /* enum nurrispane_switch */
+    uint8_t switch_input;  /* its input, or NURRISPANE_NO_INPUT */
+};
+
+/* The selector's whole state, and the answer to the last event. Only `answer` is the firmware's. */
+struct nurrispane_card {
+    struct nurrispane_input inputs[NURRISPANE_INPUTS];
+    uint64_t time;        /* of the last event that was not refused with 2 to 13, ms */
+    uint8_t mode;         /* quality mode */
+    uint8_t held;         /* the clock has been locked after some choice */
+    uint8_t switch_kind;  /* enum nurrispane_switch */
+    uint8_t switch_input; /* its input; 255 with no switch */
+    uint8_t selection;    /* 1 where an input is selected */
+    uint8_t selected;     /* that input; 255 with none */
+    struct nurrispane_answer answer;
+    uint32_t spare;       /* 0 */
+};
+
+/* The codes that go out of ports 0 to 15, each 0 to 15. */
+struct nurrispane_codes {
+    uint8_t codes[NURRISPANE_INPUTS];
+};
+
+/*
+ * A fresh card: time 0, quality mode on, no switch, nothing selected; each input a line with
+ * priority 0, hold-off 300 ms, wait 5 minutes, sending on, its signal failing. Its answer is that
+ * of an accepted event on such a state: 00 ff 00 04 00 ff.
+ */
+struct nurrispane_card nurrispane_fresh(void);
+
+/*
+ * One event: the card after it, with its answer. `kind`, `time`, `input` and `argument` may be any
+ * numbers. `frame` is looked at for NURRISPANE_EVENT_FRAME alone: the received frame from its
+ * destination address on, without FCS. A refused event has its number in `answer.number`; the five
+ * other values of the answer are always those of the card that is handed out.
+ */
+struct nurrispane_card nurrispane_step(struct nurrispane_card card, uint8_t kind, uint64_t time,
+                                       uint8_t input, uint16_t argument, const uint8_t *frame,
+                                       size_t frame_length);
+
+/* The same in place: `*card` becomes what nurrispane_step() hands out, also where it refuses. */
+void nurrispane_step_in_place(struct nurrispane_card *card, uint8_t kind, uint64_t time,
+                              uint8_t input, uint16_t argument, const uint8_t *frame,
+                              size_t frame_length);
+
+/*
+ * The codes that go out of the sixteen ports, for lines as well as for frames: 15, do not use, if
+ * quality mode is off, if the port's sending is off, or if it is the selected input; otherwise the
+ * code of the clock quality.
+ */
+struct nurrispane_codes nurrispane_outgoing_codes(struct nurrispane_card card);
+
+/*
+ * Writes the ESMC frame that tells `port`'s outgoing code into the first 60 octets of `buffer`,
+ * without FCS; what is in the buffer past these stays. `event` is the frame's event flag: 0 no, any
+ * other yes. Answers NURRISPANE_ACCEPTED; or, in this order, and the buffer stays as it was:
+ * NURRISPANE_REFUSED_INPUT_OUT_OF_RANGE for a port above 15, NURRISPANE_REFUSED_SOURCE_NOT_SIX,
+ * NURRISPANE_REFUSED_BUFFER_TOO_SHORT.
+ */
+uint8_t nurrispane_write_frame(struct nurrispane_card card, uint8_t port, uint8_t event,
+                               const uint8_t *source, size_t source_length, uint8_t *buffer,
+                               size_t buffer_length);
+
+/* The layout that the library was built with. */
+NURRISPANE_HOLDS(sizeof(struct nurrispane_input) == 32);
+NURRISPANE_HOLDS(offsetof(struct nurrispane_input, framed) == 0);
+NURRISPANE_HOLDS(offsetof(struct nurrispane_input, start) == 8);
+NURRISPANE_HOLDS(offsetof(struct nurrispane_input, holdoff) == 16);
+NURRISPANE_HOLDS(offsetof(struct nurrispane_input, wait) == 18);
+NURRISPANE_HOLDS(offsetof(struct nurrispane_input, priority) == 19);
+NURRISPANE_HOLDS(offsetof(struct nurrispane_input, fixed) == 20);
+NURRISPANE_HOLDS(offsetof(struct nurrispane_input, ethernet) == 21);
+NURRISPANE_HOLDS(offsetof(struct nurrispane_input, locked) == 22);
+NURRISPANE_HOLDS(offsetof(struct nurrispane_input, sending) == 23);
+NURRISPANE_HOLDS(offsetof(struct nurrispane_input, frame) == 24);
+NURRISPANE_HOLDS(offsetof(struct nurrispane_input, line) == 25);
+NURRISPANE_HOLDS(offsetof(struct nurrispane_input, code) == 26);
+NURRISPANE_HOLDS(offsetof(struct nurrispane_input, count) == 27);
+NURRISPANE_HOLDS(offsetof(struct nurrispane_input, signal) == 28);
+NURRISPANE_HOLDS(offsetof(struct nurrispane_input, good) == 29);
+NURRISPANE_HOLDS(offsetof(struct nurrispane_input, failed) == 30);
+NURRISPANE_HOLDS(offsetof(struct nurrispane_input, up) == 31);
+NURRISPANE_HOLDS(sizeof(struct nurrispane_answer) == 6);
+NURRISPANE_HOLDS(offsetof(struct nurrispane_answer, number) == 0);
+NURRISPANE_HOLDS(offsetof(struct nurrispane_answer, selected) == 1);
+NURRISPANE_HOLDS(offsetof(struct nurrispane_answer, clock_state) == 2);
+NURRISPANE_HOLDS(offsetof(struct nurrispane_answer, clock_quality) == 3);
+NURRISPANE_HOLDS(offsetof(struct nurrispane_answer, switch_kind) == 4);
+NURRISPANE_HOLDS(offsetof(struct nurrispane_answer, switch_input) == 5);
+NURRISPANE_HOLDS(sizeof(struct nurrispane_card) == 536);
+NURRISPANE_HOLDS(offsetof(struct nurrispane_card, inputs) == 0);
+NURRISPANE_HOLDS(offsetof(struct nurrispane_card, time) == 512);
+NURRISPANE_HOLDS(offsetof(struct nurrispane_card, mode) == 520);
+NURRISPANE_HOLDS(offsetof(struct nurrispane_card, held) == 521);
+NURRISPANE_HOLDS(offsetof(struct nurrispane_card, switch_kind) == 522);
+NURRISPANE_HOLDS(offsetof(struct nurrispane_card, switch_input) == 523);
+NURRISPANE_HOLDS(offsetof(struct nurrispane_card, selection) == 524);
+NURRISPANE_HOLDS(offsetof(struct nurrispane_card, selected) == 525);
+NURRISPANE_HOLDS(offsetof(struct nurrispane_card, answer) == 526);
+NURRISPANE_HOLDS(offsetof(struct nurrispane_card, spare) == 532);
+NURRISPANE_HOLDS(NURRISPANE_ALIGNMENT(struct nurrispane_card) == 8);
+NURRISPANE_HOLDS(sizeof(struct nurrispane_codes) == 16);
+
+#undef NURRISPANE_HOLDS
+#undef NURRISPANE_ALIGNMENT
+#ifdef __cplusplus
+}
+#endif
+#endif

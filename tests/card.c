@@ -1,0 +1,413 @@
+/*
+ * Holds the library to include/nurrispane.h: every field lies where the header says, the two forms
+ * of a step agree, a refusal keeps what it must, any card is safe, frames are written as they are
+ * read, and no call takes more stack than the header says. tests/card builds and runs it.
+ */
+#include <stdio.h>
+#include <stdlib.h>
+#include <string.h>
+#include <ucontext.h>
+
+#include "nurrispane.h"
+
+#define RANDOM_EVENTS 100000
+#define RANDOM_CARDS 20000
+
+static unsigned long checks;
+
+#define CHECK(fact) check(fact, #fact, __LINE__)
+
+static void check(int fact, const char *text, int line)
+{
+    checks++;
+    if (!fact) {
+        printf("tests/card.c:%d: not so: %s\n", line, text);
+        exit(1);
+    }
+}
+
+/* ---- random numbers, the same in every run */
+
+static uint64_t seed = 88172645463325252u;
+
+static uint64_t random_number(void)
+{
+    seed ^= seed << 13;
+    seed ^= seed >> 7;
+    seed ^= seed << 17;
+    return seed;
+}
+
+static unsigned below(unsigned limit)
+{
+    return (unsigned)(random_number() >> 16) % limit;
+}
+
+static int same(const struct nurrispane_card *one, const struct nurrispane_card *other)
+{
+    return memcmp(one, other, sizeof *one) == 0;
+}
+
+/* ---- the fields */
+
+static void check_fresh(void)
+{
+    struct nurrispane_card card;
+
+    memset(&card, 0xa5, sizeof card);
+    card = nurrispane_fresh();
+    for (int i = 0; i < NURRISPANE_INPUTS; i++) {
+        const struct nurrispane_input *input = &card.inputs[i];
+
+        CHECK(input->framed == 0 && input->start == 0);
+        CHECK(input->holdoff == 300 && input->wait == 5 && input->priority == 0);
+        CHECK(input->fixed == 0 && input->ethernet == 0 && input->locked == 0);
+        CHECK(input->sending == 1 && input->frame == 7 && input->line == 7);
+        CHECK(input->code == 0 && input->count == 0 && input->signal == 0);
+        CHECK(input->good == 7 && input->failed == 1 && input->up == 0);
+    }
+    CHECK(card.time == 0 && card.mode == 1 && card.held == 0);
+    CHECK(card.switch_kind == NURRISPANE_SWITCH_NONE);
+    CHECK(card.switch_input == NURRISPANE_NO_INPUT);
+    CHECK(card.selection == 0 && card.selected == NURRISPANE_NO_INPUT && card.spare == 0);
+    CHECK(card.answer.number == NURRISPANE_ACCEPTED);
+    CHECK(card.answer.selected == NURRISPANE_NO_INPUT);
+    CHECK(card.answer.clock_state == NURRISPANE_FREE_RUN && card.answer.clock_quality == 4);
+    CHECK(card.answer.switch_kind == NURRISPANE_SWITCH_NONE);
+    CHECK(card.answer.switch_input == NURRISPANE_NO_INPUT);
+}
+
+static struct nurrispane_card card;
+
+/* An event in place, and by value beside it. */
+static void event(uint8_t kind, uint64_t time, uint8_t input, uint16_t argument)
+{
+    struct nurrispane_card next =
+        nurrispane_step(card, kind, time, input, argument, NURRISPANE_NO_FRAME, 0);
+
+    nurrispane_step_in_place(&card, kind, time, input, argument, NURRISPANE_NO_FRAME, 0);
+    CHECK(same(&card, &next));
+}
+
+/* Each field is led to a value that no other has, so that two exchanged would be noticed. */
+static void check_fields(void)
+{
+    static const uint8_t source[NURRISPANE_SOURCE_OCTETS] = {0x02, 0, 0, 0, 0, 1};
+    uint8_t frame[NURRISPANE_FRAME_OCTETS];
+    const struct nurrispane_input *line = &card.inputs[3], *ethernet = &card.inputs[9];
+
+    card = nurrispane_fresh();
+    event(NURRISPANE_EVENT_PRIORITY, 10, 3, 7);
+    event(NURRISPANE_EVENT_HOLDOFF, 20, 3, 1800);
+    event(NURRISPANE_EVENT_WAIT, 30, 3, 12);
+    event(NURRISPANE_EVENT_SENDING, 40, 3, 0);
+    CHECK(line->priority == 7 && line->holdoff == 1800 && line->wait == 12 && line->sending == 0);
+    event(NURRISPANE_EVENT_SIGNAL, 1000, 3, 0);
+    CHECK(line->signal == 1 && line->failed == 1 && line->start == 0);
+    event(NURRISPANE_EVENT_LINE_CODE, 1100, 3, 4);
+    event(NURRISPANE_EVENT_LINE_CODE, 1101, 3, 4);
+    CHECK(line->code == 4 && line->count == 2 && line->line == 7 && line->good == 7);
+    event(NURRISPANE_EVENT_LINE_CODE, 1102, 3, 4);
+    CHECK(line->code == 4 && line->count == 3 && line->line == 2 && line->good == 2);
+    CHECK(line->failed == 0 && line->up == 0 && line->start == 1102 && line->framed == 0);
+    event(NURRISPANE_EVENT_LINE_CODE, 1200, 3, 8);
+    CHECK(line->code == 8 && line->count == 1 && line->line == 2 && line->frame == 7);
+    event(NURRISPANE_EVENT_FIXED_QUALITY, 1300, 3, 3);
+    CHECK(line->fixed == 3 && line->good == 3 && line->locked == 0 && line->ethernet == 0);
+    event(NURRISPANE_EVENT_LOCKOUT, 1400, 3, 1);
+    CHECK(line->locked == 1);
+    event(NURRISPANE_EVENT_LOCKOUT, 1500, 3, 0);
+
+    event(NURRISPANE_EVENT_INPUT_KIND, 2000, 9, 1);
+    event(NURRISPANE_EVENT_SIGNAL, 2100, 9, 0);
+    event(NURRISPANE_EVENT_PRIORITY, 2200, 9, 2);
+    CHECK(ethernet->ethernet == 1 && ethernet->signal == 1 && ethernet->priority == 2);
+    /* a fresh card tells SEC: the frame says 4 */
+    CHECK(nurrispane_write_frame(nurrispane_fresh(), 0, 1, source, sizeof source, frame,
+                                 sizeof frame) == NURRISPANE_ACCEPTED);
+    nurrispane_step_in_place(&card, NURRISPANE_EVENT_FRAME, 2345, 9, 0, frame, sizeof frame);
+    CHECK(card.answer.number == NURRISPANE_ACCEPTED);
+    CHECK(ethernet->framed == 2345 && ethernet->start == 2345 && ethernet->frame == 4);
+    CHECK(ethernet->line == 7 && ethernet->good == 4 && ethernet->up == 0);
+    event(NURRISPANE_EVENT_CLEAR_WAIT, 2400, 9, 0);
+    CHECK(ethernet->up == 1 && ethernet->failed == 0 && ethernet->start == 2345);
+    CHECK(card.time == 2400 && card.selection == 1 && card.selected == 9 && card.held == 1);
+    CHECK(card.answer.selected == 9 && card.answer.clock_state == NURRISPANE_LOCKED);
+    CHECK(card.answer.clock_quality == 4 && card.switch_kind == NURRISPANE_SWITCH_NONE);
+
+    event(NURRISPANE_EVENT_MANUAL, 2500, 9, 0);
+    CHECK(card.switch_kind == NURRISPANE_SWITCH_MANUAL && card.switch_input == 9);
+    CHECK(card.answer.switch_kind == NURRISPANE_SWITCH_MANUAL && card.answer.switch_input == 9);
+    event(NURRISPANE_EVENT_FORCED, 2600, 3, 0);
+    CHECK(card.switch_kind == NURRISPANE_SWITCH_FORCED && card.switch_input == 3);
+    CHECK(card.selected == 3 && card.answer.selected == 3);
+    CHECK(card.answer.clock_state == NURRISPANE_HOLDOVER && card.mode == 1);
+    event(NURRISPANE_EVENT_QUALITY_MODE, 2700, 0, 0);
+    CHECK(card.mode == 0 && card.answer.clock_quality == 0 && card.time == 2700);
+    event(NURRISPANE_EVENT_TICK, 2699, 0, 0);
+    CHECK(card.answer.number == NURRISPANE_REFUSED_TIME_BEFORE_STATE && card.time == 2700);
+    CHECK(card.answer.selected == 3 && card.answer.switch_input == 3);
+    event(NURRISPANE_EVENT_PRIORITY, 2800, 3, 0);
+    event(NURRISPANE_EVENT_PRIORITY, 2900, 9, 0);
+    CHECK(card.selection == 0 && card.selected == NURRISPANE_NO_INPUT && card.held == 1);
+}
+
+/* ---- what is written for a port */
+
+static void check_frames(void)
+{
+    static const uint8_t head[] = {0x01, 0x80, 0xc2, 0, 0, 2, 2, 4, 6, 8, 10, 12,
+                                   0x88, 0x09, 0x0a, 0, 0x19, 0xa7, 0, 1};
+    static const uint8_t tlv[] = {1, 0, 4};
+    const uint8_t *source = head + 6;
+    uint8_t buffer[64], kept[64];
+    struct nurrispane_codes outgoing;
+
+    memset(kept, 0xa5, sizeof kept);
+    card = nurrispane_fresh();
+    event(NURRISPANE_EVENT_SENDING, 5, 6, 0);
+    outgoing = nurrispane_outgoing_codes(card);
+    for (unsigned port = 0; port < 256; port++) {
+        for (unsigned flag = 0; flag < 3; flag++) {
+            uint8_t number;
+
+            memcpy(buffer, kept, sizeof buffer);
+            number = nurrispane_write_frame(card, (uint8_t)port, (uint8_t)(flag * 100), source, 6,
+                                            buffer, sizeof buffer);
+            if (port >= NURRISPANE_INPUTS) {
+                CHECK(number == NURRISPANE_REFUSED_INPUT_OUT_OF_RANGE);
+                CHECK(memcmp(buffer, kept, sizeof buffer) == 0);
+                continue;
+            }
+            CHECK(number == NURRISPANE_ACCEPTED);
+            CHECK(memcmp(buffer, head, sizeof head) == 0);
+            CHECK(buffer[20] == (flag ? 0x18 : 0x10));
+            CHECK(buffer[21] == 0 && buffer[22] == 0 && buffer[23] == 0);
+            CHECK(memcmp(buffer + 24, tlv, sizeof tlv) == 0);
+            CHECK(buffer[27] == (port == 6 ? 15 : 11) && buffer[27] == outgoing.codes[port]);
+            for (int i = 28; i < 60; i++)
+                CHECK(buffer[i] == 0);
+            CHECK(memcmp(buffer + 60, kept + 60, 4) == 0);
+        }
+    }
+    memcpy(buffer, kept, sizeof buffer);
+    CHECK(nurrispane_write_frame(card, 16, 0, source, 5, buffer, 59) ==
+          NURRISPANE_REFUSED_INPUT_OUT_OF_RANGE);
+    for (size_t length = 0; length < 10; length++)
+        CHECK(nurrispane_write_frame(card, 1, 0, head, length, buffer, length == 6 ? 59 : 20) ==
+              (length == 6 ? NURRISPANE_REFUSED_BUFFER_TOO_SHORT
+                           : NURRISPANE_REFUSED_SOURCE_NOT_SIX));
+    CHECK(memcmp(buffer, kept, sizeof buffer) == 0);
+}
+
+/* ---- any events, any cards */
+
+struct call {
+    uint8_t kind, input;
+    uint16_t argument;
+    uint64_t time;
+    uint8_t frame[80];
+    size_t frame_length;
+};
+
+/* An event that is often in range, on a card; a frame that is often right. */
+static struct call any_call(const struct nurrispane_card *from)
+{
+    static const uint8_t source[NURRISPANE_SOURCE_OCTETS] = {2, 0, 0, 0, 0, 7};
+    static const uint16_t arguments[] = {0, 0, 0, 1, 1, 2, 4, 8, 11, 15, 300, 1800, 65535};
+    struct call call;
+
+    call.kind = (uint8_t)(below(50) ? below(17) : below(256));
+    call.input = (uint8_t)(below(20) ? below(4) : below(256));
+    call.argument = arguments[below(sizeof arguments / sizeof *arguments)];
+    call.time = from->time + (below(30) ? below(400) : below(400000));
+    if (below(40) == 0)
+        call.time = random_number() >> below(64);
+    if (below(8) == 0 && call.kind >= 0x0c)
+        call.input = 0;
+    call.frame_length = 0;
+    if (call.kind == NURRISPANE_EVENT_FRAME) {
+        memset(call.frame, 0, sizeof call.frame);
+        CHECK(nurrispane_write_frame(*from, call.input % 16, (uint8_t)below(2), source, 6,
+                                     call.frame, sizeof call.frame) == NURRISPANE_ACCEPTED);
+        call.frame[27] = (uint8_t)arguments[below(11)];
+        call.frame_length = below(20) ? 60 + below(21) : below(81);
+        if (below(10) == 0)
+            call.frame[below(28)] ^= (uint8_t)(1 << below(8));
+        if (below(4))
+            call.argument = 0;
+    }
+    return call;
+}
+
+static struct nurrispane_card stepped(struct nurrispane_card from, const struct call *call)
+{
+    return nurrispane_step(from, call->kind, call->time, call->input, call->argument, call->frame,
+                           call->frame_length);
+}
+
+static void check_events(void)
+{
+    unsigned long numbers[20] = {0};
+
+    card = nurrispane_fresh();
+    for (int i = 0; i < RANDOM_EVENTS; i++) {
+        struct call call = any_call(&card);
+        struct nurrispane_card before = card, next = stepped(card, &call);
+
+        nurrispane_step_in_place(&card, call.kind, call.time, call.input, call.argument,
+                                 call.frame, call.frame_length);
+        CHECK(same(&card, &next));
+        CHECK(card.answer.number < 18);
+        numbers[card.answer.number]++;
+        if (card.answer.number >= 2 && card.answer.number <= 13) {
+            before.answer = card.answer;
+            CHECK(same(&card, &before));
+        } else {
+            CHECK(card.time == call.time);
+        }
+        CHECK(card.selected == card.answer.selected);
+        CHECK(card.switch_kind == card.answer.switch_kind);
+        CHECK(card.switch_input == card.answer.switch_input);
+        if (card.time > 0xf00000000000)
+            card = nurrispane_fresh();
+    }
+    for (int number = 2; number < 18; number++)
+        CHECK(numbers[number] > 0);
+}
+
+/* A card of any bytes: nothing is promised of the answers, but all are as if it were a state. */
+static void check_cards(void)
+{
+    for (int i = 0; i < RANDOM_CARDS; i++) {
+        struct nurrispane_card wild, next, place;
+        struct nurrispane_codes outgoing;
+        struct call call;
+
+        for (size_t at = 0; at < sizeof wild; at++)
+            ((uint8_t *)&wild)[at] = (uint8_t)(below(3) ? below(20) : below(256));
+        call = any_call(&wild);
+        place = wild;
+        next = stepped(wild, &call);
+        nurrispane_step_in_place(&place, call.kind, call.time, call.input, call.argument,
+                                 call.frame, call.frame_length);
+        CHECK(same(&place, &next));
+        outgoing = nurrispane_outgoing_codes(wild);
+        for (int port = 0; port < NURRISPANE_INPUTS; port++) {
+            const struct nurrispane_input *input = &next.inputs[port];
+
+            CHECK(outgoing.codes[port] < 16);
+            CHECK(input->ethernet < 2 && input->locked < 2 && input->sending < 2);
+            CHECK(input->signal < 2 && input->failed < 2 && input->up < 2);
+        }
+        CHECK(next.mode < 2 && next.held < 2 && next.selection < 2 && next.spare == 0);
+        CHECK(next.switch_kind < 3);
+    }
+}
+
+/* ---- stack: a call is run on a painted stack, and the lowest byte that changed is looked for */
+
+#define STACK_SIZE 65536
+#define PAINT 0x5a
+
+static uint8_t stack[STACK_SIZE] __attribute__((aligned(16)));
+static ucontext_t here, there;
+static struct call stack_call;
+static struct nurrispane_card stack_card;
+static struct nurrispane_codes stack_codes;
+static uint8_t stack_frame[NURRISPANE_FRAME_OCTETS];
+
+static void run_nothing(void)
+{
+}
+
+static void run_fresh(void)
+{
+    stack_card = nurrispane_fresh();
+}
+
+static void run_step(void)
+{
+    stack_card = nurrispane_step(card, stack_call.kind, stack_call.time, stack_call.input,
+                                 stack_call.argument, stack_call.frame, stack_call.frame_length);
+}
+
+static void run_step_in_place(void)
+{
+    nurrispane_step_in_place(&stack_card, stack_call.kind, stack_call.time, stack_call.input,
+                             stack_call.argument, stack_call.frame, stack_call.frame_length);
+}
+
+static void run_codes(void)
+{
+    stack_codes = nurrispane_outgoing_codes(card);
+}
+
+static void run_write(void)
+{
+    nurrispane_write_frame(card, 1, 0, stack_call.frame, 6, stack_frame, sizeof stack_frame);
+}
+
+static size_t stack_of(void (*run)(void))
+{
+    size_t low = 0;
+
+    memset(stack, PAINT, sizeof stack);
+    getcontext(&there);
+    there.uc_stack.ss_sp = stack;
+    there.uc_stack.ss_size = sizeof stack;
+    there.uc_link = &here;
+    makecontext(&there, run, 0);
+    swapcontext(&here, &there);
+    while (low < sizeof stack && stack[low] == PAINT)
+        low++;
+    return sizeof stack - low;
+}
+
+static void check_stack(void)
+{
+    static const struct {
+        const char *name;
+        void (*run)(void);
+    } runs[] = {{"fresh", run_fresh},
+                {"step", run_step},
+                {"step_in_place", run_step_in_place},
+                {"outgoing_codes", run_codes},
+                {"write_frame", run_write}};
+    size_t most[5] = {0}, nothing = stack_of(run_nothing);
+
+    card = nurrispane_fresh();
+    for (int i = 0; i < 2000; i++) {
+        stack_call = any_call(&card);
+        for (int r = 0; r < 5; r++) {
+            size_t used;
+
+            stack_card = card;
+            used = stack_of(runs[r].run) - nothing;
+            if (used > most[r])
+                most[r] = used;
+        }
+        card = stepped(card, &stack_call);
+    }
+    printf("stack:");
+    for (int r = 0; r < 5; r++) {
+        printf("%s %s %zu", r ? "," : "", runs[r].name, most[r]);
+        CHECK(most[r] <= NURRISPANE_STACK);
+    }
+    printf(" bytes\n");
+}
+
+int main(void)
+{
+    check_fresh();
+    check_fields();
+    check_frames();
+    check_events();
+    check_cards();
+    check_stack();
+    printf("sizes: card %zu, input %zu, answer %zu, codes %zu bytes\n",
+           sizeof(struct nurrispane_card), sizeof(struct nurrispane_input),
+           sizeof(struct nurrispane_answer), sizeof(struct nurrispane_codes));
+    printf("%lu checks hold\n", checks);
+    return 0;
+}

@@ -1,0 +1,353 @@
+//! The mode `count`: replays a log and says how often it reached what. A test run that
+//! reaches nothing shows here.
+
+use std::io::{self, Read, Write};
+
+use crate::generate::LAST_TIME;
+use crate::line;
+use crate::log::LogReader;
+use crate::selector::{
+    ClockState, Event, Input, InputNumber, Quality, Selector, Switch, Time, NEVER,
+};
+
+macro_rules! items {
+    ($($item:ident $name:literal)*) => {
+        #[derive(Clone, Copy)]
+        enum Item { $($item),* }
+        const NAMES: &[&str] = &[$($name),*];
+    };
+}
+
+items! {
+    Lines "lines"
+    Accepted "accepted"
+    Frames "accepted-frames"
+    FreeRun "clock-free-run"
+    Holdover "clock-holdover"
+    Locked "clock-locked"
+    Contradiction "clock-03"
+    NoneToForced "switch-none-to-forced"
+    NoneToManual "switch-none-to-manual"
+    ForcedToNone "switch-forced-to-none"
+    ForcedToForced "switch-forced-to-forced"
+    ForcedToManual "switch-forced-to-manual"
+    ManualToNone "switch-manual-to-none"
+    ManualToForced "switch-manual-to-forced"
+    ManualToManual "switch-manual-to-manual"
+    ForcedCancelled "forced-cancelled-by-judging"
+    ManualCancelledAtTick "manual-cancelled-at-tick"
+    ManualCancelledAtEvent "manual-cancelled-at-event"
+    SelectionGained "selection-gained"
+    SelectionLost "selection-lost"
+    SelectionChanged "selection-changed-to-another"
+    SelectionAtTick "selection-changed-at-tick"
+    SelectionTwice "selection-changed-at-tick-and-at-event"
+    LockedAtTickOnly "locked-first-at-tick-only"
+    ForcedOntoFailed "forced-onto-passed-7"
+    HoldOffFull "hold-off-exactly-full-at-event"
+    HoldOffShort "hold-off-one-ms-short-at-event"
+    HoldOffBetween "hold-off-ended-between-events"
+    HoldOffShortened "hold-off-shortened-acted"
+    WaitFull "wait-exactly-full-at-event"
+    WaitShort "wait-one-ms-short-at-event"
+    WaitBetween "wait-ended-between-events"
+    WaitShortened "wait-shortened-acted"
+    WaitAtExpiry "wait-and-frame-end-in-one-ms"
+    WaitThenExpiry "wait-end-and-frame-expiry-since-last-event"
+    WaitAnew "wait-cut-short-by-failure"
+    FailureCostNothing "failure-below-hold-off-cost-nothing"
+    Frame4999 "event-in-frames-4999th-ms"
+    Frame5000 "event-in-frames-5000th-ms"
+    Frame5001 "event-in-frames-5001st-ms"
+    ExpiryAtEvent "frame-expiry-at-event"
+    ExpiryBetween "frame-expiry-between-events"
+    RenewedIn5000 "frame-renewed-in-5000th-ms"
+    ExpiryAndHoldOffBetween "frame-expiry-and-hold-off-between-events"
+    UncoveredSilence "silence-uncovered"
+    ClearWaitActed "clear-wait-acted"
+    ClearWaitOnFailed "clear-wait-on-failed-run"
+    TieKept "tie-kept-against-lower-number"
+    TieKeptAfterSwitch "tie-kept-after-switch"
+    TieLowest "tie-lowest-number"
+    KindSetAgain "kind-set-on-input-passing-quality"
+    PassedNotTold "passed-0-with-mode-on"
+    PassedWithModeOff "passed-1-to-6-with-mode-off"
+    SameMillisecond "event-in-millisecond-of-the-one-before"
+    LastTime "event-in-last-millisecond"
+}
+
+/// Numbers of refusal a log can carry, from 1.
+const NUMBERS: usize = 18;
+
+struct Counts {
+    items: [u64; NAMES.len()],
+    numbers: [u64; NUMBERS],
+}
+
+impl Counts {
+    fn add(&mut self, item: Item) {
+        self.items[item as usize] += 1;
+    }
+
+    fn add_if(&mut self, item: Item, holds: bool) {
+        self.items[item as usize] += u64::from(holds);
+    }
+
+    fn write(&self, output: &mut impl Write) -> io::Result<()> {
+        for (name, count) in NAMES.iter().zip(self.items) {
+            writeln!(output, "{name} {count}")?;
+        }
+        for number in (1..NUMBERS).filter(|number| *number != 3) {
+            writeln!(output, "refusal-{number} {}", self.numbers[number])?;
+        }
+        Ok(())
+    }
+}
+
+pub fn count(log: impl Read, output: &mut impl Write) -> io::Result<()> {
+    let mut log = LogReader::new(log);
+    let mut counts = Counts {
+        items: [0; NAMES.len()],
+        numbers: [0; NUMBERS],
+    };
+    let mut selector = Selector::fresh();
+    while let Some(digits) = log.next_line()? {
+        let number = take(digits, &mut selector, &mut counts);
+        counts.numbers[usize::from(number)] += 1;
+        counts.add(Item::Lines);
+    }
+    counts.items[Item::Accepted as usize] = counts.numbers[0];
+    counts.write(output)
+}
+
+/// `line::take`, with a look at the state before, between and after.
+fn take(digits: &[u8], selector: &mut Selector, counts: &mut Counts) -> u8 {
+    let Some(line) = line::read(digits) else {
+        return 1;
+    };
+    let (event, input) = match line::check(&line, selector) {
+        Err(number) => return number,
+        Ok(taken) => taken,
+    };
+    count_time(selector, line.time, counts);
+    let before = Shown::of(selector);
+    let expiring = silent_from(selector, input) == line.time;
+    selector.tick(line.time);
+    let ticked = Shown::of(selector);
+    count_choice(&before, &ticked, selector, counts);
+    let number = selector.command_refusal(event, input);
+    if number == 0 {
+        let input_before = selector.inputs[usize::from(input.0)].clone();
+        selector.obey(event, input);
+        let input_after = &selector.inputs[usize::from(input.0)];
+        count_input(event, &input_before, input_after, expiring, counts);
+        count_choice(&ticked, &Shown::of(selector), selector, counts);
+        count_cancelled(event, &ticked, selector, counts);
+    }
+    count_line(&before, &ticked, selector, counts);
+    number
+}
+
+/// What the choices of one line are compared by.
+struct Shown {
+    switch: Switch,
+    selected: Option<InputNumber>,
+    clock_state: ClockState,
+    was_locked: bool,
+}
+
+impl Shown {
+    fn of(selector: &Selector) -> Shown {
+        Shown {
+            switch: selector.switch,
+            selected: selector.selected,
+            clock_state: selector.clock_state,
+            was_locked: selector.was_locked,
+        }
+    }
+}
+
+fn silent_from(selector: &Selector, input: InputNumber) -> Time {
+    selector.inputs[usize::from(input.0)].silent_from(selector.quality_mode)
+}
+
+/// What ends in the time up to an event, seen before its tick.
+fn count_time(selector: &Selector, time: Time, counts: &mut Counts) {
+    counts.add_if(Item::SameMillisecond, time == selector.time);
+    counts.add_if(Item::LastTime, time == LAST_TIME);
+    for input in &selector.inputs {
+        let silent = input.silent_from(selector.quality_mode);
+        counts.add_if(Item::ExpiryAtEvent, silent == time);
+        counts.add_if(Item::ExpiryBetween, silent < time);
+        count_frame_age(input, time, counts);
+        count_hold_off(input, silent, time, counts);
+        count_wait(input, silent, time, counts);
+    }
+}
+
+fn count_frame_age(input: &Input, time: Time, counts: &mut Counts) {
+    if let Some((_, came)) = input.heard.frame {
+        match time - came {
+            4_999 => counts.add(Item::Frame4999),
+            5_000 => counts.add(Item::Frame5000),
+            5_001 => counts.add(Item::Frame5001),
+            _ => {}
+        }
+    }
+}
+
+fn count_hold_off(input: &Input, silent: Time, time: Time, counts: &mut Counts) {
+    let wait_ends_first = input.run_began + input.wait < silent;
+    let began = match (input.raw.failed(), input.down) {
+        (true, false) => input.run_began,
+        (false, down) if silent != NEVER && (!down || wait_ends_first) => silent,
+        _ => return,
+    };
+    let end = began + input.hold_off;
+    counts.add_if(Item::HoldOffFull, time == end);
+    counts.add_if(Item::HoldOffShort, time + 1 == end);
+    counts.add_if(Item::HoldOffBetween, time > end);
+    counts.add_if(
+        Item::ExpiryAndHoldOffBetween,
+        time > end && !input.raw.failed(),
+    );
+}
+
+fn count_wait(input: &Input, silent: Time, time: Time, counts: &mut Counts) {
+    let end = input.run_began + input.wait;
+    if input.raw.failed() || !input.down || silent < end {
+        return;
+    }
+    if silent == end {
+        counts.add_if(Item::WaitAtExpiry, time >= end);
+        return;
+    }
+    counts.add_if(Item::WaitFull, time == end);
+    counts.add_if(Item::WaitShort, time + 1 == end);
+    counts.add_if(Item::WaitBetween, time > end);
+    counts.add_if(Item::WaitThenExpiry, time >= silent);
+}
+
+/// What an event did to its own input after the tick.
+fn count_input(event: Event, before: &Input, after: &Input, expiring: bool, counts: &mut Counts) {
+    let came_up = before.down && !after.down;
+    let went_down = !before.down && after.down;
+    let began_to_fail = !before.raw.failed() && after.raw.failed();
+    let recovered = before.raw.failed() && !after.raw.failed();
+    counts.add_if(Item::WaitAnew, began_to_fail && before.down);
+    counts.add_if(Item::FailureCostNothing, recovered && !before.down);
+    match event {
+        Event::Frame(_) => {
+            counts.add(Item::Frames);
+            counts.add_if(Item::RenewedIn5000, expiring && recovered);
+        }
+        Event::HoldOff(_) => counts.add_if(Item::HoldOffShortened, went_down),
+        Event::Wait(_) => counts.add_if(Item::WaitShortened, came_up),
+        Event::ClearWait => {
+            counts.add_if(Item::ClearWaitActed, came_up);
+            counts.add_if(Item::ClearWaitOnFailed, before.raw.failed());
+        }
+        Event::FixedQuality(None) => {
+            counts.add_if(
+                Item::UncoveredSilence,
+                began_to_fail && after.heard.frame.is_some(),
+            );
+        }
+        Event::Ethernet(_) => {
+            counts.add_if(Item::KindSetAgain, began_to_fail && !after.down);
+        }
+        _ => {}
+    }
+}
+
+/// What one of a line's choices did, compared with the one just before.
+fn count_choice(before: &Shown, after: &Shown, selector: &Selector, counts: &mut Counts) {
+    match (before.switch, after.switch) {
+        (was, is) if was == is => {}
+        (Switch::None, Switch::Forced(_)) => counts.add(Item::NoneToForced),
+        (Switch::None, Switch::Manual(_)) => counts.add(Item::NoneToManual),
+        (Switch::Forced(_), Switch::None) => counts.add(Item::ForcedToNone),
+        (Switch::Forced(_), Switch::Forced(_)) => counts.add(Item::ForcedToForced),
+        (Switch::Forced(_), Switch::Manual(_)) => counts.add(Item::ForcedToManual),
+        (Switch::Manual(_), Switch::None) => counts.add(Item::ManualToNone),
+        (Switch::Manual(_), Switch::Forced(_)) => counts.add(Item::ManualToForced),
+        (Switch::Manual(_), Switch::Manual(_)) => counts.add(Item::ManualToManual),
+        (Switch::None, Switch::None) => {}
+    }
+    match (before.selected, after.selected) {
+        (was, is) if was == is => {}
+        (None, _) => counts.add(Item::SelectionGained),
+        (_, None) => counts.add(Item::SelectionLost),
+        _ => counts.add(Item::SelectionChanged),
+    }
+    if after.switch == Switch::None && selector.full_equals() > 1 {
+        count_tie(before, after, selector, counts);
+    }
+}
+
+fn count_tie(before: &Shown, after: &Shown, selector: &Selector, counts: &mut Counts) {
+    let kept = before.selected == after.selected;
+    counts.add_if(Item::TieLowest, !kept);
+    let Some(selected) = after.selected else {
+        return;
+    };
+    let lower_number_equal = selector.lowest_equal() != Some(selected);
+    counts.add_if(Item::TieKept, kept && lower_number_equal);
+    let switched = before.switch != Switch::None;
+    counts.add_if(
+        Item::TieKeptAfterSwitch,
+        kept && lower_number_equal && switched,
+    );
+}
+
+/// Switches that fell by the event itself without being cleared or replaced.
+fn count_cancelled(event: Event, ticked: &Shown, selector: &Selector, counts: &mut Counts) {
+    if selector.switch != Switch::None || event == Event::ClearSwitch {
+        return;
+    }
+    match ticked.switch {
+        Switch::None => {}
+        Switch::Forced(_) => counts.add(Item::ForcedCancelled),
+        Switch::Manual(_) => counts.add(Item::ManualCancelledAtEvent),
+    }
+}
+
+/// What a line left, and what its tick did that its answer doesn't show.
+fn count_line(before: &Shown, ticked: &Shown, selector: &Selector, counts: &mut Counts) {
+    let changed_at_tick = before.selected != ticked.selected;
+    counts.add_if(Item::SelectionAtTick, changed_at_tick);
+    counts.add_if(
+        Item::SelectionTwice,
+        changed_at_tick && ticked.selected != selector.selected,
+    );
+    let fell_at_tick = before.switch != Switch::None && ticked.switch == Switch::None;
+    counts.add_if(Item::ManualCancelledAtTick, fell_at_tick);
+    let locked_first = !before.was_locked && ticked.clock_state == ClockState::Locked;
+    let locked = selector.clock_state == ClockState::Locked;
+    counts.add_if(Item::LockedAtTickOnly, locked_first && !locked);
+    counts.add(match selector.clock_state {
+        ClockState::FreeRun => Item::FreeRun,
+        ClockState::Holdover => Item::Holdover,
+        ClockState::Locked => Item::Locked,
+        ClockState::Contradiction => Item::Contradiction,
+    });
+    if let Switch::Forced(input) = selector.switch {
+        let passed = selector.inputs[usize::from(input.0)].passed();
+        counts.add_if(Item::ForcedOntoFailed, passed.failed());
+    }
+    count_passed(selector, counts);
+}
+
+fn count_passed(selector: &Selector, counts: &mut Counts) {
+    let passes =
+        |told: fn(Quality) -> bool| selector.inputs.iter().any(|input| told(input.passed()));
+    if selector.quality_mode {
+        counts.add_if(
+            Item::PassedNotTold,
+            passes(|passed| passed == Quality::NOT_TOLD),
+        );
+    } else {
+        let told = passes(|passed| passed != Quality::NOT_TOLD && !passed.failed());
+        counts.add_if(Item::PassedWithModeOff, told);
+    }
+}

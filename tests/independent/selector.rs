@@ -1,0 +1,616 @@
+//! The rules of document 01: raw and passed quality, choosing, switches, clock,
+//! outgoing codes.
+//!
+//! Kept by timers. Each input knows the next millisecond in which time alone can
+//! change it (its due time), so an event touches its own input and whatever is
+//! due, and nothing else. `naive.rs` has the same rules without any such thought;
+//! the two are compared.
+//!
+//! Sentences in quotation marks are document 01's; "readings" is READINGS.md.
+
+/// Milliseconds since the start.
+pub type Time = u64;
+
+/// Later than any time a log can carry.
+pub const NEVER: Time = Time::MAX;
+
+/// The four bits of an SSM.
+pub type Code = u8;
+
+pub const INPUTS: usize = 16;
+
+pub const MINUTE: Time = 60_000;
+
+/// "if it came less than 5,000 ms ago"
+pub const FRAME_LIFE: Time = 5_000;
+
+// "An input number, a priority and a quality number are three kinds of number and
+// are never exchanged for one another."
+
+#[derive(Clone, Copy, PartialEq, Eq, Debug)]
+pub struct InputNumber(pub u8);
+
+#[derive(Clone, Copy, PartialEq, Eq, PartialOrd, Ord, Debug)]
+pub struct Priority(pub u8);
+
+#[derive(Clone, Copy, PartialEq, Eq, PartialOrd, Ord, Debug)]
+pub struct Quality(pub u8);
+
+impl InputNumber {
+    fn index(self) -> usize {
+        usize::from(self.0)
+    }
+}
+
+impl Priority {
+    /// "priority 1 to 16 (1 best) or 0 = off"
+    pub const OFF: Priority = Priority(0);
+}
+
+impl Quality {
+    /// "0 is 'not told', used when quality is off"
+    pub const NOT_TOLD: Quality = Quality(0);
+    pub const PRC: Quality = Quality(1);
+    pub const SSU_A: Quality = Quality(2);
+    pub const SSU_B: Quality = Quality(3);
+    pub const SEC: Quality = Quality(4);
+    pub const DNU: Quality = Quality(5);
+    pub const INVALID: Quality = Quality(6);
+    /// "7 is failed"
+    pub const FAILED: Quality = Quality(7);
+
+    /// The table of codes; "Any other of the sixteen codes reads as 6, invalid".
+    pub fn of_code(code: Code) -> Quality {
+        match code {
+            0b0010 => Quality::PRC,
+            0b0100 => Quality::SSU_A,
+            0b1000 => Quality::SSU_B,
+            0b1011 => Quality::SEC,
+            0b1111 => Quality::DNU,
+            _ => Quality::INVALID,
+        }
+    }
+
+    /// The same table the other way, for the qualities a clock can have.
+    pub fn code(self) -> Code {
+        match self {
+            Quality::PRC => 0b0010,
+            Quality::SSU_A => 0b0100,
+            Quality::SSU_B => 0b1000,
+            Quality::SEC => 0b1011,
+            _ => 0b1111,
+        }
+    }
+
+    pub fn failed(self) -> bool {
+        self == Quality::FAILED
+    }
+
+    /// "1 to 4 with mode on, not 7 with mode off"
+    pub fn usable(self, quality_mode: bool) -> bool {
+        if quality_mode {
+            Quality::PRC <= self && self <= Quality::SEC
+        } else {
+            !self.failed()
+        }
+    }
+}
+
+/// An event whose line has been found in order, without its time and its input.
+#[derive(Clone, Copy, PartialEq, Eq, Debug)]
+pub enum Event {
+    SignalGood,
+    SignalFail,
+    Frame(Code),
+    LineCode(Code),
+    Priority(Priority),
+    Lockout(bool),
+    HoldOff(Time),
+    Wait(Time),
+    FixedQuality(Option<Quality>),
+    ClearWait,
+    Forced,
+    Manual,
+    ClearSwitch,
+    QualityMode(bool),
+    Sending(bool),
+    Tick,
+    Ethernet(bool),
+}
+
+/// "the codes heard, the count of equal ones and the frames heard"
+#[derive(Clone, Debug)]
+pub struct Heard {
+    /// "the last code that came in three consecutive code reports"
+    pub settled: Option<Code>,
+    pub latest: Code,
+    pub equal: u8,
+    /// Code and time of "the last accepted frame".
+    pub frame: Option<(Code, Time)>,
+}
+
+impl Heard {
+    const NOTHING: Heard = Heard {
+        settled: None,
+        latest: 0,
+        equal: 0,
+        frame: None,
+    };
+
+    /// Readings: "the same four bits, three recorded reports of this input in a row".
+    fn code_report(&mut self, code: Code) {
+        if self.equal > 0 && self.latest == code {
+            self.equal = 3.min(self.equal + 1);
+        } else {
+            self.latest = code;
+            self.equal = 1;
+        }
+        if self.equal == 3 {
+            self.settled = Some(code);
+        }
+    }
+
+    /// "before any such code, 7"
+    fn line_quality(&self) -> Quality {
+        self.settled.map_or(Quality::FAILED, Quality::of_code)
+    }
+
+    /// "the code of the last accepted frame, if it came less than 5,000 ms ago;
+    /// otherwise 7"
+    fn ethernet_quality(&self, now: Time) -> Quality {
+        match self.frame {
+            Some((code, came)) if now - came < FRAME_LIFE => Quality::of_code(code),
+            _ => Quality::FAILED,
+        }
+    }
+}
+
+/// One of the sixteen inputs.
+#[derive(Clone, Debug)]
+pub struct Input {
+    pub ethernet: bool,
+    pub priority: Priority,
+    pub locked_out: bool,
+    pub hold_off: Time,
+    pub wait: Time,
+    pub fixed: Option<Quality>,
+    pub sending: bool,
+    pub failing: bool,
+    pub heard: Heard,
+    /// Raw quality at the last moment looked at.
+    pub raw: Quality,
+    /// When the present run began.
+    pub run_began: Time,
+    /// The last raw quality that wasn't failed.
+    pub raw_before_failure: Quality,
+    /// Whether "the last down or up moment was down".
+    pub down: bool,
+}
+
+impl Input {
+    /// "Fresh: line, priority 0, not locked, 300 ms, 5 minutes, none fixed, sending
+    /// on, signal failing." And: "Time 0, fresh, is down."
+    const FRESH: Input = Input {
+        ethernet: false,
+        priority: Priority::OFF,
+        locked_out: false,
+        hold_off: 300,
+        wait: 5 * MINUTE,
+        fixed: None,
+        sending: true,
+        failing: true,
+        heard: Heard::NOTHING,
+        raw: Quality::FAILED,
+        run_began: 0,
+        raw_before_failure: Quality::FAILED,
+        down: true,
+    };
+
+    /// "In this order: signal failing gives 7; quality mode off gives 0; a fixed
+    /// quality gives itself; otherwise what was heard."
+    fn raw_at(&self, now: Time, quality_mode: bool) -> Quality {
+        if self.failing {
+            Quality::FAILED
+        } else if !quality_mode {
+            Quality::NOT_TOLD
+        } else if let Some(fixed) = self.fixed {
+            fixed
+        } else if self.ethernet {
+            self.heard.ethernet_quality(now)
+        } else {
+            self.heard.line_quality()
+        }
+    }
+
+    /// Takes one moment into account: the run it belongs to, and whether it is down
+    /// or up with the settings now in force.
+    fn moment(&mut self, now: Time, quality_mode: bool) {
+        let raw = self.raw_at(now, quality_mode);
+        if raw.failed() != self.raw.failed() {
+            self.run_began = now;
+        }
+        self.raw = raw;
+        let run = now - self.run_began;
+        if raw.failed() {
+            // "down if the present run is failed and began at least the hold-off ago"
+            if run >= self.hold_off {
+                self.down = true;
+            }
+        } else {
+            self.raw_before_failure = raw;
+            // "up if the present run is not failed and [...] began at least the wait ago"
+            if run >= self.wait {
+                self.down = false;
+            }
+        }
+    }
+
+    /// The 5,000th millisecond of the frame that gives the present raw quality.
+    pub fn silent_from(&self, quality_mode: bool) -> Time {
+        if self.raw.failed() || !self.ethernet || !quality_mode || self.fixed.is_some() {
+            return NEVER;
+        }
+        self.heard
+            .frame
+            .map_or(NEVER, |(_, came)| came + FRAME_LIFE)
+    }
+
+    /// "Moments between two events count as well: a wait may end and a frame expire
+    /// there." Of all of them three can matter: the last one with the frame, the first
+    /// one without it, and the present one.
+    fn pass_time(&mut self, now: Time, quality_mode: bool) {
+        let silent = self.silent_from(quality_mode);
+        if silent <= now {
+            self.moment(silent - 1, quality_mode);
+            self.moment(silent, quality_mode);
+        }
+        self.moment(now, quality_mode);
+    }
+
+    /// The next millisecond in which `pass_time` can change anything.
+    fn due(&self, quality_mode: bool) -> Time {
+        match (self.raw.failed(), self.down) {
+            (true, true) => NEVER,
+            (true, false) => self.run_began + self.hold_off,
+            (false, true) => self
+                .silent_from(quality_mode)
+                .min(self.run_began + self.wait),
+            (false, false) => self.silent_from(quality_mode),
+        }
+    }
+
+    /// "If the last down or up moment was down, the passed quality is 7. Otherwise it
+    /// is the raw quality, or, in a failed run, the last raw quality before that run."
+    pub fn passed(&self) -> Quality {
+        if self.down {
+            Quality::FAILED
+        } else {
+            self.raw_before_failure
+        }
+    }
+
+    pub fn off_or_locked(&self) -> bool {
+        self.priority == Priority::OFF || self.locked_out
+    }
+
+    /// "Eligible: priority not 0, not locked, passed quality not 7, and with quality
+    /// mode on passed quality 1 to 4."
+    pub fn eligible(&self, quality_mode: bool) -> bool {
+        !self.off_or_locked() && self.passed().usable(quality_mode)
+    }
+
+    /// "A repeated fail or good changes nothing."
+    fn signal(&mut self, failing: bool) {
+        if failing && !self.failing {
+            self.heard = Heard::NOTHING;
+        }
+        self.failing = failing;
+    }
+
+    /// What an event does to its own input.
+    fn obey(&mut self, event: Event, now: Time) {
+        match event {
+            Event::SignalGood => self.signal(false),
+            Event::SignalFail => self.signal(true),
+            // "While the signal fails, reports of codes and frames are checked and
+            // accepted but not recorded."
+            Event::Frame(code) if !self.failing => self.heard.frame = Some((code, now)),
+            Event::LineCode(code) if !self.failing => self.heard.code_report(code),
+            Event::Priority(priority) => self.priority = priority,
+            Event::Lockout(set) => self.locked_out = set,
+            Event::HoldOff(hold_off) => self.hold_off = hold_off,
+            Event::Wait(wait) => self.wait = wait,
+            Event::FixedQuality(fixed) => self.fixed = fixed,
+            Event::Sending(on) => self.sending = on,
+            // "any event setting its kind, forget the codes heard"
+            Event::Ethernet(ethernet) => {
+                self.ethernet = ethernet;
+                self.heard = Heard::NOTHING;
+            }
+            // "or the event of that very moment is a clear-wait on it"
+            Event::ClearWait if !self.raw.failed() => self.down = false,
+            _ => {}
+        }
+    }
+}
+
+#[derive(Clone, Copy, PartialEq, Eq, Debug)]
+pub enum Switch {
+    None,
+    Forced(InputNumber),
+    Manual(InputNumber),
+}
+
+#[derive(Clone, Copy, PartialEq, Eq, Debug)]
+pub enum ClockState {
+    FreeRun = 0,
+    Holdover = 1,
+    Locked = 2,
+    /// "03 is answered should a manual switch be found standing on an ineligible input."
+    Contradiction = 3,
+}
+
+/// The place of an input in the choice: lower is better, equal is "full equals".
+type Rank = u16;
+
+const NOT_ELIGIBLE: Rank = Rank::MAX;
+
+#[derive(Clone)]
+pub struct Selector {
+    pub time: Time,
+    pub quality_mode: bool,
+    pub inputs: [Input; INPUTS],
+    pub switch: Switch,
+    /// What the last choice selected.
+    pub selected: Option<InputNumber>,
+    pub clock_state: ClockState,
+    pub clock_quality: Quality,
+    /// Whether the clock was locked after any choice so far.
+    pub was_locked: bool,
+    ranks: [Rank; INPUTS],
+    due: [Time; INPUTS],
+    /// Not later than any of `due`.
+    earliest_due: Time,
+}
+
+impl Selector {
+    /// "The selector starts at time 0, quality mode on, no switch, nothing selected."
+    pub fn fresh() -> Selector {
+        Selector {
+            time: 0,
+            quality_mode: true,
+            inputs: [Input::FRESH; INPUTS],
+            switch: Switch::None,
+            selected: None,
+            clock_state: ClockState::FreeRun,
+            clock_quality: Quality::SEC,
+            was_locked: false,
+            ranks: [NOT_ELIGIBLE; INPUTS],
+            due: [NEVER; INPUTS],
+            earliest_due: NEVER,
+        }
+    }
+
+    /// The tick that each accepted event is first: "all passed qualities brought up to
+    /// date, the switch judged, the choice made". Where nothing is due, the choice just
+    /// before would only be repeated.
+    pub fn tick(&mut self, now: Time) {
+        self.time = now;
+        if now >= self.earliest_due {
+            self.serve_due(now);
+            self.judge_and_choose();
+        }
+    }
+
+    fn serve_due(&mut self, now: Time) {
+        let mut earliest = NEVER;
+        for n in 0..INPUTS {
+            if self.due[n] <= now {
+                self.inputs[n].pass_time(now, self.quality_mode);
+                self.rank_anew(n);
+                self.due[n] = self.inputs[n].due(self.quality_mode);
+            }
+            earliest = earliest.min(self.due[n]);
+        }
+        self.earliest_due = earliest;
+    }
+
+    /// Numbers 14 to 17, which "are judged after the tick"; 0 where none applies.
+    pub fn command_refusal(&self, event: Event, input: InputNumber) -> u8 {
+        match event {
+            Event::Forced if self.inputs[input.index()].off_or_locked() => 14,
+            Event::Manual if matches!(self.switch, Switch::Forced(_)) => 15,
+            Event::Manual if self.ranks[input.index()] == NOT_ELIGIBLE => 16,
+            Event::Manual if self.lower_quality_than(input) => 17,
+            _ => 0,
+        }
+    }
+
+    /// "the event itself at that moment (the same again)". To be called after `tick`.
+    pub fn obey(&mut self, event: Event, input: InputNumber) {
+        let changed = match event {
+            Event::Tick => false,
+            Event::Forced => self.set_switch(Switch::Forced(input)),
+            Event::Manual => self.set_switch(Switch::Manual(input)),
+            Event::ClearSwitch => self.set_switch(Switch::None),
+            Event::QualityMode(on) => self.set_quality_mode(on),
+            _ => self.obey_at_input(event, input),
+        };
+        if changed {
+            self.judge_and_choose();
+        }
+    }
+
+    fn set_switch(&mut self, switch: Switch) -> bool {
+        self.switch = switch;
+        true
+    }
+
+    fn set_quality_mode(&mut self, on: bool) -> bool {
+        self.quality_mode = on;
+        for n in 0..INPUTS {
+            self.event_moment(n);
+        }
+        true
+    }
+
+    /// Whether the choice can have changed: the judging of switches, the choice and the
+    /// clock go by ranks, and besides by an input being off or locked.
+    fn obey_at_input(&mut self, event: Event, input: InputNumber) -> bool {
+        let n = input.index();
+        self.inputs[n].obey(event, self.time);
+        self.event_moment(n) || matches!(event, Event::Priority(_) | Event::Lockout(_))
+    }
+
+    /// The event's own moment at one input, with the new settings in force.
+    fn event_moment(&mut self, n: usize) -> bool {
+        self.inputs[n].moment(self.time, self.quality_mode);
+        self.due[n] = self.inputs[n].due(self.quality_mode);
+        self.earliest_due = self.earliest_due.min(self.due[n]);
+        self.rank_anew(n)
+    }
+
+    /// "Better: lower passed quality (mode on only), then lower priority number."
+    fn rank_anew(&mut self, n: usize) -> bool {
+        let input = &self.inputs[n];
+        let rank = if !input.eligible(self.quality_mode) {
+            NOT_ELIGIBLE
+        } else if self.quality_mode {
+            Rank::from(input.passed().0) << 8 | Rank::from(input.priority.0)
+        } else {
+            Rank::from(input.priority.0)
+        };
+        let changed = rank != self.ranks[n];
+        self.ranks[n] = rank;
+        changed
+    }
+
+    fn best_rank(&self) -> Rank {
+        self.ranks
+            .iter()
+            .fold(NOT_ELIGIBLE, |best, &rank| best.min(rank))
+    }
+
+    /// "(mode on) an eligible input has lower passed quality" than this eligible one.
+    fn lower_quality_than(&self, input: InputNumber) -> bool {
+        self.quality_mode && self.best_rank() >> 8 < self.ranks[input.index()] >> 8
+    }
+
+    fn judge_and_choose(&mut self) {
+        if !self.switch_stands() {
+            self.switch = Switch::None;
+        }
+        self.selected = self.choice();
+        self.set_clock();
+    }
+
+    /// Forced "stands until cleared, replaced by another forced switch, or its input is
+    /// off or locked". Manual "stands while its input is eligible and, mode on, no
+    /// eligible input has lower passed quality".
+    fn switch_stands(&self) -> bool {
+        match self.switch {
+            Switch::None => true,
+            Switch::Forced(input) => !self.inputs[input.index()].off_or_locked(),
+            Switch::Manual(input) => {
+                self.ranks[input.index()] != NOT_ELIGIBLE && !self.lower_quality_than(input)
+            }
+        }
+    }
+
+    fn choice(&self) -> Option<InputNumber> {
+        match self.switch {
+            Switch::Forced(input) | Switch::Manual(input) => Some(input),
+            Switch::None => self.choice_by_comparing(),
+        }
+    }
+
+    /// "Full equals: keep the one selected at the choice just before, otherwise lowest
+    /// input number."
+    fn choice_by_comparing(&self) -> Option<InputNumber> {
+        let lowest = self.lowest_equal()?;
+        match self.selected {
+            Some(kept) if self.ranks[kept.index()] == self.ranks[lowest.index()] => Some(kept),
+            _ => Some(lowest),
+        }
+    }
+
+    /// Of the best eligible inputs the one with the lowest input number.
+    pub fn lowest_equal(&self) -> Option<InputNumber> {
+        let best = self.best_rank();
+        if best == NOT_ELIGIBLE {
+            return None;
+        }
+        self.ranks
+            .iter()
+            .position(|&rank| rank == best)
+            .map(|n| InputNumber(n as u8))
+    }
+
+    fn set_clock(&mut self) {
+        let passed = self
+            .selected
+            .map(|input| self.inputs[input.index()].passed());
+        let locked_to = passed.filter(|passed| passed.usable(self.quality_mode));
+        self.clock_state = self.clock_state_when(locked_to.is_some());
+        // "Clock quality: 0 with mode off; the passed quality when locked; otherwise 4."
+        self.clock_quality = match locked_to {
+            _ if !self.quality_mode => Quality::NOT_TOLD,
+            Some(passed) => passed,
+            None => Quality::SEC,
+        };
+        self.was_locked |= locked_to.is_some();
+    }
+
+    /// "02 locked if an input is selected and its passed quality is usable [...];
+    /// otherwise 01 holdover if it was locked after any earlier choice, 00 free run if
+    /// not." Readings: 03 is looked for after the choice, so it never occurs.
+    fn clock_state_when(&self, locked: bool) -> ClockState {
+        match self.switch {
+            Switch::Manual(input) if self.ranks[input.index()] == NOT_ELIGIBLE => {
+                ClockState::Contradiction
+            }
+            _ if locked => ClockState::Locked,
+            _ if self.was_locked => ClockState::Holdover,
+            _ => ClockState::FreeRun,
+        }
+    }
+
+    /// The answer line's values after its number: "selected input or ff, clock state,
+    /// clock quality, switch (00 none, 01 forced, 02 manual), its input or ff".
+    pub fn answer_values(&self) -> [u8; 5] {
+        let selected = self.selected.map_or(0xff, |input| input.0);
+        let (switch, its_input) = match self.switch {
+            Switch::None => (0, 0xff),
+            Switch::Forced(input) => (1, input.0),
+            Switch::Manual(input) => (2, input.0),
+        };
+        [
+            selected,
+            self.clock_state as u8,
+            self.clock_quality.0,
+            switch,
+            its_input,
+        ]
+    }
+
+    /// "Outgoing code, for each of the sixteen ports: 1111 if mode is off, if its sending
+    /// is off, or if it is the selected input; otherwise the code of the clock quality."
+    pub fn outgoing_code(&self, port: InputNumber) -> Code {
+        let told =
+            self.quality_mode && self.inputs[port.index()].sending && self.selected != Some(port);
+        if told {
+            self.clock_quality.code()
+        } else {
+            0b1111
+        }
+    }
+
+    /// How many eligible inputs share the best place.
+    pub fn full_equals(&self) -> usize {
+        let best = self.best_rank();
+        if best == NOT_ELIGIBLE {
+            return 0;
+        }
+        self.ranks.iter().filter(|&&rank| rank == best).count()
+    }
+}
