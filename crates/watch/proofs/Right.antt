@@ -452,7 +452,7 @@ fresh-chosen : decided freshSelector ≡ freshSelector
 unfolding decided decide judged selectedBy choose scanned offered seeded isLocked isHeld isEligible candidateFor candidateOf isAdmitted isUsable rankedQuality passedQuality
 fresh-chosen = refl
 
-fresh-kept : Kept freshWatch
+pub fresh-kept : Kept freshWatch
 fresh-kept =
     record {
       calm =
