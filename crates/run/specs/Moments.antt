@@ -1,6 +1,6 @@
 -- Document 01, "Passed quality", sentence by sentence, as statements about the moments of one input. Nothing here keeps a timer.
 -- Assumes nothing.
-use Prim.Native.Nat.{ℕ, zero, suc, _+_, _≤_, _<_}
+use Prim.Native.Nat.{ℕ, zero, suc, _+_, _*_, _≤_, _<_}
 use mathlib.Core.Bool.{Bool, true, false, not}
 use mathlib.Core.List.{List, [], _∷_}
 use mathlib.Core.Path.{_≡_}
@@ -50,7 +50,7 @@ holdoffAt (moment ∷ earlier) = moment .holdoff
 
 -- "Settings are those in force at the moment": the wait
 abbrev pub waitAt : Moments → ℕ
-waitAt [] = 300000
+waitAt [] = freshWait * minute
 waitAt (moment ∷ earlier) = moment .wait
 
 -- "the event of that very moment is a clear-wait on it"
