@@ -8,12 +8,12 @@ use lib.Dec.{leb, ltb, eqb}
 use lib.ListN.{getD}
 use Rattle.numbers.specs.declared.Priority.{Priority}
 use Rattle.numbers.specs.declared.Quality.{Quality}
-use Rattle.numbers.specs.Quality.{notTold, failed, isFailed}
+use Rattle.numbers.specs.Quality.{notTold, prc, sec, failed, isFailed}
 use Rattle.choice.specs.declared.Candidate.{Candidate}
 
 -- "usable (1 to 4 with mode on, not 7 with mode off)"
 unfoldable pub isUsable : Bool → Quality → Bool
-isUsable mode passed = cond mode (leb 1 (passed .0) && leb (passed .0) 4) (not (isFailed passed))
+isUsable mode passed = cond mode (leb (prc .0) (passed .0) && leb (passed .0) (sec .0)) (not (isFailed passed))
 
 -- "priority not 0, not locked"
 unfoldable pub isAdmitted : Priority → Bool → Bool
@@ -42,7 +42,7 @@ pub record Eligible (passed : Quality) (priority : Priority) (locked mode : Bool
   pub notOff : priority .0 ≡ 0 → ⊥
   pub notLocked : locked ≡ false
   pub notFailed : passed .0 ≡ failed .0 → ⊥
-  pub usable : mode ≡ true → (1 ≤ passed .0) × (passed .0 ≤ 4)
+  pub usable : mode ≡ true → (prc .0 ≤ passed .0) × (passed .0 ≤ sec .0)
 
 -- "Better: lower passed quality (mode on only), then lower priority number"
 unfoldable pub isBetter : Candidate → Candidate → Bool

@@ -2,22 +2,18 @@
 //
 // A candidate is what a choice looks at of one input. Nothing here knows inputs, time or a switch, and no public
 // function has a `requires`.
+use numbers::INPUT_COUNT;
 use numbers::InputNumber;
+use numbers::NOT_TOLD;
+use numbers::PRC;
 use numbers::Priority;
 use numbers::Quality;
+use numbers::SEC;
 use numbers::is_failed;
 ghost use mathlib.Core.Path.{_≡_};
 ghost use lib.ListN.{getD};
 ghost use Rattle.choice.specs.Candidate.{nobody, isUsable, isAdmitted, rankedQuality, candidateOf, isEligible, isBetter, eligibleAmong, betterAmong, isLower, anyLower};
 ghost use Rattle.choice.specs.Choice.{seeded, offered, choose};
-
-// How many inputs there are.
-const INPUT_COUNT: u8 = 16;
-
-// The best quality that a clock may follow with quality mode on is 1, the worst is 4.
-const BEST_USABLE: u8 = 1;
-
-const WORST_USABLE: u8 = 4;
 
 // One input as a choice sees it: the quality by which it ranks (0 for all with quality mode off), its priority, whether
 // it is neither off nor locked, and whether its passed quality is usable.
@@ -27,6 +23,14 @@ pub struct Candidate {
     pub admitted: bool,
     pub usable: bool,
 }
+
+// Stands where there is no such input: not eligible.
+pub const NOBODY: Candidate = Candidate {
+    quality: NOT_TOLD,
+    priority: Priority(0),
+    admitted: false,
+    usable: false,
+};
 
 // What is selected.
 pub enum Selection {
@@ -39,8 +43,8 @@ pub fn is_usable(mode: bool, passed: Quality) -> bool
     ensures { λ answer. ⌜ answer ≡ isUsable mode passed ⌝ }
 {
     if mode {
-        if BEST_USABLE <= passed.0 {
-            return passed.0 <= WORST_USABLE;
+        if PRC.0 <= passed.0 {
+            return passed.0 <= SEC.0;
         }
         return false;
     }
@@ -70,7 +74,7 @@ fn ranked_quality(mode: bool, passed: Quality) -> Quality
     if mode {
         return passed;
     }
-    Quality(0)
+    NOT_TOLD
 }
 
 // What a choice looks at of an input.
@@ -120,12 +124,7 @@ pub fn candidate_at(candidates: [Candidate; 16], number: InputNumber) -> Candida
         let at = number.0 as usize;
         return candidates[at];
     }
-    Candidate {
-        quality: Quality(0),
-        priority: Priority(0),
-        admitted: false,
-        usable: false,
-    }
+    NOBODY
 }
 
 // Whether an eligible input has a quality lower than `quality`.

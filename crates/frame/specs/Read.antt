@@ -9,7 +9,6 @@ use lib.ListN.{length}
 use Rattle.numbers.specs.Refusal.{accepted, frameLength, frameDestination, frameProtocol, frameOrganisation, frameVersion, frameTlv}
 use Rattle.frame.specs.declared.FrameRead.{FrameRead}
 use Rattle.frame.specs.declared.FrameRead.the-variants.{Code, Refused}
-use Rattle.frame.specs.declared.Heard.{Heard}
 use Rattle.frame.specs.Octets.{shortestFrame, longestFrame, octet, octets, destination, protocol, organisation, version, tlv, upperHalf, lowerHalf, same}
 
 -- "Lengths are without FCS: 60 to 1,514 octets"
@@ -64,7 +63,3 @@ numberOfRead (Refused number) = number
 abbrev pub codeOfRead : FrameRead → ℕ
 codeOfRead (Code code) = code
 codeOfRead (Refused number) = 0
-
--- what is heard by a frame: number and code of its reading
-abbrev pub hear : List ℕ → Heard
-hear frame = record { number = numberOfRead (readFrame frame); code = codeOfRead (readFrame frame) }

@@ -16,7 +16,7 @@ ghost use mathlib.Core.Path.{_≡_};
 ghost use Prim.Native.Nat.{_+_, _-_, _≤_, _<_};
 ghost use lib.ListN.{length};
 ghost use Rattle.frame.specs.Octets.{octet, hasOctets};
-ghost use Rattle.frame.specs.Read.{frameNumber, readFrame, numberOfRead, hear};
+ghost use Rattle.frame.specs.Read.{frameNumber, readFrame, numberOfRead};
 ghost use Rattle.frame.specs.Write.{writtenLength, sourceLength, octet21};
 ghost use Rattle.frame.specs.Write.{headerOctets, dataOctets, putOctets, WriteFrame};
 
@@ -60,12 +60,6 @@ const LARGEST_CODE: u8 = 15;
 pub enum FrameRead {
     Code(u8),
     Refused(u8),
-}
-
-// What is heard by a frame: the number of its refusal, 0 accepted, and its code, 0 where refused.
-pub struct Heard {
-    pub number: u8,
-    pub code: u8,
 }
 
 // What writing a frame answers.
@@ -144,23 +138,6 @@ pub fn number_of_read(read: FrameRead) -> u8
     match read {
         FrameRead::Code(_) => ACCEPTED,
         FrameRead::Refused(number) => number,
-    }
-}
-
-// What is heard by a frame: its code, or the refusal handed on.
-pub fn hear(frame: &[u8]) -> Heard
-    ensures { λ answer. ⌜ answer ≡ hear (now (frame .entry)) ⌝ }
-{
-    let read = read_frame(frame);
-    let FrameRead::Code(code) = read else {
-        return Heard {
-            number: number_of_read(read),
-            code: 0,
-        };
-    };
-    Heard {
-        number: ACCEPTED,
-        code,
     }
 }
 

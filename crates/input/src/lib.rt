@@ -3,6 +3,8 @@
 // An event's method is told the time and the quality mode in force after the event, takes the event's own moment, and
 // hands the record back; `tick` brings it to a time at which no event has come yet. Every time and every setting is
 // safe, and no public function has a `requires`.
+use numbers::FAILED;
+use numbers::NOT_TOLD;
 use numbers::Priority;
 use numbers::Quality;
 use numbers::quality_of_code;
@@ -12,10 +14,15 @@ ghost use mathlib.Core.Path.{_≡_};
 ghost use Prim.Native.Nat.{_*_};
 ghost use Rattle.numbers.specs.Inputs.{minute};
 ghost use Rattle.numbers.specs.Kind.{flag, kindSignal, kindFrame, kindLineCode, kindPriority, kindLockout, kindHoldoff, kindWait, kindFixedQuality, kindClearWait, kindQualityMode, kindSending, kindInputKind};
-ghost use Rattle.input.specs.Record.{freshInput, freshHeard, countAfter, lineAfter, forgotten, heardAfter, settingsAfter, qualityNow, canExpire, forecast, settle, tick, afterEvent, passedOf};
+ghost use Rattle.input.specs.Record.{freshInput, countAfter, lineAfter, forgotten, heardAfter, settingsAfter, qualityNow, canExpire, forecast, settle, tick, afterEvent, passedOf};
 
 // How many equal codes in a row settle a line's quality.
 const REPORTS_NEEDED: u8 = 3;
+
+// A fresh input's hold-off in ms, and its wait in minutes.
+const FRESH_HOLDOFF: u16 = 300;
+
+const FRESH_WAIT: u8 = 5;
 
 // A minute in ms.
 const MINUTE: u64 = 60_000;
@@ -71,42 +78,28 @@ fn line_after(code: u8, count: u8, line: Quality) -> Quality
     quality_of_code(code)
 }
 
+// The codes heard, the count of equal ones and the frames heard are forgotten.
+fn forgotten(good: bool) -> Heard
+    ensures { λ answer. ⌜ answer ≡ forgotten good ⌝ }
+{
+    Heard {
+        framed: 0,
+        frame: FAILED,
+        line: FAILED,
+        code: 0,
+        count: 0,
+        good,
+    }
+}
+
 impl Heard {
-    // Nothing heard, the signal failing.
-    fn fresh() -> Heard
-        ensures { λ answer. ⌜ answer ≡ freshHeard ⌝ }
-    {
-        Heard {
-            framed: 0,
-            frame: Quality(7),
-            line: Quality(7),
-            code: 0,
-            count: 0,
-            good: false,
-        }
-    }
-
-    // The codes heard, the count of equal ones and the frames heard are forgotten.
-    fn forgotten(self, good: bool) -> Heard
-        ensures { λ answer. ⌜ answer ≡ forgotten good ⌝ }
-    {
-        Heard {
-            framed: 0,
-            frame: Quality(7),
-            line: Quality(7),
-            code: 0,
-            count: 0,
-            good,
-        }
-    }
-
     // A signal report. A repeated fail or good changes nothing.
     fn signal(mut self, fail: bool) -> Heard
         ensures { λ answer. ⌜ answer ≡ heardAfter self kindSignal (flag fail) 0 ⌝ }
     {
         if fail {
             if self.good {
-                return self.forgotten(false);
+                return forgotten(false);
             }
             return self;
         }
@@ -158,9 +151,9 @@ fn quality_now(heard: Heard, settings: Settings, mode: bool) -> Quality
             }
             return settings.fixed;
         }
-        return Quality(0);
+        return NOT_TOLD;
     }
-    Quality(7)
+    FAILED
 }
 
 // Whether raw quality is that of a frame, which expires.
@@ -196,13 +189,13 @@ impl Input {
     pub fn fresh() -> Input
         ensures { λ answer. ⌜ answer ≡ freshInput ⌝ }
     {
-        let heard = Heard::fresh();
+        let heard = forgotten(false);
         let run = Run::fresh();
         let settings = Settings {
-            holdoff: 300,
-            wait: 5,
+            holdoff: FRESH_HOLDOFF,
+            wait: FRESH_WAIT,
             priority: Priority(0),
-            fixed: Quality(0),
+            fixed: NOT_TOLD,
             ethernet: false,
             locked: false,
             sending: true,
@@ -347,7 +340,7 @@ impl Input {
         ensures { λ answer. ⌜ answer ≡ afterEvent self kindInputKind (flag ethernet) time mode ⌝ }
     {
         let old = self.heard;
-        let heard = old.forgotten(old.good);
+        let heard = forgotten(old.good);
         let mut settings = self.settings;
         settings.ethernet = ethernet;
         self.heard = heard;

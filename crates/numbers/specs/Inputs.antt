@@ -3,6 +3,10 @@
 use Prim.Native.Nat.{ℕ, _^_}
 
 -- "Inputs 0 to 15"
+abbrev pub lastInput : ℕ
+lastInput = 15
+
+-- "The sixteen inputs"
 abbrev pub inputCount : ℕ
 inputCount = 16
 

@@ -66,12 +66,12 @@ qualityOfCode code =
 -- the table read from left to right; a number that is none of the five is told as "do not use"
 unfoldable pub codeOfQuality : Quality → ℕ
 codeOfQuality told =
-    cond (eqb (told .0) 1) codePrc
-    (cond (eqb (told .0) 2) codeSsuA
-    (cond (eqb (told .0) 3) codeSsuB
-    (cond (eqb (told .0) 4) codeSec
+    cond (eqb (told .0) (prc .0)) codePrc
+    (cond (eqb (told .0) (ssuA .0)) codeSsuA
+    (cond (eqb (told .0) (ssuB .0)) codeSsuB
+    (cond (eqb (told .0) (sec .0)) codeSec
     codeDnu)))
 
 -- "7 is failed"
 abbrev pub isFailed : Quality → Bool
-isFailed told = eqb (told .0) 7
+isFailed told = eqb (told .0) (failed .0)

@@ -3,15 +3,14 @@
 // Nothing here keeps time or knows where raw quality comes from: each function is told the time, and a forecast
 // says how raw quality goes on if no event comes. No sum can wrap, for any time and any setting, and no public
 // function has a `requires`.
+use numbers::FAILED;
+use numbers::FRAME_LIFE;
 use numbers::Quality;
 use numbers::is_failed;
 ghost use mathlib.Core.Path.{_≡_};
 ghost use Prim.Native.Nat.{_+_};
 ghost use lib.Dec.{leb};
 ghost use Rattle.run.specs.Run.{freshRun, isExpired, rawAt, runStart, phase, lastGood, atMoment, upBefore, broughtTo, passedQuality};
-
-// A frame counts for less than 5,000 ms.
-const FRAME_LIFE: u64 = 5_000;
 
 // Raw quality from here on, if no event comes, and the timers in force: `quality`, and failed from the frame's
 // 5,000th millisecond on where it `expires`. `holdoff` and `wait` are in ms.
@@ -112,7 +111,7 @@ impl Forecast {
         ensures { λ answer. ⌜ answer ≡ rawAt self time ⌝ }
     {
         if self.is_expired(time) {
-            return Quality(7);
+            return FAILED;
         }
         self.quality
     }
@@ -125,7 +124,7 @@ impl Run {
     {
         Run {
             start: 0,
-            good: Quality(7),
+            good: FAILED,
             failed: true,
             up: false,
         }
@@ -192,6 +191,6 @@ impl Run {
         if self.up {
             return self.good;
         }
-        Quality(7)
+        FAILED
     }
 }

@@ -3,15 +3,19 @@
 //
 // No public function has a `requires`: a state with any numbers in it is answered for.
 use choice::Candidate;
+use choice::NOBODY;
 use choice::Selection;
 use choice::candidate_of;
 use decision::Switch;
 use decision::decide;
 use input::Input;
 use numbers::Answer;
+use numbers::CODE_DNU;
+use numbers::INPUT_COUNT;
 use numbers::InputNumber;
-use numbers::Priority;
+use numbers::NOT_TOLD;
 use numbers::Quality;
+use numbers::SEC;
 use numbers::code_of_quality;
 ghost use mathlib.Core.Path.{_≡_};
 ghost use mathlib.Core.Bool.{false};
@@ -20,9 +24,6 @@ ghost use lib.ListN.{getD};
 ghost use Rattle.input.specs.Record.{freshInput, settle, tick};
 ghost use Rattle.selector.specs.State.{candidateFor, candidatesOf, freshSelector, decided, ticked};
 ghost use Rattle.selector.specs.Answer.{selectedNumber, switchNumber, switchInput, switchFails, clockState, clockQuality, outgoingCode, selectedCandidate, codeFor, ports, answerOf, outgoingCodes};
-
-// How many inputs there are.
-const INPUT_COUNT: u8 = 16;
 
 // Stands for no input in an answer.
 const NO_INPUT: u8 = 255;
@@ -35,9 +36,6 @@ const HOLDOVER: u8 = 1;
 const LOCKED: u8 = 2;
 
 const MANUAL_INELIGIBLE: u8 = 3;
-
-// The code that says: do not use.
-const DO_NOT_USE: u8 = 0b1111;
 
 // The whole state: sixteen inputs beside time, switch and selection, the quality mode, and whether the clock has ever
 // been locked.
@@ -75,13 +73,7 @@ pub fn candidate_for(input: Input, mode: bool) -> Candidate
 pub fn candidates_of(inputs: [Input; 16], mode: bool) -> [Candidate; 16]
     ensures { λ answer. ⌜ answer ≡ candidatesOf inputs mode ⌝ }
 {
-    let nobody = Candidate {
-        quality: Quality(0),
-        priority: Priority(0),
-        admitted: false,
-        usable: false,
-    };
-    let mut candidates = [nobody; 16];
+    let mut candidates = [NOBODY; 16];
     let mut at: usize = 0;
     while at < 16 {
         let input = inputs[at];
@@ -227,12 +219,7 @@ fn selected_candidate(inputs: [Input; 16], mode: bool, selection: Selection) -> 
     ensures { λ answer. ⌜ answer ≡ selectedCandidate inputs mode selection ⌝ }
 {
     match selection {
-        Selection::Nothing => Candidate {
-            quality: Quality(0),
-            priority: Priority(0),
-            admitted: false,
-            usable: false,
-        },
+        Selection::Nothing => NOBODY,
         Selection::At(number) => {
             let input = input_at(inputs, number);
             candidate_for(input, mode)
@@ -281,9 +268,9 @@ fn clock_quality(mode: bool, candidate: Candidate) -> Quality
         if candidate.usable {
             return candidate.quality;
         }
-        return Quality(4);
+        return SEC;
     }
-    Quality(0)
+    NOT_TOLD
 }
 
 // The code that goes out of a port.
@@ -293,13 +280,13 @@ fn outgoing_code(mode: bool, sending: bool, selected: bool, code: u8) -> u8
     if mode {
         if sending {
             if selected {
-                return DO_NOT_USE;
+                return CODE_DNU;
             }
             return code;
         }
-        return DO_NOT_USE;
+        return CODE_DNU;
     }
-    DO_NOT_USE
+    CODE_DNU
 }
 
 fn selected_number(selection: Selection) -> u8

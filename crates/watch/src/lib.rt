@@ -11,6 +11,8 @@ use frame::FrameRead;
 use input::Input;
 use numbers::ACCEPTED;
 use numbers::Event;
+use numbers::FRAME_LIFE;
+use numbers::INPUT_COUNT;
 use numbers::KIND_CLEAR_SWITCH;
 use numbers::KIND_FORCED;
 use numbers::KIND_MANUAL;
@@ -25,12 +27,6 @@ ghost use Rattle.watch.specs.Watch.{InputCount, freshWatch, commands, is
 
 // Stands for a time that never comes.
 const NEVER: u64 = 18_446_744_073_709_551_615;
-
-// A frame counts for less than 5,000 ms.
-const FRAME_LIFE: u64 = 5_000;
-
-// How many inputs there are.
-const INPUT_COUNT: u8 = 16;
 
 // The state; the time before which nothing is due; and the number that the last event was
 // answered with.

@@ -4,14 +4,14 @@ use borrow.Author.Needs.{needs}
 use Rattle.input.proofs.Input.fresh.Statement.{statement}
 use Rattle.input.proofs.Input.fresh.Tie as tie
 
+forgotten-requires : tie.Need-forgotten-requires
+forgotten-requires c κs = search needs
+
 fresh-requires : tie.Need-fresh-requires
 fresh-requires c κs = search needs
-
-fresh-requires-2 : tie.Need-fresh-requires-2
-fresh-requires-2 c κs = search needs
 
 returns : tie.Need-returns
 returns c = cc
 
 pub fresh-spec : {M : Type 1} → statement M
-fresh-spec = tie.close (tie.spec fresh-requires fresh-requires-2 returns)
+fresh-spec = tie.close (tie.spec forgotten-requires fresh-requires returns)
