@@ -16,10 +16,11 @@ use Rattle.choice.specs.declared.Selection.the-variants as S
 use Rattle.decision.specs.declared.Switch.the-variants as W
 use Rattle.selector.specs.declared.Selector.{Selector}
 use Rattle.selector.specs.Answer.{answerOf, outgoingCodes}
+use Rattle.numbers.specs.Inputs.{lastInput}
 use Rattle.card.specs.declared.Card.{Card}
 use Rattle.card.specs.declared.CardInput.{CardInput}
 use Rattle.card.specs.Flat.{flatInput, flatAnswer, switchForced, switchManual, switchOf, selectionOf, isSelected, selectorOf, cardOf}
-use Rattle.card.specs.Card.{lastPort, portCode, numberOfWrite, WritePort}
+use Rattle.card.specs.Card.{portCode, numberOfWrite, WritePort}
 
 -- ---- switchOf
 
@@ -89,11 +90,11 @@ cardOf-answered number state flat selection answer f s a = rw (f, s, a)
 -- ---- WritePort
 
 module _ (card : Card) (port : ℕ) (event : Bool) (source before : List ℕ) where
-  pub writePort-no-port : lastPort < port → WritePort card port event source before inputOutOfRange before
+  pub writePort-no-port : lastInput < port → WritePort card port event source before inputOutOfRange before
   writePort-no-port p = record { answered = rw (lt-ltb _ _ p); content = rw (lt-ltb _ _ p) }
 
   pub writePort-port : (state : Selector) (codes : List ℕ) (written : FrameWrite) (answer : ℕ) (after : List ℕ)
-      → port ≤ lastPort → state ≡ selectorOf card → codes ≡ outgoingCodes state
+      → port ≤ lastInput → state ≡ selectorOf card → codes ≡ outgoingCodes state
       → WriteFrame before source event (getD codes port 0) written after → answer ≡ numberOfWrite written
       → WritePort card port event source before answer after
   writePort-port state codes written answer after p s c w a =

@@ -19,9 +19,10 @@ use Rattle.input.specs.declared.Input.{Input}
 use Rattle.input.specs.Record.{freshInput}
 use Rattle.run.proofs.Laws.{byBool}
 use Rattle.selector.specs.Answer.{selectedNumber, qualityOf, outgoingCode, codeFor, outgoingCodes, ports}
+use Rattle.numbers.specs.Inputs.{lastInput}
 use Rattle.card.specs.declared.Card.{Card}
 use Rattle.card.specs.Flat.{selectorOf}
-use Rattle.card.specs.Card.{lastPort, portCode, portWrite, numberOfWrite, WritePort}
+use Rattle.card.specs.Card.{portCode, portWrite, numberOfWrite, WritePort}
 use Rattle.card.specs.Ports.{portNumber, PortFrame}
 
 -- ---- an outgoing code is one of the sixteen
@@ -100,17 +101,17 @@ refused-kept (Refused number) before source event code refused = refl
 module _ (card : Card) (port : ℕ) (event : Bool) (source before : List ℕ) (answer : ℕ) (after : List ℕ)
     (write : WritePort card port event source before answer after) where
   -- a port that there is: what is answered, and what is left
-  there-answered : ltb lastPort port ≡ false → answer ≡ numberOfWrite (portWrite card port source before)
+  there-answered : ltb lastInput port ≡ false → answer ≡ numberOfWrite (portWrite card port source before)
   there-answered there = write .answered ∙ (rw there)
 
-  there-content : ltb lastPort port ≡ false
+  there-content : ltb lastInput port ≡ false
       → after ≡ contentAfter (portWrite card port source before) before source event (portCode card port)
   there-content there = write .content ∙ (rw there)
 
   -- What is written for a port tells its outgoing code; the numbers are 5, 19 and 18, and each keeps the buffer.
   pub port-frame : PortFrame card port source before answer after
   port-frame =
-      byBool (ltb lastPort port)
+      byBool (ltb lastInput port)
       (λ past.
       record {
         number = write .answered ∙ (rw past);

@@ -7,6 +7,7 @@ use mathlib.Core.Path.{_≡_}
 use lib.Dec.{ltb}
 use lib.ListN.{getD}
 use Rattle.numbers.specs.declared.Event.{Event}
+use Rattle.numbers.specs.Inputs.{lastInput}
 use Rattle.numbers.specs.Refusal.{accepted, inputOutOfRange}
 use Rattle.frame.specs.declared.FrameWrite.{FrameWrite}
 use Rattle.frame.specs.declared.FrameWrite.the-variants.{Written, Refused}
@@ -18,10 +19,6 @@ use Rattle.events.specs.Step.{step}
 use Rattle.card.specs.declared.Card.{Card}
 use Rattle.card.specs.declared.CardCodes.{CardCodes}
 use Rattle.card.specs.Flat.{selectorOf, cardOf}
-
--- "Inputs 0 to 15 are also the outgoing ports"
-abbrev pub lastPort : ℕ
-lastPort = 15
 
 -- "The selector starts at time 0, quality mode on, no switch, nothing selected"
 unfoldable pub freshCard : Card
@@ -62,8 +59,8 @@ pub record WritePort
     (card : Card) (port : ℕ) (event : Bool) (source before : List ℕ) (answer : ℕ) (after : List ℕ)
     : Type 0 where
   pub answered :
-      answer ≡ cond (ltb lastPort port) inputOutOfRange (numberOfWrite (portWrite card port source before))
+      answer ≡ cond (ltb lastInput port) inputOutOfRange (numberOfWrite (portWrite card port source before))
   pub content :
       after
-      ≡ cond (ltb lastPort port) before
+      ≡ cond (ltb lastInput port) before
       (contentAfter (portWrite card port source before) before source event (portCode card port))

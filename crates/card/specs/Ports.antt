@@ -11,13 +11,14 @@ use Rattle.numbers.specs.Refusal.{accepted, inputOutOfRange, bufferTooShort, so
 use Rattle.frame.specs.declared.FrameRead.the-variants.{Code}
 use Rattle.frame.specs.Read.{readFrame}
 use Rattle.frame.specs.Write.{writtenLength, sourceLength}
+use Rattle.numbers.specs.Inputs.{lastInput}
 use Rattle.card.specs.declared.Card.{Card}
-use Rattle.card.specs.Card.{lastPort, portCode}
+use Rattle.card.specs.Card.{portCode}
 
 -- the number that is answered: 5, then "19, 18"; never 6, since an outgoing code is one of the sixteen
 abbrev pub portNumber : ℕ → List ℕ → List ℕ → ℕ
 portNumber port source before =
-    cond (ltb lastPort port) inputOutOfRange
+    cond (ltb lastInput port) inputOutOfRange
     (cond (not (eqb (length source) sourceLength)) sourceNotSix
     (cond (ltb (length before) writtenLength) bufferTooShort
     accepted))

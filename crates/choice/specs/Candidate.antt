@@ -7,6 +7,7 @@ use mathlib.Core.Path.{_≡_}
 use lib.Dec.{leb, ltb, eqb}
 use lib.ListN.{getD}
 use Rattle.numbers.specs.declared.Priority.{Priority}
+use Rattle.numbers.specs.Inputs.{inputCount}
 use Rattle.numbers.specs.declared.Quality.{Quality}
 use Rattle.numbers.specs.Quality.{notTold, prc, sec, failed, isFailed}
 use Rattle.choice.specs.declared.Candidate.{Candidate}
@@ -37,7 +38,8 @@ candidateOf passed priority locked mode =
 unfoldable pub isEligible : Candidate → Bool
 isEligible candidate = candidate .admitted && candidate .usable
 
--- "priority not 0, not locked, passed quality not 7, and with quality mode on passed quality 1 to 4", said of one input
+-- "priority not 0, not locked, passed quality not 7, and with quality mode on passed quality 1 to 4", said of one input;
+-- `eligible-exact`: `isEligible (candidateOf ..)` exactly where it holds
 pub record Eligible (passed : Quality) (priority : Priority) (locked mode : Bool) : Type 0 where
   pub notOff : priority .0 ≡ 0 → ⊥
   pub notLocked : locked ≡ false
@@ -73,4 +75,4 @@ lowerAmong candidates quality (suc count) = isLower (lowerAmong candidates quali
 
 -- the same among all sixteen
 abbrev pub anyLower : List Candidate → Quality → Bool
-anyLower candidates quality = lowerAmong candidates quality 16
+anyLower candidates quality = lowerAmong candidates quality inputCount

@@ -15,7 +15,7 @@ use Rattle.choice.proofs.Ranks.{isBetter-ranking}
 use Rattle.decision.specs.declared.Switch.{Switch}
 use Rattle.decision.specs.declared.Switch.the-variants as W
 use Rattle.decision.specs.declared.Decision.{Decision}
-use Rattle.decision.specs.Decision.{judged, selectedBy, isLocked, isHeld, decide}
+use Rattle.decision.specs.Decision.{judged, selectedBy, isClockLocked, isHeld, decide}
 use Rattle.decision.specs.Choices.{ChoiceMoment, Choices, Commands, commanded, decidedOver}
 use Rattle.decision.proofs.Standing.{stands, judged-stands, commanded-other}
 
@@ -57,7 +57,7 @@ module _ (candidates : List Candidate) (switch : Switch) (before : Selection) (h
       rw (
         judged-again candidates switch,
         selectedBy-again candidates (judged candidates switch) before,
-        isHeld-again held (isLocked candidates (selectedBy candidates (judged candidates switch) before)),
+        isHeld-again held (isClockLocked candidates (selectedBy candidates (judged candidates switch) before)),
       )
 
 module _ (again choice : ChoiceMoment) (earlier : Choices) where

@@ -14,30 +14,30 @@ use Rattle.choice.specs.Choice.{choose}
 use Rattle.decision.specs.declared.Switch.{Switch}
 use Rattle.decision.specs.declared.Switch.the-variants as W
 use Rattle.decision.specs.declared.Decision.{Decision}
-use Rattle.decision.specs.Decision.{manualStands, judged, selectedBy, isLocked, isHeld, decide}
+use Rattle.decision.specs.Decision.{manualMayStand, judged, selectedBy, isClockLocked, isHeld, decide}
 
 abbrev pub decision : Switch → Selection → Bool → Decision
 decision switch selection held = record { switch = switch; selection = selection; held = held }
 
--- ---- manualStands
+-- ---- manualMayStand
 
 module _ (candidates : List Candidate) (on : ℕ) (candidate : Candidate) (able : Bool) where
-  pub manualStands-barred : candidate ≡ getD candidates on nobody → able ≡ isEligible candidate → able ≡ false
-      → false ≡ manualStands candidates on
-  unfolding manualStands
-  manualStands-barred c e f = rw (← c, ← e, f)
+  pub manualMayStand-barred : candidate ≡ getD candidates on nobody → able ≡ isEligible candidate → able ≡ false
+      → false ≡ manualMayStand candidates on
+  unfolding manualMayStand
+  manualMayStand-barred c e f = rw (← c, ← e, f)
 
-  pub manualStands-beaten : (lower : Bool) → candidate ≡ getD candidates on nobody → able ≡ isEligible candidate → able ≡ true
-      → lower ≡ anyLower candidates (candidate .quality) → lower ≡ true → false ≡ manualStands candidates on
-  unfolding manualStands
-  manualStands-beaten lower c e f l t = rw (← c, ← e, f, ← l, t)
+  pub manualMayStand-beaten : (lower : Bool) → candidate ≡ getD candidates on nobody → able ≡ isEligible candidate → able ≡ true
+      → lower ≡ anyLower candidates (candidate .quality) → lower ≡ true → false ≡ manualMayStand candidates on
+  unfolding manualMayStand
+  manualMayStand-beaten lower c e f l t = rw (← c, ← e, f, ← l, t)
 
-  pub manualStands-best : (lower : Bool) → candidate ≡ getD candidates on nobody → able ≡ isEligible candidate → able ≡ true
-      → lower ≡ anyLower candidates (candidate .quality) → lower ≡ false → true ≡ manualStands candidates on
-  unfolding manualStands
-  manualStands-best lower c e f l t = rw (← c, ← e, f, ← l, t)
+  pub manualMayStand-best : (lower : Bool) → candidate ≡ getD candidates on nobody → able ≡ isEligible candidate → able ≡ true
+      → lower ≡ anyLower candidates (candidate .quality) → lower ≡ false → true ≡ manualMayStand candidates on
+  unfolding manualMayStand
+  manualMayStand-best lower c e f l t = rw (← c, ← e, f, ← l, t)
 
-pub ruleset manualStands-laws = (manualStands-barred, manualStands-beaten, manualStands-best)
+pub ruleset manualMayStand-laws = (manualMayStand-barred, manualMayStand-beaten, manualMayStand-best)
 
 -- ---- judged
 
@@ -58,12 +58,12 @@ module _ (candidates : List Candidate) (switch : Switch) where
   judged-forced-barred on candidate s c a =
       let k : getD candidates (on .0) nobody .admitted ≡ false = sym (ap (λ (x : Candidate). x .admitted) c) ∙ a in rw (s, k)
 
-  pub judged-manual : (on : InputNumber) (stands : Bool) → switch ≡ W.Manual on → stands ≡ manualStands candidates (on .0)
+  pub judged-manual : (on : InputNumber) (stands : Bool) → switch ≡ W.Manual on → stands ≡ manualMayStand candidates (on .0)
       → stands ≡ true → W.Manual on ≡ judged candidates switch
   unfolding judged
   judged-manual on stands s c a = rw (s, ← c, a)
 
-  pub judged-manual-falls : (on : InputNumber) (stands : Bool) → switch ≡ W.Manual on → stands ≡ manualStands candidates (on .0)
+  pub judged-manual-falls : (on : InputNumber) (stands : Bool) → switch ≡ W.Manual on → stands ≡ manualMayStand candidates (on .0)
       → stands ≡ false → W.Nothing ≡ judged candidates switch
   unfolding judged
   judged-manual-falls on stands s c a = rw (s, ← c, a)
@@ -88,19 +88,19 @@ module _ (candidates : List Candidate) (switch : Switch) (before : Selection) wh
 
 pub ruleset selectedBy-laws = (selectedBy-choice, selectedBy-forced, selectedBy-manual)
 
--- ---- isLocked, isHeld
+-- ---- isClockLocked, isHeld
 
 module _ (candidates : List Candidate) (selection : Selection) where
-  pub isLocked-nothing : selection ≡ S.Nothing → false ≡ isLocked candidates selection
-  unfolding isLocked
-  isLocked-nothing s = rw s
+  pub isClockLocked-nothing : selection ≡ S.Nothing → false ≡ isClockLocked candidates selection
+  unfolding isClockLocked
+  isClockLocked-nothing s = rw s
 
-  pub isLocked-at : (number : InputNumber) (candidate : Candidate) → selection ≡ S.At number
-      → candidate ≡ getD candidates (number .0) nobody → candidate .usable ≡ isLocked candidates selection
-  unfolding isLocked
-  isLocked-at number candidate s c = rw (s, c)
+  pub isClockLocked-at : (number : InputNumber) (candidate : Candidate) → selection ≡ S.At number
+      → candidate ≡ getD candidates (number .0) nobody → candidate .usable ≡ isClockLocked candidates selection
+  unfolding isClockLocked
+  isClockLocked-at number candidate s c = rw (s, c)
 
-pub ruleset isLocked-laws = (isLocked-nothing, isLocked-at)
+pub ruleset isClockLocked-laws = (isClockLocked-nothing, isClockLocked-at)
 
 pub isHeld-now : (held locked : Bool) → locked ≡ true → true ≡ isHeld held locked
 unfolding isHeld
@@ -116,7 +116,7 @@ pub ruleset isHeld-laws = (isHeld-now, isHeld-before)
 
 pub decide-made : (candidates : List Candidate) (switch : Switch) (before : Selection) (held : Bool) (standing : Switch)
     (selection : Selection) (locked ever : Bool) → standing ≡ judged candidates switch
-    → selection ≡ selectedBy candidates standing before → locked ≡ isLocked candidates selection → ever ≡ isHeld held locked
+    → selection ≡ selectedBy candidates standing before → locked ≡ isClockLocked candidates selection → ever ≡ isHeld held locked
     → decision standing selection ever ≡ decide candidates switch before held
 unfolding decide
 decide-made candidates switch before held standing selection locked ever s l k e = rw (e, k, l, s)

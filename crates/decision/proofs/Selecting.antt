@@ -16,26 +16,26 @@ use Rattle.choice.proofs.Choosing.{both-first, both-second, choose-chosen}
 use Rattle.choice.proofs.Ranks.{isBetter-ranking, lower-none}
 use Rattle.decision.specs.declared.Switch.{Switch}
 use Rattle.decision.specs.declared.Switch.the-variants as W
-use Rattle.decision.specs.Decision.{manualStands, judged, selectedBy, decide}
+use Rattle.decision.specs.Decision.{manualMayStand, judged, selectedBy, decide}
 use Rattle.decision.specs.Choices.{ChoiceMoment, Choices, commanded, decidedOver, SelectionRight}
 use Rattle.decision.proofs.Laws.{selectedBy-forced, selectedBy-manual}
 use Rattle.decision.proofs.Standing.{manualOn, manual-passes}
 
--- ---- manualStands
+-- ---- manualMayStand
 
 module _ (candidates : List Candidate) (on : ℕ) where
   -- "its input is eligible"
-  pub manualStands-eligible : manualStands candidates on ≡ true → eligibleAmong candidates on ≡ true
-  unfolding manualStands
-  manualStands-eligible x =
+  pub manualMayStand-eligible : manualMayStand candidates on ≡ true → eligibleAmong candidates on ≡ true
+  unfolding manualMayStand
+  manualMayStand-eligible x =
       both-first (eligibleAmong candidates on) (not (anyLower candidates (getD candidates on nobody .quality))) x
 
   -- "and, mode on, no eligible input has lower passed quality"
-  pub manualStands-lower : manualStands candidates on ≡ true
+  pub manualMayStand-lower : manualMayStand candidates on ≡ true
       → (number : ℕ) → number < inputCount → eligibleAmong candidates number ≡ true
       → getD candidates on nobody .quality .0 ≤ getD candidates number nobody .quality .0
-  unfolding manualStands
-  manualStands-lower x =
+  unfolding manualMayStand
+  manualMayStand-lower x =
       let lower : Bool = anyLower candidates (getD candidates on nobody .quality) in
       lower-none candidates (getD candidates on nobody .quality)
       (not-true lower (both-second (eligibleAmong candidates on) (not lower) x))
@@ -60,7 +60,7 @@ module _ (choice : ChoiceMoment) (earlier : Choices) where
         forced = λ on x. sym (selectedBy-forced (choice .candidates) standing before (record { 0 = on }) x);
         manual = λ on x. (
           sym (selectedBy-manual (choice .candidates) standing before (record { 0 = on }) x),
-          manualStands-eligible (choice .candidates) on (manual-passes (choice .candidates) switch on x),
+          manualMayStand-eligible (choice .candidates) on (manual-passes (choice .candidates) switch on x),
         );
       }
     where
@@ -79,5 +79,5 @@ module _ (choice : ChoiceMoment) (earlier : Choices) where
       → getD (choice .candidates) on nobody .quality .0 ≤ getD (choice .candidates) number nobody .quality .0
   unfolding decidedOver decide
   selection-lower on x =
-      manualStands-lower (choice .candidates) on
+      manualMayStand-lower (choice .candidates) on
       (manual-passes (choice .candidates) (commanded (choice .kind) (choice .on) (decidedOver earlier .switch)) on x)

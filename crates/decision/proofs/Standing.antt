@@ -14,7 +14,7 @@ use Rattle.numbers.specs.Kind.{kindForced, kindManual, kindClearSwitch}
 use Rattle.choice.specs.declared.Candidate.{Candidate}
 use Rattle.decision.specs.declared.Switch.{Switch}
 use Rattle.decision.specs.declared.Switch.the-variants as W
-use Rattle.decision.specs.Decision.{forcedStands, manualStands, judged, decide}
+use Rattle.decision.specs.Decision.{forcedMayStand, manualMayStand, judged, decide}
 use Rattle.decision.specs.Choices.{ChoiceMoment, Choices, commanded, decidedOver, choicesAgo, FollowsOn, Commands, Passes, Stands, StandsForced, StandsManual, SwitchRight}
 
 -- the switches on an input
@@ -50,8 +50,8 @@ manual-injective on other x =
 -- a switch may stand
 abbrev pub stands : List Candidate → Switch → Bool
 stands candidates W.Nothing = false
-stands candidates (W.Forced on) = forcedStands candidates (on .0)
-stands candidates (W.Manual on) = manualStands candidates (on .0)
+stands candidates (W.Forced on) = forcedMayStand candidates (on .0)
+stands candidates (W.Manual on) = manualMayStand candidates (on .0)
 
 -- judging keeps a switch that may stand, and otherwise leaves none
 pub judged-stands : (candidates : List Candidate) (switch : Switch)
@@ -178,7 +178,7 @@ module _ (kind : ℕ) (test : List Candidate → ℕ → Bool) (switchOn : ℕ �
       )
       (judged-passes (choice .candidates) on (unbroken 0 (omega arith)))
 
-forced-setting : Setting kindForced forcedStands forcedOn
+forced-setting : Setting kindForced forcedMayStand forcedOn
 unfolding commanded
 forced-setting =
     record {
@@ -189,7 +189,7 @@ forced-setting =
       byManual = λ set on x. absurd (forced-manual on set (sym x));
     }
 
-manual-setting : Setting kindManual manualStands manualOn
+manual-setting : Setting kindManual manualMayStand manualOn
 unfolding commanded
 manual-setting =
     record {
@@ -202,9 +202,9 @@ manual-setting =
 
 -- a manual switch that stands passes its test at the latest choice
 pub manual-passes : (candidates : List Candidate) (switch : Switch) (on : ℕ) → judged candidates switch ≡ manualOn on
-    → manualStands candidates on ≡ true
+    → manualMayStand candidates on ≡ true
 manual-passes candidates switch on x =
-    judged-only kindManual manualStands manualOn manual-setting candidates switch on x .1
+    judged-only kindManual manualMayStand manualOn manual-setting candidates switch on x .1
 
 -- ---- the theorems
 
@@ -212,13 +212,13 @@ manual-passes candidates switch on x =
 pub switch-right : (choices : Choices) → SwitchRight choices
 switch-right choices =
     record {
-      forced = switch-stands kindForced forcedStands forcedOn forced-setting choices;
+      forced = switch-stands kindForced forcedMayStand forcedOn forced-setting choices;
       forcedOnly = λ on s.
-          stands-switch kindForced forcedStands forcedOn forced-setting choices on
+          stands-switch kindForced forcedMayStand forcedOn forced-setting choices on
           (s .count) (s .given) (s .unreplaced) (s .unbroken);
-      manual = switch-stands kindManual manualStands manualOn manual-setting choices;
+      manual = switch-stands kindManual manualMayStand manualOn manual-setting choices;
       manualOnly = λ on s.
-          stands-switch kindManual manualStands manualOn manual-setting choices on
+          stands-switch kindManual manualMayStand manualOn manual-setting choices on
           (s .count) (s .given) (s .unreplaced) (s .unbroken);
     }
 

@@ -1,5 +1,5 @@
 -- Document 01, "Choosing", over any sequence of choices: which switch stands and what is selected, as statements, and computed.
--- Nothing here keeps a state.
+-- The statements keep no state; `decidedOver` computes.
 -- Assumes nothing.
 use Prim.Native.Nat.{ℕ, zero, suc, _≤_, _<_}
 use mathlib.Core.Bool.{Bool, true, false, cond}
@@ -18,7 +18,7 @@ use Rattle.choice.specs.Choice.{Chosen, selected}
 use Rattle.decision.specs.declared.Switch.{Switch}
 use Rattle.decision.specs.declared.Switch.the-variants as W
 use Rattle.decision.specs.declared.Decision.{Decision}
-use Rattle.decision.specs.Decision.{forcedStands, manualStands, judged, selectedBy, isLocked, decide}
+use Rattle.decision.specs.Decision.{forcedMayStand, manualMayStand, judged, selectedBy, isClockLocked, decide}
 
 -- one choice: the sixteen inputs as they are then, and the kind and input of the event that the choice follows; a tick's kind where it
 -- follows the tick
@@ -81,11 +81,11 @@ pub record Stands (kind : ℕ) (test : List Candidate → ℕ → Bool) (on : �
 
 -- "stands until cleared, replaced by another forced switch, or its input is off or locked"
 abbrev pub StandsForced : ℕ → Choices → Type 0
-StandsForced on choices = Stands kindForced forcedStands on choices
+StandsForced on choices = Stands kindForced forcedMayStand on choices
 
 -- "stands while its input is eligible and, mode on, no eligible input has lower passed quality; a newer manual replaces it"
 abbrev pub StandsManual : ℕ → Choices → Type 0
-StandsManual on choices = Stands kindManual manualStands on choices
+StandsManual on choices = Stands kindManual manualMayStand on choices
 
 -- the switch after the choices stands exactly as the sentences say
 pub record SwitchRight (choices : Choices) : Type 0 where

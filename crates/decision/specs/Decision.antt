@@ -14,18 +14,18 @@ use Rattle.decision.specs.declared.Switch.the-variants as W
 use Rattle.decision.specs.declared.Decision.{Decision}
 
 -- a forced switch may stand: its input is not "off or locked"
-abbrev pub forcedStands : List Candidate → ℕ → Bool
-forcedStands candidates on = getD candidates on nobody .admitted
+abbrev pub forcedMayStand : List Candidate → ℕ → Bool
+forcedMayStand candidates on = getD candidates on nobody .admitted
 
 -- "its input is eligible and, mode on, no eligible input has lower passed quality"
-unfoldable pub manualStands : List Candidate → ℕ → Bool
-manualStands candidates on = eligibleAmong candidates on && not (anyLower candidates (getD candidates on nobody .quality))
+unfoldable pub manualMayStand : List Candidate → ℕ → Bool
+manualMayStand candidates on = eligibleAmong candidates on && not (anyLower candidates (getD candidates on nobody .quality))
 
 -- the switch judged
 unfoldable pub judged : List Candidate → Switch → Switch
 judged candidates W.Nothing = W.Nothing
-judged candidates (W.Forced on) = cond (forcedStands candidates (on .0)) (W.Forced on) W.Nothing
-judged candidates (W.Manual on) = cond (manualStands candidates (on .0)) (W.Manual on) W.Nothing
+judged candidates (W.Forced on) = cond (forcedMayStand candidates (on .0)) (W.Forced on) W.Nothing
+judged candidates (W.Manual on) = cond (manualMayStand candidates (on .0)) (W.Manual on) W.Nothing
 
 -- "Forced: selects its input whatever its quality"; a manual switch selects its own as well; otherwise the choice
 unfoldable pub selectedBy : List Candidate → Switch → Selection → Selection
@@ -34,9 +34,9 @@ selectedBy candidates (W.Forced on) before = S.At on
 selectedBy candidates (W.Manual on) before = S.At on
 
 -- "locked if an input is selected and its passed quality is usable"
-unfoldable pub isLocked : List Candidate → Selection → Bool
-isLocked candidates S.Nothing = false
-isLocked candidates (S.At number) = getD candidates (number .0) nobody .usable
+unfoldable pub isClockLocked : List Candidate → Selection → Bool
+isClockLocked candidates S.Nothing = false
+isClockLocked candidates (S.At number) = getD candidates (number .0) nobody .usable
 
 -- "locked after any earlier choice"
 unfoldable pub isHeld : Bool → Bool → Bool
@@ -47,4 +47,4 @@ unfoldable pub decide : List Candidate → Switch → Selection → Bool → Dec
 decide candidates switch before held =
     let standing = judged candidates switch in
     let selection = selectedBy candidates standing before in
-    record { switch = standing; selection = selection; held = isHeld held (isLocked candidates selection) }
+    record { switch = standing; selection = selection; held = isHeld held (isClockLocked candidates selection) }

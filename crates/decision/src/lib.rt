@@ -8,7 +8,7 @@ use choice::choose;
 use choice::has_lower;
 use numbers::InputNumber;
 ghost use mathlib.Core.Path.{_≡_};
-ghost use Rattle.decision.specs.Decision.{manualStands, judged, selectedBy, isLocked, isHeld, decide};
+ghost use Rattle.decision.specs.Decision.{manualMayStand, judged, selectedBy, isClockLocked, isHeld, decide};
 
 // The operator's switch and its input.
 pub enum Switch {
@@ -25,8 +25,8 @@ pub struct Decision {
 }
 
 // Whether a manual switch may stand on an input: it is eligible and, mode on, no eligible input has lower passed quality.
-pub fn manual_stands(candidates: [Candidate; 16], on: InputNumber) -> bool
-    ensures { λ answer. ⌜ answer ≡ manualStands candidates (on .0) ⌝ }
+pub fn manual_may_stand(candidates: [Candidate; 16], on: InputNumber) -> bool
+    ensures { λ answer. ⌜ answer ≡ manualMayStand candidates (on .0) ⌝ }
 {
     let candidate = candidate_at(candidates, on);
     if candidate.is_eligible() {
@@ -53,7 +53,7 @@ fn judge(candidates: [Candidate; 16], switch: Switch) -> Switch
             Switch::Nothing
         }
         Switch::Manual(on) => {
-            if manual_stands(candidates, on) {
+            if manual_may_stand(candidates, on) {
                 return Switch::Manual(on);
             }
             Switch::Nothing
@@ -73,8 +73,8 @@ fn select(candidates: [Candidate; 16], switch: Switch, before: Selection) -> Sel
 }
 
 // Whether the clock is locked: an input is selected and its passed quality is usable.
-fn is_locked(candidates: [Candidate; 16], selection: Selection) -> bool
-    ensures { λ answer. ⌜ answer ≡ isLocked candidates selection ⌝ }
+fn is_clock_locked(candidates: [Candidate; 16], selection: Selection) -> bool
+    ensures { λ answer. ⌜ answer ≡ isClockLocked candidates selection ⌝ }
 {
     match selection {
         Selection::Nothing => false,
@@ -106,7 +106,7 @@ pub fn decide(
 {
     let standing = judge(candidates, switch);
     let selection = select(candidates, standing, before);
-    let locked = is_locked(candidates, selection);
+    let locked = is_clock_locked(candidates, selection);
     let ever = is_held(held, locked);
     Decision {
         switch: standing,

@@ -16,9 +16,8 @@ use Rattle.frame.specs.Read.{readFrame}
 use Rattle.run.proofs.Laws.{byBool}
 use Rattle.input.specs.declared.Input.{Input}
 use Rattle.input.specs.declared.Settings.{Settings}
-use Rattle.input.specs.Recorded.{History, isOn, lastArgument, modeOn, priorityOf, isLocked, timeOf, passedAt, Ordered}
+use Rattle.input.specs.Recorded.{History, tickEvent, isOn, lastArgument, modeOn, priorityOf, isLockedOut, timeOf, passedAt, Ordered}
 use Rattle.input.specs.Record.{freshInput, heardAfter, settingsAfter, settle, tick, afterEvent, passedOf, takes, recordAfter}
-use Rattle.input.specs.Demand2.{tickEvent}
 use Rattle.input.proofs.Recalled.{settingsBy, settings-recalled}
 use Rattle.input.proofs.Demand2.{passed-tick, passed-now, takes-other, takes-tick, demand-2-tick-adds-nothing}
 use Rattle.choice.specs.declared.Candidate.{Candidate}

@@ -7,8 +7,7 @@ use native.Mathlib.Omega.{arith}
 use lib.ListN.{getD}
 use Rattle.numbers.specs.declared.Quality.{Quality}
 use Rattle.numbers.specs.Inputs.{inputCount}
-use Rattle.input.specs.Recorded.{History, isOn, lastArgument, modeOn, timeOf, priorityOf, isLocked, momentsUntil, PassedAt, passedAt, Ordered}
-use Rattle.input.specs.Demand2.{tickEvent}
+use Rattle.input.specs.Recorded.{History, tickEvent, isOn, lastArgument, modeOn, timeOf, priorityOf, isLockedOut, momentsUntil, PassedAt, passedAt, Ordered}
 use Rattle.input.proofs.Demand2.{demand-2-tick-adds-nothing}
 use Rattle.run.proofs.Exact.{passed-unique}
 use Rattle.choice.specs.declared.Candidate.{Candidate}
@@ -27,11 +26,11 @@ use Rattle.events.proofs.Agrees.{Agrees, sequence-agrees}
 candidate-stated : (history : History) (time number : ℕ) → number < inputCount → (quality : Quality)
     → PassedAt number history time quality
     → getD (candidatesBy history time) number nobody ≡
-    candidateOf quality (record { 0 = priorityOf number history }) (isLocked number history) (modeOn history)
+    candidateOf quality (record { 0 = priorityOf number history }) (isLockedOut number history) (modeOn history)
 unfolding candidateBy passedAt
 candidate-stated history time number inside quality states =
     getD-ports (candidateBy history time) nobody number inside ∙
-    ap (λ (passes : Quality). candidateOf passes (record { 0 = priorityOf number history }) (isLocked number history) (modeOn history))
+    ap (λ (passes : Quality). candidateOf passes (record { 0 = priorityOf number history }) (isLockedOut number history) (modeOn history))
     (sym (passed-unique (momentsUntil number history time) quality states))
 
 latest-right : (choices : Choices) → LatestRight choices

@@ -28,7 +28,7 @@ use Rattle.selector.specs.State.{candidatesOf, ticked}
 use Rattle.selector.proofs.Laws.{getD-any}
 use Rattle.run.proofs.Laws.{byBool}
 use Rattle.events.specs.Refusals.{firstThatApplies, isWrongKind, frameRefusal, earlyRefusal, ethernetAt, isForcedSwitch, lateRefusal}
-use Rattle.events.specs.Step.{octet, heldArgument, inputAfter, inputsAfter, modeAfter, recordedArgument, recordedEvent, placed, stepped, earlyNumber, lateNumber, stepRead}
+use Rattle.events.specs.Step.{lowByte, heldArgument, inputAfter, inputsAfter, modeAfter, recordedArgument, recordedEvent, placed, stepped, earlyNumber, lateNumber, stepRead}
 
 -- ---- isWrongKind
 
@@ -257,13 +257,13 @@ module _ (input : Input) (byte time : ℕ) (mode : Bool) where
 
 module _ (input : Input) (kind argument byte time : ℕ) (mode : Bool) (after : Input) (known : ℕ) where
   -- a kind whose argument is a byte
-  pub inputAfter-byte : kind ≡ known → eqb known kindHoldoff ≡ false → byte ≡ octet argument
+  pub inputAfter-byte : kind ≡ known → eqb known kindHoldoff ≡ false → byte ≡ lowByte argument
       → after ≡ afterEvent input known byte time mode → after ≡ inputAfter input kind argument time mode
   unfolding inputAfter heldArgument
   inputAfter-byte k h b a = a ∙ (rw (k, h, b))
 
   -- a kind whose argument is 0 or 1
-  pub inputAfter-flag : kind ≡ known → eqb known kindHoldoff ≡ false → byte ≡ octet argument
+  pub inputAfter-flag : kind ≡ known → eqb known kindHoldoff ≡ false → byte ≡ lowByte argument
       → afterEvent input known (flag (not (eqb byte 0))) time mode ≡ afterEvent input known byte time mode
       → after ≡ afterEvent input known (flag (not (eqb byte 0))) time mode → after ≡ inputAfter input kind argument time mode
   inputAfter-flag k h b same a = inputAfter-byte k h b (a ∙ same)

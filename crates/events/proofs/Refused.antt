@@ -25,7 +25,7 @@ use Rattle.numbers.proofs.KindNumbers.{Told, kindOf-told}
 use Rattle.frame.proofs.ReadLaws.{numberOfRead-readFrame}
 use Rattle.events.specs.Refusals.{Refusal, firstThatApplies, isWrongKind, frameRefusal, earlyRows, earlyRefusal, lateRows, lateRefusal}
 use Rattle.events.specs.Demand1.{NoneApplies, FirstApplies}
-use Rattle.events.specs.Step.{octet, heldArgument, recordedArgument}
+use Rattle.events.specs.Step.{lowByte, heldArgument, recordedArgument}
 
 -- ---- firstThatApplies
 

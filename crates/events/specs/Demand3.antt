@@ -7,7 +7,7 @@ use mathlib.Core.Path.{_≡_}
 use lib.ListN.{getD}
 use Rattle.numbers.specs.declared.Quality.{Quality}
 use Rattle.numbers.specs.Inputs.{inputCount}
-use Rattle.input.specs.Recorded.{History, modeOn, timeOf, priorityOf, isLocked, PassedAt, Ordered}
+use Rattle.input.specs.Recorded.{History, modeOn, timeOf, priorityOf, isLockedOut, PassedAt, Ordered}
 use Rattle.choice.specs.declared.Candidate.{Candidate}
 use Rattle.choice.specs.declared.Selection.the-variants as S
 use Rattle.choice.specs.Candidate.{nobody, candidateOf}
@@ -39,7 +39,7 @@ pub record Demand3 (sequence : Sequence) : Type 0 where
   pub eligibility : (number : ℕ) → number < inputCount → (quality : Quality)
       → PassedAt number (recorded sequence) (stateAfter sequence .time) quality
       → getD (candidatesBy (recorded sequence) (stateAfter sequence .time)) number nobody ≡
-      candidateOf quality (record { 0 = priorityOf number (recorded sequence) }) (isLocked number (recorded sequence))
+      candidateOf quality (record { 0 = priorityOf number (recorded sequence) }) (isLockedOut number (recorded sequence))
       (modeOn (recorded sequence))
   -- the switch stands exactly as the document says, and the latest choice is right
   pub switchRight : SwitchRight (choicesOf sequence)

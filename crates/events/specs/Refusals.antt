@@ -17,7 +17,7 @@ use Rattle.choice.specs.declared.Candidate.{Candidate}
 use Rattle.choice.specs.Candidate.{nobody, eligibleAmong, anyLower}
 use Rattle.decision.specs.declared.Switch.{Switch}
 use Rattle.decision.specs.declared.Switch.the-variants as W
-use Rattle.decision.specs.Decision.{forcedStands}
+use Rattle.decision.specs.Decision.{forcedMayStand}
 
 -- a row of the table: its number, and whether it applies
 pub record Refusal : Type 0 where
@@ -73,7 +73,7 @@ isForcedSwitch (W.Manual on) = false
 -- rows 14 to 17, for the inputs and the switch after the tick
 abbrev pub lateRows : List Candidate → Switch → ℕ → ℕ → List Refusal
 lateRows candidates switch kind on =
-    refusal forcedBarred (eqb kind kindForced && not (forcedStands candidates on)) ∷
+    refusal forcedBarred (eqb kind kindForced && not (forcedMayStand candidates on)) ∷
     refusal manualForcedStands (eqb kind kindManual && isForcedSwitch switch) ∷
     refusal manualNotEligible (eqb kind kindManual && not (eligibleAmong candidates on)) ∷
     refusal manualLowerQuality (eqb kind kindManual && anyLower candidates (getD candidates on nobody .quality)) ∷

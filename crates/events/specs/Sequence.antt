@@ -8,8 +8,7 @@ use Rattle.numbers.specs.declared.Event.{Event}
 use Rattle.numbers.specs.Kind.{kindTick}
 use Rattle.numbers.specs.Refusal.{accepted, frameTlv}
 use Rattle.frame.specs.Read.{readFrame}
-use Rattle.input.specs.Recorded.{History, modeOn, priorityOf, isLocked, passedAt}
-use Rattle.input.specs.Demand2.{tickEvent}
+use Rattle.input.specs.Recorded.{History, tickEvent, modeOn, priorityOf, isLockedOut, passedAt}
 use Rattle.choice.specs.declared.Candidate.{Candidate}
 use Rattle.choice.specs.Candidate.{candidateOf}
 use Rattle.decision.specs.Choices.{ChoiceMoment, Choices}
@@ -59,7 +58,7 @@ recorded (given ∷ earlier) =
 -- one input as a choice sees it, at a time, by the recorded events alone
 unfoldable pub candidateBy : History → ℕ → ℕ → Candidate
 candidateBy history time number =
-    candidateOf (passedAt number history time) (record { 0 = priorityOf number history }) (isLocked number history) (modeOn history)
+    candidateOf (passedAt number history time) (record { 0 = priorityOf number history }) (isLockedOut number history) (modeOn history)
 
 -- the sixteen inputs as a choice sees them, at a time, by the recorded events alone
 abbrev pub candidatesBy : History → ℕ → List Candidate

@@ -1,4 +1,4 @@
--- Document 01, "Choosing": "Each accepted event is first a tick at its time and then the event itself at that moment". Cited by
+-- Document 01, "Choosing": "Each accepted event is first a tick at its time .. and then the event itself at that moment". Cited by
 -- `src/lib.rt`.
 -- Assumes nothing.
 use Prim.Native.Nat.{ℕ, _%_}
@@ -21,12 +21,12 @@ use Rattle.events.specs.declared.Stepped.{Stepped}
 use Rattle.events.specs.Refusals.{ethernetAt, earlyRefusal, lateRefusal}
 
 -- the low byte of an argument; an accepted argument but the hold-off's is its own
-abbrev pub octet : ℕ → ℕ
-octet argument = argument % 256
+abbrev pub lowByte : ℕ → ℕ
+lowByte argument = argument % 256
 
 -- an argument as an input holds it: the hold-off's whole, a byte of any other
 unfoldable pub heldArgument : ℕ → ℕ → ℕ
-heldArgument kind argument = cond (eqb kind kindHoldoff) argument (octet argument)
+heldArgument kind argument = cond (eqb kind kindHoldoff) argument (lowByte argument)
 
 -- an input after an event on it
 unfoldable pub inputAfter : Input → ℕ → ℕ → ℕ → Bool → Input

@@ -18,9 +18,9 @@ use Rattle.run.proofs.Laws.{byBool}
 use Rattle.run.proofs.Kept.{taken, kept, passed-defined, atMoment-taken, Settled, broughtTo-settled, atMoment-settled, settled-atMoment, settled-fresh, kept-each, settled-broughtTo, broughtTo-broughtTo}
 use Rattle.run.proofs.Exact.{passed-unique, passed-exact}
 use Rattle.input.specs.declared.Input.{Input}
-use Rattle.input.specs.Recorded.{History, isOn, lastArgument, modeOn, timeOf, momentOf, moments, momentsUntil, PassedAt, passedAt, Ordered}
+use Rattle.input.specs.Recorded.{tickEvent, History, isOn, lastArgument, modeOn, timeOf, momentOf, moments, momentsUntil, PassedAt, passedAt, Ordered}
 use Rattle.input.specs.Record.{heardAfter, settingsAfter, forecast, withRun, settle, tick, afterEvent, passedOf, takes, recordAfter}
-use Rattle.input.specs.Demand2.{PassesWhatIsRecorded, PassesAtOnce, TwoPieces, tickEvent, TickAddsNothing}
+use Rattle.input.specs.Demand2.{PassesWhatIsRecorded, PassesAtOnce, TwoPieces, TickAddsNothing}
 use Rattle.input.proofs.Recalled.{raw-recalled, moment-recalled, raw-fresh}
 
 -- the forecast after the recorded events

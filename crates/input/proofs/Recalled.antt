@@ -18,7 +18,7 @@ use Rattle.run.proofs.Laws.{byBool}
 use Rattle.input.specs.declared.Heard.{Heard}
 use Rattle.input.specs.declared.Settings.{Settings}
 use Rattle.input.specs.declared.Input.{Input}
-use Rattle.input.specs.Recorded.{History, isOn, lastArgument, modeOn, signalGood, isEthernet, priorityOf, isLocked, holdoffOf, waitOf, fixedOf, isSending, forgets, heard, isThird, lineQuality, frameQuality, rawQualityAt, momentOf}
+use Rattle.input.specs.Recorded.{History, isOn, lastArgument, modeOn, signalGood, isEthernet, priorityOf, isLockedOut, holdoffOf, waitOf, fixedOf, isSending, forgets, heard, isThird, lineQuality, frameQuality, rawQualityAt, momentOf}
 use Rattle.input.specs.Record.{forgotten, freshSettings, countAfter, lineAfter, heardAfter, settingsAfter, qualityNow, canExpire, forecast, withRun, settle, tick, afterEvent, takes, recordAfter}
 
 -- ---- what the reports heard come to
@@ -63,7 +63,7 @@ settingsBy input history =
       priority = record { 0 = priorityOf input history };
       fixed = quality (fixedOf input history);
       ethernet = isEthernet input history;
-      locked = isLocked input history;
+      locked = isLockedOut input history;
       sending = isSending input history;
     }
 

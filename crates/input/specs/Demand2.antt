@@ -3,10 +3,8 @@
 use Prim.Native.Nat.{ℕ, _≤_}
 use mathlib.Core.List.{_∷_}
 use mathlib.Core.Path.{_≡_}
-use Rattle.numbers.specs.declared.Event.{Event}
 use Rattle.numbers.specs.declared.Quality.{Quality}
-use Rattle.numbers.specs.Kind.{kindTick}
-use Rattle.input.specs.Recorded.{History, modeOn, timeOf, PassedAt, passedAt}
+use Rattle.input.specs.Recorded.{History, tickEvent, modeOn, timeOf, PassedAt, passedAt}
 use Rattle.input.specs.Record.{tick, passedOf, recordAfter}
 
 -- after the recorded events, brought to a time, the record passes what document 01 says, and document 01 says no other quality
@@ -19,15 +17,11 @@ pub record PassesWhatIsRecorded (input : ℕ) (history : History) (time : ℕ) :
 pub record PassesAtOnce (input : ℕ) (history : History) : Type 0 where
   pub passes : PassedAt input history (timeOf history) (passedOf (recordAfter input history))
 
--- "time going by in two pieces" is time going by in one
+-- time going by in two pieces is time going by in one
 abbrev pub TwoPieces : ℕ → History → ℕ → ℕ → Type 0
 TwoPieces input history time later =
     tick (tick (recordAfter input history) time (modeOn history)) later (modeOn history) ≡
     tick (recordAfter input history) later (modeOn history)
-
--- a tick at a time
-abbrev pub tickEvent : ℕ → Event
-tickEvent time = record { kind = kindTick; time = time; input = 0; argument = 0 }
 
 -- a tick in between changes no later passed quality
 abbrev pub TickAddsNothing : ℕ → History → ℕ → ℕ → Type 0

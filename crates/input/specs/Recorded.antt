@@ -8,13 +8,17 @@ use Rattle.numbers.specs.declared.Event.{Event}
 use Rattle.numbers.specs.declared.Quality.{Quality}
 use Rattle.numbers.specs.Quality.{quality, notTold, failed, qualityOfCode}
 use Rattle.numbers.specs.Inputs.{minute, freshHoldoff, freshWait, frameLife}
-use Rattle.numbers.specs.Kind.{kindSignal, kindFrame, kindLineCode, kindPriority, kindLockout, kindHoldoff, kindWait, kindFixedQuality, kindClearWait, kindQualityMode, kindSending, kindInputKind}
+use Rattle.numbers.specs.Kind.{kindSignal, kindFrame, kindLineCode, kindPriority, kindLockout, kindHoldoff, kindWait, kindFixedQuality, kindClearWait, kindQualityMode, kindSending, kindTick, kindInputKind}
 use Rattle.run.specs.Moments.{Moment, Moments, Passed, eachMillisecond}
 use Rattle.run.specs.Passed.{passed}
 
 -- the recorded events, the latest first, with kind and argument as in the log; a frame's argument is the code that it carried
 abbrev pub History : Type 0
 History = List Event
+
+-- a tick at a time
+abbrev pub tickEvent : ℕ → Event
+tickEvent time = record { kind = kindTick; time = time; input = 0; argument = 0 }
 
 -- the event is of a kind, on an input
 unfoldable pub isOn : ℕ → ℕ → Event → Bool
@@ -43,8 +47,8 @@ abbrev pub priorityOf : ℕ → History → ℕ
 priorityOf input history = lastArgument input kindPriority 0 history
 
 -- "lockout", fresh not locked
-abbrev pub isLocked : ℕ → History → Bool
-isLocked input history = not (eqb (lastArgument input kindLockout 0 history) 0)
+abbrev pub isLockedOut : ℕ → History → Bool
+isLockedOut input history = not (eqb (lastArgument input kindLockout 0 history) 0)
 
 -- "hold-off 300 to 1,800 ms", fresh 300 ms
 abbrev pub holdoffOf : ℕ → History → ℕ
@@ -76,7 +80,7 @@ heard input kind (event ∷ earlier) =
     (cond (isOn input kind event && signalGood input earlier) (event ∷ heard input kind earlier)
     (heard input kind earlier))
 
--- the report is the third in a row with its code
+-- this report and the two before it carry the same code
 unfoldable pub isThird : Event → List Event → Bool
 isThird report [] = false
 isThird report (before ∷ []) = false
@@ -118,7 +122,8 @@ abbrev pub timeOf : History → ℕ
 timeOf [] = 0
 timeOf (event ∷ earlier) = event .time
 
--- all moments up to the last event: each millisecond before it, "an expired frame comes first", and then the event's own
+-- all moments up to the last event: each millisecond since the event before, up to and with this event's, by the old events
+-- ("an expired frame comes first"); then the event's own
 unfoldable pub moments : ℕ → History → Moments
 moments input [] = []
 moments input (event ∷ earlier) =

@@ -10,7 +10,7 @@ lastInput = 15
 abbrev pub inputCount : ℕ
 inputCount = 16
 
--- "wait 0 to 12 minutes", in ms
+-- a minute in ms, for "wait 0 to 12 minutes"
 abbrev pub minute : ℕ
 minute = 60000
 
@@ -32,4 +32,4 @@ reportsNeeded = 3
 
 -- "2^48"
 abbrev pub timeLimit : ℕ
-timeLimit = 281474976710656
+timeLimit = 2 ^ 48

@@ -39,21 +39,21 @@ failed = quality 7
 
 -- the codes of the table, 0010 to 1111
 abbrev pub codePrc : ℕ
-codePrc = 2
+codePrc = 0b0010
 
 abbrev pub codeSsuA : ℕ
-codeSsuA = 4
+codeSsuA = 0b0100
 
 abbrev pub codeSsuB : ℕ
-codeSsuB = 8
+codeSsuB = 0b1000
 
 abbrev pub codeSec : ℕ
-codeSec = 11
+codeSec = 0b1011
 
 abbrev pub codeDnu : ℕ
-codeDnu = 15
+codeDnu = 0b1111
 
--- the table read from right to left; "Any other of the sixteen codes reads as 6, invalid (0000 too)"
+-- the table read from right to left; "Any other of the sixteen codes reads as 6, invalid (0000 too: house)"
 unfoldable pub qualityOfCode : ℕ → Quality
 qualityOfCode code =
     cond (eqb code codePrc) prc
@@ -63,7 +63,7 @@ qualityOfCode code =
     (cond (eqb code codeDnu) dnu
     invalid))))
 
--- the table read from left to right; a number that is none of the five is told as "do not use"
+-- the table read from left to right; a number that is none of the five is told as DNU, do not use
 unfoldable pub codeOfQuality : Quality → ℕ
 codeOfQuality told =
     cond (eqb (told .0) (prc .0)) codePrc

@@ -87,20 +87,20 @@ pub ruleset switchFails-laws = (switchFails-nothing, switchFails-forced, switchF
 
 -- ---- clockState, clockQuality, outgoingCode
 
-module _ (fails isLocked held : Bool) where
-  pub clockState-fails : fails ≡ true → manualIneligible ≡ clockState fails isLocked held
+module _ (fails isClockLocked held : Bool) where
+  pub clockState-fails : fails ≡ true → manualIneligible ≡ clockState fails isClockLocked held
   unfolding clockState
   clockState-fails f = rw f
 
-  pub clockState-locked : fails ≡ false → isLocked ≡ true → locked ≡ clockState fails isLocked held
+  pub clockState-locked : fails ≡ false → isClockLocked ≡ true → locked ≡ clockState fails isClockLocked held
   unfolding clockState
   clockState-locked f l = rw (f, l)
 
-  pub clockState-holdover : fails ≡ false → isLocked ≡ false → held ≡ true → holdover ≡ clockState fails isLocked held
+  pub clockState-holdover : fails ≡ false → isClockLocked ≡ false → held ≡ true → holdover ≡ clockState fails isClockLocked held
   unfolding clockState
   clockState-holdover f l h = rw (f, l, h)
 
-  pub clockState-free : fails ≡ false → isLocked ≡ false → held ≡ false → freeRun ≡ clockState fails isLocked held
+  pub clockState-free : fails ≡ false → isClockLocked ≡ false → held ≡ false → freeRun ≡ clockState fails isClockLocked held
   unfolding clockState
   clockState-free f l h = rw (f, l, h)
 

@@ -21,7 +21,7 @@ use Rattle.selector.specs.State.{candidateFor}
 
 -- "ff"
 abbrev pub noInput : ℕ
-noInput = 255
+noInput = 0xff
 
 -- "00 free run"
 abbrev pub freeRun : ℕ
@@ -54,12 +54,12 @@ switchFails inputs mode W.Nothing = false
 switchFails inputs mode (W.Forced on) = false
 switchFails inputs mode (W.Manual on) = not (isEligible (candidateAt inputs mode (on .0)))
 
--- "02 locked if an input is selected and its passed quality is usable; otherwise 01 holdover if it was locked after any earlier
--- choice, 00 free run if not"
+-- "03 .. should a manual switch be found standing on an ineligible input"; "02 locked if an input is selected and its passed
+-- quality is usable ..; otherwise 01 holdover if it was locked after any earlier choice, 00 free run if not"
 unfoldable pub clockState : Bool → Bool → Bool → ℕ
-clockState fails isLocked held =
+clockState fails isClockLocked held =
     cond fails manualIneligible
-    (cond isLocked locked
+    (cond isClockLocked locked
     (cond held holdover
     freeRun))
 
@@ -90,11 +90,23 @@ unfoldable pub selectedNumber : Selection → ℕ
 selectedNumber S.Nothing = noInput
 selectedNumber (S.At number) = number .0
 
+-- "00 none"
+abbrev pub switchNone : ℕ
+switchNone = 0
+
+-- "01 forced"
+abbrev pub switchForced : ℕ
+switchForced = 1
+
+-- "02 manual"
+abbrev pub switchManual : ℕ
+switchManual = 2
+
 -- "switch (00 none, 01 forced, 02 manual)"
 unfoldable pub switchNumber : Switch → ℕ
-switchNumber W.Nothing = 0
-switchNumber (W.Forced on) = 1
-switchNumber (W.Manual on) = 2
+switchNumber W.Nothing = switchNone
+switchNumber (W.Forced on) = switchForced
+switchNumber (W.Manual on) = switchManual
 
 -- "its input or ff"
 unfoldable pub switchInput : Switch → ℕ
@@ -102,7 +114,7 @@ switchInput W.Nothing = noInput
 switchInput (W.Forced on) = on .0
 switchInput (W.Manual on) = on .0
 
--- "Answer line: number .., selected input or ff, clock state, clock quality, switch, its input or ff"
+-- "Answer line: number .., selected input or ff, clock state, clock quality, switch .., its input or ff"
 unfoldable pub answerOf : ℕ → Selector → Answer
 answerOf number state =
     record {

@@ -37,6 +37,13 @@ const LOCKED: u8 = 2;
 
 const MANUAL_INELIGIBLE: u8 = 3;
 
+// The switches.
+pub const SWITCH_NONE: u8 = 0;
+
+pub const SWITCH_FORCED: u8 = 1;
+
+pub const SWITCH_MANUAL: u8 = 2;
+
 // The whole state: sixteen inputs beside time, switch and selection, the quality mode, and whether the clock has ever
 // been locked.
 pub struct Selector {
@@ -302,9 +309,9 @@ fn switch_number(switch: Switch) -> u8
     ensures { λ answer. ⌜ answer ≡ switchNumber switch ⌝ }
 {
     match switch {
-        Switch::Nothing => 0,
-        Switch::Forced(_) => 1,
-        Switch::Manual(_) => 2,
+        Switch::Nothing => SWITCH_NONE,
+        Switch::Forced(_) => SWITCH_FORCED,
+        Switch::Manual(_) => SWITCH_MANUAL,
     }
 }
 

@@ -22,7 +22,7 @@ use Rattle.input.specs.Record.{freshInput, passedOf, qualityNow, canExpire, for
 use Rattle.choice.specs.declared.Candidate.{Candidate}
 use Rattle.choice.specs.Candidate.{candidateOf, isEligible, isAdmitted, isUsable, rankedQuality}
 use Rattle.choice.specs.Choice.{seeded, offered, scanned, choose}
-use Rattle.decision.specs.Decision.{judged, selectedBy, isLocked, isHeld, decide}
+use Rattle.decision.specs.Decision.{judged, selectedBy, isClockLocked, isHeld, decide}
 use Rattle.decision.specs.Choices.{commanded}
 use Rattle.decision.proofs.Again.{decided-again}
 use Rattle.selector.specs.declared.Selector.{Selector}
@@ -449,7 +449,7 @@ unfolding dueOf runDue
 fresh-due = omega arith
 
 fresh-chosen : decided freshSelector ≡ freshSelector
-unfolding decided decide judged selectedBy choose scanned offered seeded isLocked isHeld isEligible candidateFor candidateOf isAdmitted isUsable rankedQuality passedQuality
+unfolding decided decide judged selectedBy choose scanned offered seeded isClockLocked isHeld isEligible candidateFor candidateOf isAdmitted isUsable rankedQuality passedQuality
 fresh-chosen = refl
 
 pub fresh-kept : Kept freshWatch

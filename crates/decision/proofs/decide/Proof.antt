@@ -11,8 +11,8 @@ judge-requires c κs = search needs
 select-requires : tie.Need-select-requires
 select-requires c κs = search needs
 
-is-locked-requires : tie.Need-is-locked-requires
-is-locked-requires c κs = search needs
+is-clock-locked-requires : tie.Need-is-clock-locked-requires
+is-clock-locked-requires c κs = search needs
 
 is-held-requires : tie.Need-is-held-requires
 is-held-requires c κs = search needs
@@ -22,4 +22,4 @@ returns c = search decide-made
 
 pub decide-spec : {M : Type 1} → statement M
 decide-spec =
-    tie.close (tie.spec judge-requires select-requires is-locked-requires is-held-requires returns)
+    tie.close (tie.spec judge-requires select-requires is-clock-locked-requires is-held-requires returns)

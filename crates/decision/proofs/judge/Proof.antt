@@ -20,8 +20,8 @@ returns c = search judged-laws
 enum-known-switch-2 : tie.Need-enum-known-switch-2
 enum-known-switch-2 c = search needs
 
-manual-stands-requires : tie.Need-manual-stands-requires
-manual-stands-requires c κs = search needs
+manual-may-stand-requires : tie.Need-manual-may-stand-requires
+manual-may-stand-requires c κs = search needs
 
 returns-2 : tie.Need-returns-2
 returns-2 c = search judged-laws
@@ -44,7 +44,7 @@ judge-spec =
     candidate-at-requires
     returns
     enum-known-switch-2
-    manual-stands-requires
+    manual-may-stand-requires
     returns-2
     returns-3
     returns-4

@@ -1,9 +1,9 @@
--- `decision::manual_stands` meets its contract: each way is a law.
+-- `decision::manual_may_stand` meets its contract: each way is a law.
 -- Assumes nothing.
-use Rattle.decision.proofs.Laws.{manualStands-laws}
+use Rattle.decision.proofs.Laws.{manualMayStand-laws}
 use borrow.Author.Needs.{needs}
-use Rattle.decision.proofs.manual_stands.Statement.{statement}
-use Rattle.decision.proofs.manual_stands.Tie as tie
+use Rattle.decision.proofs.manual_may_stand.Statement.{statement}
+use Rattle.decision.proofs.manual_may_stand.Tie as tie
 
 candidate-at-requires : tie.Need-candidate-at-requires
 candidate-at-requires c κs = search needs
@@ -15,16 +15,16 @@ has-lower-requires : tie.Need-has-lower-requires
 has-lower-requires c κs = search needs
 
 returns : tie.Need-returns
-returns c = search manualStands-laws
+returns c = search manualMayStand-laws
 
 returns-2 : tie.Need-returns-2
-returns-2 c = search manualStands-laws
+returns-2 c = search manualMayStand-laws
 
 returns-3 : tie.Need-returns-3
-returns-3 c = search manualStands-laws
+returns-3 c = search manualMayStand-laws
 
-pub manual-stands-spec : {M : Type 1} → statement M
-manual-stands-spec =
+pub manual-may-stand-spec : {M : Type 1} → statement M
+manual-may-stand-spec =
     tie.close
     (tie.spec
     candidate-at-requires

@@ -1,9 +1,9 @@
--- `decision::is_locked` meets its contract: each way is a law.
+-- `decision::is_clock_locked` meets its contract: each way is a law.
 -- Assumes nothing.
-use Rattle.decision.proofs.Laws.{isLocked-laws}
+use Rattle.decision.proofs.Laws.{isClockLocked-laws}
 use borrow.Author.Needs.{needs}
-use Rattle.decision.proofs.is_locked.Statement.{statement}
-use Rattle.decision.proofs.is_locked.Tie as tie
+use Rattle.decision.proofs.is_clock_locked.Statement.{statement}
+use Rattle.decision.proofs.is_clock_locked.Tie as tie
 
 enum-told : tie.Need-enum-told
 enum-told c = search needs
@@ -15,11 +15,11 @@ candidate-at-requires : tie.Need-candidate-at-requires
 candidate-at-requires c κs = search needs
 
 returns : tie.Need-returns
-returns c = search isLocked-laws
+returns c = search isClockLocked-laws
 
 returns-2 : tie.Need-returns-2
-returns-2 c = search isLocked-laws
+returns-2 c = search isClockLocked-laws
 
-pub is-locked-spec : {M : Type 1} → statement M
-is-locked-spec =
+pub is-clock-locked-spec : {M : Type 1} → statement M
+is-clock-locked-spec =
     tie.close (tie.spec enum-told enum-known-selection candidate-at-requires returns returns-2)
