@@ -79,7 +79,7 @@ pub record Stands (kind : ℕ) (test : List Candidate → ℕ → Bool) (on : �
   pub unreplaced : (back : ℕ) → back < count → Commands (choicesAgo back choices) → ⊥
   pub unbroken : (back : ℕ) → back ≤ count → Passes test on (choicesAgo back choices)
 
--- "stands until cleared, replaced by another forced switch, or its input is off or locked"
+-- "stands until cleared, replaced by another forced switch, or its input is off or locked"; a manual one is refused while it stands
 abbrev pub StandsForced : ℕ → Choices → Type 0
 StandsForced on choices = Stands kindForced forcedMayStand on choices
 
@@ -103,3 +103,18 @@ pub record SelectionRight (choice : ChoiceMoment) (earlier : Choices) : Type 0 w
       → decidedOver (choice ∷ earlier) .selection ≡ selected on
   pub manual : (on : ℕ) → decidedOver (choice ∷ earlier) .switch ≡ W.Manual (record { 0 = on })
       → (decidedOver (choice ∷ earlier) .selection ≡ selected on) × (eligibleAmong (choice .candidates) on ≡ true)
+
+-- the latest choice is right; before any choice nothing is selected
+abbrev pub LatestRight : Choices → Type 0
+LatestRight [] = decidedOver [] .selection ≡ S.Nothing
+LatestRight (choice ∷ earlier) = SelectionRight choice earlier
+
+-- the clock is locked after the latest choice
+abbrev pub Locked : Choices → Type 0
+Locked [] = ⊥
+Locked (choice ∷ earlier) = isClockLocked (choice .candidates) (decidedOver (choice ∷ earlier) .selection) ≡ true
+
+-- "if it was locked after any earlier choice"
+pub record HeldRight (choices : Choices) : Type 0 where
+  pub some : decidedOver choices .held ≡ true → (back : ℕ) × Locked (choicesAgo back choices)
+  pub any : (back : ℕ) → Locked (choicesAgo back choices) → decidedOver choices .held ≡ true
