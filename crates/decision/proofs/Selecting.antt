@@ -2,7 +2,7 @@
 -- with no switch, the right choice; and a manual switch overrides priority only.
 -- Assumes nothing.
 use Prim.Native.Nat.{ℕ, zero, suc, _≤_, _<_}
-use mathlib.Core.Bool.{Bool, true, false, not, _&&_, cond, false≢true}
+use mathlib.Core.Bool.{Bool, true, false, not, cond, false≢true}
 use mathlib.Core.List.{List, [], _∷_}
 use mathlib.Core.Path.{_≡_, refl, sym, _∙_, subst}
 use native.Mathlib.Omega.{arith}
@@ -21,7 +21,7 @@ use Rattle.decision.specs.declared.Switch.the-variants as W
 use Rattle.decision.specs.Decision.{forcedMayStand, manualMayStand, judged, selectedBy, isClockLocked, isHeld, decide}
 use Rattle.decision.specs.Choices.{ChoiceMoment, Choices, commanded, decidedOver, choicesAgo, Passes, SelectionRight, LatestRight, Locked, HeldRight}
 use Rattle.decision.proofs.Laws.{selectedBy-forced, selectedBy-manual}
-use Rattle.decision.proofs.Standing.{manualOn, manual-passes, switch-right}
+use Rattle.decision.proofs.Standing.{manual-passes, switch-right}
 
 -- ---- manualMayStand
 

@@ -7,18 +7,15 @@ use mathlib.Core.List.{List, [], _∷_}
 use mathlib.Core.Path.{_≡_}
 use mathlib.Core.Logic.{_⊎_}
 use lib.Dec.{eqb}
-use lib.ListN.{getD}
-use Rattle.numbers.specs.declared.InputNumber.{InputNumber}
 use Rattle.numbers.specs.Kind.{kindForced, kindManual, kindClearSwitch}
 use Rattle.choice.specs.declared.Candidate.{Candidate}
-use Rattle.choice.specs.declared.Selection.{Selection}
 use Rattle.choice.specs.declared.Selection.the-variants as S
-use Rattle.choice.specs.Candidate.{nobody, eligibleAmong, betterAmong, anyLower}
+use Rattle.choice.specs.Candidate.{eligibleAmong, betterAmong}
 use Rattle.choice.specs.Choice.{Chosen, selected}
 use Rattle.decision.specs.declared.Switch.{Switch}
 use Rattle.decision.specs.declared.Switch.the-variants as W
 use Rattle.decision.specs.declared.Decision.{Decision}
-use Rattle.decision.specs.Decision.{forcedMayStand, manualMayStand, judged, selectedBy, isClockLocked, decide}
+use Rattle.decision.specs.Decision.{forcedMayStand, manualMayStand, isClockLocked, decide}
 
 -- one choice: the sixteen inputs as they are then, and the kind and input of the event that the choice follows; a tick's kind where it
 -- follows the tick

@@ -1,40 +1,35 @@
 -- After any sequence of events the state is what the recorded events and the choices made say. Assumes nothing.
-use Prim.Native.Nat.{ℕ, zero, suc, _+_, _≤_, _<_}
-use mathlib.Core.Bool.{Bool, true, false, not, _&&_, _||_, cond, and-false, true≢false, false≢true}
+use Prim.Native.Nat.{ℕ, _≤_, _<_}
+use mathlib.Core.Bool.{Bool, true, false, and-false}
 use mathlib.Core.List.{List, [], _∷_, map}
 use mathlib.Core.Path.{_≡_, refl, sym, _∙_, ap, subst, fun-ext}
 use native.Mathlib.Omega.{arith}
 use lib.Dec.{eqb, ltb}
-use lib.ListN.{getD, set}
+use lib.ListN.{getD}
 use borrow.Author.Tests.{eqb-true, eqb-false, eq-eqb, ne-eqb, ltb-true, ltb-false}
 use Rattle.numbers.specs.declared.Event.{Event}
-use Rattle.numbers.specs.declared.Priority.{Priority}
-use Rattle.numbers.specs.declared.Quality.{Quality}
 use Rattle.numbers.specs.Inputs.{inputCount}
-use Rattle.numbers.specs.Kind.{kindTick, kindQualityMode, kindClearWait}
+use Rattle.numbers.specs.Kind.{kindTick, kindQualityMode}
 use Rattle.numbers.specs.Refusal.{accepted}
 use Rattle.frame.specs.declared.FrameRead.{FrameRead}
 use Rattle.frame.specs.Read.{readFrame}
 use Rattle.run.proofs.Laws.{byBool}
 use Rattle.input.specs.declared.Input.{Input}
 use Rattle.input.specs.declared.Settings.{Settings}
-use Rattle.input.specs.Recorded.{History, tickEvent, isOn, lastArgument, modeOn, isEthernet, priorityOf, isLockedOut, timeOf, passedAt, Ordered}
+use Rattle.input.specs.Recorded.{History, tickEvent, isOn, lastArgument, modeOn, isEthernet, timeOf, passedAt, Ordered}
 use Rattle.input.specs.Record.{freshInput, heardAfter, settingsAfter, settle, tick, afterEvent, passedOf, takes, recordAfter}
 use Rattle.input.proofs.Recalled.{settingsBy, settings-recalled}
 use Rattle.input.proofs.Demand2.{passed-tick, passed-now, takes-other, takes-tick, demand-2-tick-adds-nothing}
 use Rattle.choice.specs.declared.Candidate.{Candidate}
-use Rattle.choice.specs.Candidate.{candidateOf}
-use Rattle.decision.specs.declared.Decision.{Decision}
 use Rattle.decision.specs.declared.Switch.{Switch}
-use Rattle.decision.specs.Decision.{decide}
 use Rattle.decision.specs.Choices.{ChoiceMoment, Choices, commanded, decidedOver}
 use Rattle.selector.specs.declared.Selector.{Selector}
-use Rattle.selector.specs.State.{freshSelector, candidateFor, candidatesOf, withDecision, decided, broughtTo, ticked}
+use Rattle.selector.specs.State.{candidateFor, candidatesOf, withDecision, decided, broughtTo, ticked}
 use Rattle.selector.specs.Answer.{ports}
 use Rattle.selector.proofs.Ports.{butAt, set-ports, getD-ports}
 use Rattle.events.specs.declared.Stepped.{Stepped}
 use Rattle.events.specs.Refusals.{earlyRefusal, lateRefusal, ethernetAt}
-use Rattle.events.specs.Step.{heldArgument, inputAfter, inputsAfter, modeAfter, recordedArgument, recordedEvent, placed, stepped, earlyNumber, lateNumber, stepRead, step}
+use Rattle.events.specs.Step.{heldArgument, inputAfter, inputsAfter, modeAfter, recordedEvent, placed, stepped, earlyNumber, lateNumber, stepRead, step}
 use Rattle.events.specs.Sequence.{Given, Sequence, stateAfter, numberAfter}
 use Rattle.events.specs.Past.{Past, asRecorded, candidateBy, candidatesBy, tickChoice, eventChoice, earlyBy, lateBy, numberBy, withTick, withEvent, pastOf, recorded, choicesOf}
 use Rattle.events.specs.Demand3.{MadeAt}

@@ -1,17 +1,15 @@
 -- DEMAND 1: each number is given exactly when document 01's table says, and leaves the state as it says. Assumes nothing.
 use Prim.Native.Nat.{ℕ}
-use mathlib.Core.Bool.{Bool, true, false}
-use mathlib.Core.List.{List, [], _∷_}
-use mathlib.Core.Path.{_≡_, refl, sym, _∙_, ap}
+use mathlib.Core.List.{List}
+use mathlib.Core.Path.{_≡_, sym, _∙_, ap}
 use mathlib.Core.Logic.{_⊎_, inl, inr, ⊎-elim}
-use borrow.Author.Tests.{ne-eqb}
 use Rattle.numbers.specs.declared.Event.{Event}
 use Rattle.numbers.specs.Refusal.{accepted}
 use Rattle.frame.specs.Read.{readFrame}
 use Rattle.selector.specs.declared.Selector.{Selector}
-use Rattle.selector.specs.State.{candidatesOf, ticked}
-use Rattle.events.specs.Refusals.{Refusal, earlyRows, earlyRefusal, ethernetAt, lateRows, lateRefusal}
-use Rattle.events.specs.Step.{recordedEvent, placed, stepped, earlyNumber, lateNumber, stepRead, step}
+use Rattle.selector.specs.State.{ticked}
+use Rattle.events.specs.Refusals.{earlyRefusal, ethernetAt, lateRefusal}
+use Rattle.events.specs.Step.{stepped, earlyNumber, lateNumber}
 use Rattle.events.specs.Demand1.{NoneApplies, Smallest, rowsBefore, rowsAfter, Demand1}
 use Rattle.events.proofs.Refused.{Rising, none-given, smallest-given, smallest-or-none, applies-numbered, early-numbered, late-numbered, early-rising, late-rising, frameRefusal-within}
 use Rattle.events.proofs.Agrees.{step-early, step-late, step-accepted}

@@ -24,19 +24,19 @@ use Rattle.choice.specs.Candidate.{nobody, isEligible, eligibleAmong}
 use Rattle.decision.specs.declared.Switch.{Switch}
 use Rattle.decision.specs.declared.Switch.the-variants as W
 use Rattle.decision.specs.Decision.{forcedMayStand, manualMayStand}
-use Rattle.decision.specs.Choices.{Choices, decidedOver, choicesAgo, Passes}
+use Rattle.decision.specs.Choices.{Choices, choicesAgo, Passes}
 use Rattle.decision.proofs.Standing.{switch-right}
 use Rattle.decision.proofs.Selecting.{manualMayStand-eligible, eligible-admitted, selected-admitted}
 use Rattle.selector.specs.declared.Selector.{Selector}
 use Rattle.selector.specs.State.{candidateFor}
-use Rattle.selector.specs.Answer.{switchFails, clockState, clockQuality, outgoingCode, selectedNumber, selectedCandidate, candidateAt, qualityOf, codeFor, outgoingCodes}
+use Rattle.selector.specs.Answer.{switchFails, clockQuality, outgoingCode, selectedNumber, selectedCandidate, candidateAt, qualityOf, codeFor, outgoingCodes}
 use Rattle.selector.proofs.Laws.{getD-past}
 use Rattle.selector.proofs.Ports.{getD-ports}
 use Rattle.events.specs.Sequence.{Sequence, stateAfter}
 use Rattle.events.specs.Past.{candidateBy, candidatesBy, recorded, choicesOf}
 use Rattle.events.specs.Demand2.{shown, Demand2}
 use Rattle.events.specs.Demand3.{MadeAt}
-use Rattle.events.proofs.Agrees.{records, Agrees, sequence-agrees, settings-at, candidate-recorded}
+use Rattle.events.proofs.Agrees.{Agrees, sequence-agrees, settings-at, candidate-recorded}
 
 -- an input that is neither off nor locked is one of the sixteen
 admitted-inside : (history : History) (time number : ℕ) → forcedMayStand (candidatesBy history time) number ≡ true

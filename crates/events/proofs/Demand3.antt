@@ -1,6 +1,5 @@
 -- DEMAND 3, after every event of any sequence from a fresh start. Assumes nothing.
 use Prim.Native.Nat.{ℕ, _<_}
-use mathlib.Core.List.{List, [], _∷_}
 use mathlib.Core.Path.{_≡_, sym, _∙_, ap, subst}
 use lib.ListN.{getD}
 use Rattle.numbers.specs.declared.Quality.{Quality}
@@ -12,7 +11,7 @@ use Rattle.decision.specs.Choices.{choicesAgo}
 use Rattle.decision.proofs.Standing.{switch-right}
 use Rattle.decision.proofs.Selecting.{latest-right, held-right}
 use Rattle.selector.proofs.Ports.{getD-ports}
-use Rattle.events.specs.Sequence.{Sequence, stateAfter}
+use Rattle.events.specs.Sequence.{Sequence}
 use Rattle.events.specs.Past.{candidateBy, candidatesBy, recorded, choicesOf}
 use Rattle.events.specs.Demand3.{MadeAt, Demand3}
 use Rattle.events.proofs.Agrees.{sequence-agrees, sequence-number}

@@ -1,12 +1,12 @@
 -- The definitions of `specs/`, a law for each way through the function that meets it. Assumes nothing.
-use Prim.Native.Nat.{ℕ, zero, suc, _≤_, _<_, _%_}
-use mathlib.Core.Bool.{Bool, true, false, not, _&&_, cond}
+use Prim.Native.Nat.{ℕ, zero, suc, _≤_, _<_}
+use mathlib.Core.Bool.{Bool, true, false, not, cond}
 use mathlib.Core.List.{List, [], _∷_, map}
 use mathlib.Core.Path.{_≡_, refl, sym, _∙_, ap}
 use native.Mathlib.Omega.{arith}
-use lib.Dec.{eqb, leb, ltb}
+use lib.Dec.{eqb}
 use lib.ListN.{length, getD, set}
-use borrow.Author.Tests.{eqb-true, eq-eqb, ne-eqb, lt-ltb, le-ltb, le-leb, lt-leb, not-true, not-false}
+use borrow.Author.Tests.{eqb-true, eq-eqb, ne-eqb, lt-ltb, le-ltb, le-leb, lt-leb}
 use Rattle.numbers.specs.declared.Event.{Event}
 use Rattle.numbers.specs.declared.EventKind.{EventKind}
 use Rattle.numbers.specs.declared.InputNumber.{InputNumber}
@@ -15,20 +15,19 @@ use Rattle.numbers.specs.Kind.{kindOf, isKnown, isInputOut, isArgumentOut, flag
 use Rattle.numbers.specs.Refusal.{accepted, kindUnknown, timeTooLarge, timeBeforeState, inputOutOfRange, argumentOutOfRange, wrongInputKind, forcedBarred, manualForcedStands, manualNotEligible, manualLowerQuality}
 use Rattle.frame.specs.declared.FrameRead.{FrameRead}
 use Rattle.frame.specs.declared.FrameRead.the-variants as R
-use Rattle.frame.specs.Read.{numberOfRead, codeOfRead}
+use Rattle.frame.specs.Read.{numberOfRead}
 use Rattle.input.specs.declared.Input.{Input}
 use Rattle.input.specs.Record.{freshInput, settle, afterEvent, heardAfter, settingsAfter}
 use Rattle.choice.specs.declared.Candidate.{Candidate}
-use Rattle.choice.specs.Candidate.{nobody, isEligible, eligibleAmong, anyLower}
+use Rattle.choice.specs.Candidate.{nobody, isEligible, anyLower}
 use Rattle.decision.specs.declared.Switch.{Switch}
 use Rattle.decision.specs.declared.Switch.the-variants as W
 use Rattle.decision.specs.Choices.{commanded}
 use Rattle.selector.specs.declared.Selector.{Selector}
 use Rattle.selector.specs.State.{candidatesOf, ticked}
-use Rattle.selector.proofs.Laws.{getD-any}
 use Rattle.run.proofs.Laws.{byBool}
 use Rattle.events.specs.Refusals.{firstThatApplies, isWrongKind, frameRefusal, earlyRefusal, ethernetAt, isForcedSwitch, lateRefusal}
-use Rattle.events.specs.Step.{lowByte, heldArgument, inputAfter, inputsAfter, modeAfter, recordedArgument, recordedEvent, placed, stepped, earlyNumber, lateNumber, stepRead}
+use Rattle.events.specs.Step.{lowByte, heldArgument, inputAfter, inputsAfter, modeAfter, recordedArgument, placed, stepped, stepRead}
 
 -- ---- isWrongKind
 

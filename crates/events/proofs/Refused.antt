@@ -1,31 +1,30 @@
 -- What follows from the number that an event is answered with. Assumes nothing.
-use Prim.Native.Nat.{ℕ, zero, suc, _+_, _≤_, _<_, _%_}
-use mathlib.Core.Bool.{Bool, true, false, not, _&&_, _||_, cond, true≢false, false≢true}
+use Prim.Native.Nat.{ℕ, _≤_, _<_}
+use mathlib.Core.Bool.{Bool, true, false, not, _||_, cond, true≢false}
 use mathlib.Core.List.{List, [], _∷_}
-use mathlib.Core.Path.{_≡_, refl, sym, _∙_, ap, subst}
+use mathlib.Core.Path.{_≡_, refl, sym, _∙_, subst}
 use mathlib.Core.Logic.{_⊎_, inl, inr, ⊎-elim}
 use native.Mathlib.Omega.{arith}
 use native.Mathlib.Nat.{mod-eq-of-lt, mod-lt}
-use lib.Dec.{eqb, leb, ltb}
-use borrow.Author.Tests.{eqb-true, eqb-false, ltb-false, lt-ltb, leb-false, ne-eqb, eq-eqb, not-true, not-false, le-leb, lt-leb}
+use lib.Dec.{eqb, ltb}
+use borrow.Author.Tests.{eqb-true, eqb-false, ltb-false, lt-ltb, ne-eqb, not-true, not-false}
 use Rattle.numbers.specs.declared.Event.{Event}
 use Rattle.numbers.specs.declared.EventKind.{EventKind}
 use Rattle.numbers.specs.declared.EventKind.the-variants as K
-use Rattle.numbers.specs.Inputs.{lastInput, inputCount, timeLimit}
-use Rattle.numbers.specs.Kind.{kindOf, kindNumber, rowOf, isKnown, isInputOut, isArgumentOut, kindFrame, kindHoldoff, kindQualityMode}
+use Rattle.numbers.specs.Inputs.{lastInput, inputCount}
+use Rattle.numbers.specs.Kind.{kindOf, kindNumber, rowOf, isInputOut, isArgumentOut, kindFrame, kindHoldoff, kindQualityMode}
 use Rattle.numbers.specs.Refusal.{accepted, kindUnknown, timeTooLarge, timeBeforeState, inputOutOfRange, argumentOutOfRange, wrongInputKind, frameLength, frameTlv}
 use Rattle.frame.specs.declared.FrameRead.{FrameRead}
 use Rattle.frame.specs.declared.FrameRead.the-variants as R
-use Rattle.frame.specs.Octets.{lowerHalf}
-use Rattle.frame.specs.Read.{rightLength, rightDestination, rightProtocol, rightOrganisation, rightVersion, rightTlv, frameNumber, frameCode, readFrame, numberOfRead, codeOfRead}
+use Rattle.frame.specs.Read.{rightLength, rightDestination, rightProtocol, rightOrganisation, rightVersion, rightTlv, frameNumber, readFrame, codeOfRead}
 use Rattle.choice.specs.declared.Candidate.{Candidate}
 use Rattle.decision.specs.declared.Switch.{Switch}
 use Rattle.run.proofs.Laws.{byBool}
 use Rattle.numbers.proofs.KindNumbers.{Told, kindOf-told}
 use Rattle.frame.proofs.ReadLaws.{numberOfRead-readFrame}
-use Rattle.events.specs.Refusals.{Refusal, refusal, firstThatApplies, isWrongKind, frameRefusal, earlyRows, earlyRefusal, lateRows, lateRefusal}
+use Rattle.events.specs.Refusals.{Refusal, refusal, firstThatApplies, frameRefusal, earlyRows, earlyRefusal, lateRows, lateRefusal}
 use Rattle.events.specs.Demand1.{NoneApplies, Applies, Smallest}
-use Rattle.events.specs.Step.{lowByte, heldArgument, recordedArgument}
+use Rattle.events.specs.Step.{heldArgument, recordedArgument}
 
 -- ---- firstThatApplies
 

@@ -2,7 +2,7 @@
 -- worked out from the recorded events with no timers. A switch stands exactly as the document says."
 -- Assumes nothing.
 use Prim.Native.Nat.{ℕ, _<_}
-use mathlib.Core.List.{List, [], _∷_}
+use mathlib.Core.List.{[], _∷_}
 use mathlib.Core.Path.{_≡_}
 use lib.ListN.{getD}
 use Rattle.numbers.specs.declared.Quality.{Quality}

@@ -2,7 +2,7 @@
 -- `src/lib.rt`.
 -- Assumes nothing.
 use Prim.Native.Nat.{ℕ, _%_}
-use mathlib.Core.Bool.{Bool, true, false, not, cond}
+use mathlib.Core.Bool.{Bool, false, not, cond}
 use mathlib.Core.List.{List, map}
 use lib.Dec.{eqb}
 use lib.ListN.{getD, set}
@@ -13,7 +13,6 @@ use Rattle.frame.specs.declared.FrameRead.{FrameRead}
 use Rattle.frame.specs.Read.{readFrame, codeOfRead}
 use Rattle.input.specs.declared.Input.{Input}
 use Rattle.input.specs.Record.{freshInput, settle, afterEvent}
-use Rattle.choice.specs.declared.Candidate.{Candidate}
 use Rattle.decision.specs.Choices.{commanded}
 use Rattle.selector.specs.declared.Selector.{Selector}
 use Rattle.selector.specs.State.{candidatesOf, decided, ticked}

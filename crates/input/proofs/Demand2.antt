@@ -1,24 +1,22 @@
 -- DEMAND 2 for one input. No premise but that the times of the recorded events do not fall. Assumes nothing.
-use Prim.Native.Nat.{ℕ, zero, suc, _+_, _-_, _*_, _≤_, _<_}
-use mathlib.Core.Bool.{Bool, true, false, not, _&&_, _||_, cond, and-false, true≢false, false≢true}
-use mathlib.Core.List.{List, [], _∷_}
+use Prim.Native.Nat.{ℕ, _+_, _-_, _≤_}
+use mathlib.Core.Bool.{Bool, false}
+use mathlib.Core.List.{[], _∷_}
 use mathlib.Core.Path.{_≡_, refl, sym, _∙_, ap, subst}
 use native.Mathlib.Omega.{arith}
 use lib.Dec.{eqb}
 use Rattle.numbers.specs.declared.Event.{Event}
-use Rattle.numbers.specs.declared.Quality.{Quality}
-use Rattle.numbers.specs.Quality.{failed, isFailed}
-use Rattle.numbers.specs.Kind.{kindClearWait, kindQualityMode}
+use Rattle.numbers.specs.Quality.{isFailed}
+use Rattle.numbers.specs.Kind.{kindClearWait}
 use Rattle.run.specs.declared.Forecast.{Forecast}
 use Rattle.run.specs.declared.Run.{Run}
-use Rattle.run.specs.Moments.{Moment, Passed, eachMillisecond}
-use Rattle.run.specs.Passed.{passed}
+use Rattle.run.specs.Moments.{Moment, eachMillisecond}
 use Rattle.run.specs.Run.{atMoment, broughtTo, passedQuality}
 use Rattle.run.proofs.Laws.{byBool}
 use Rattle.run.proofs.Kept.{taken, kept, passed-defined, atMoment-taken, Settled, broughtTo-settled, atMoment-settled, settled-atMoment, settled-fresh, kept-each, settled-broughtTo, broughtTo-broughtTo}
 use Rattle.run.proofs.Exact.{passed-unique, passed-exact}
 use Rattle.input.specs.declared.Input.{Input}
-use Rattle.input.specs.Recorded.{tickEvent, History, isOn, lastArgument, modeOn, timeOf, momentOf, moments, momentsUntil, PassedAt, passedAt, Ordered}
+use Rattle.input.specs.Recorded.{tickEvent, History, isOn, lastArgument, modeOn, timeOf, momentOf, moments, momentsUntil, passedAt, Ordered}
 use Rattle.input.specs.Record.{heardAfter, settingsAfter, forecast, withRun, settle, tick, afterEvent, passedOf, takes, recordAfter}
 use Rattle.input.specs.Demand2.{PassesWhatIsRecorded, PassesAtOnce, TwoPieces, TickAddsNothing}
 use Rattle.input.proofs.Recalled.{raw-recalled, moment-recalled, raw-fresh}

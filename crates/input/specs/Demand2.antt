@@ -1,6 +1,6 @@
 -- Demand 2 for one input: the record passes what the recorded events define, and ticks add nothing.
 -- Assumes nothing.
-use Prim.Native.Nat.{ℕ, _≤_}
+use Prim.Native.Nat.{ℕ}
 use mathlib.Core.List.{_∷_}
 use mathlib.Core.Path.{_≡_}
 use Rattle.numbers.specs.declared.Quality.{Quality}

@@ -2,10 +2,9 @@
 -- Assumes nothing.
 use Prim.Native.Nat.{ℕ, _+_, _*_}
 use mathlib.Core.Bool.{Bool, true, false, not, _&&_, _||_, cond}
-use mathlib.Core.List.{List, [], _∷_}
+use mathlib.Core.List.{[], _∷_}
 use lib.Dec.{ltb, eqb}
 use Rattle.numbers.specs.declared.Event.{Event}
-use Rattle.numbers.specs.declared.Priority.{Priority}
 use Rattle.numbers.specs.declared.Quality.{Quality}
 use Rattle.numbers.specs.Quality.{quality, notTold, failed, qualityOfCode}
 use Rattle.numbers.specs.Inputs.{minute, freshHoldoff, freshWait, reportsNeeded}

@@ -1,7 +1,7 @@
 -- The statements of `specs/Moments` have one answer always, and it is the one that `specs/Passed` computes. Assumes nothing.
-use Prim.Native.Nat.{ℕ, zero, suc, _+_, _-_, _≤_, _<_}
-use mathlib.Core.Bool.{Bool, true, false, not, _&&_, _||_, cond, or-true, or-false, true≢false, false≢true}
-use mathlib.Core.List.{List, [], _∷_}
+use Prim.Native.Nat.{ℕ, zero, suc, _+_, _-_, _≤_}
+use mathlib.Core.Bool.{Bool, true, false, not, _&&_, _||_, cond, or-true, true≢false, false≢true}
+use mathlib.Core.List.{[], _∷_}
 use mathlib.Core.Path.{_≡_, refl, sym, _∙_, ap, subst}
 use mathlib.Core.Logic.{_⊎_, inl, inr, ⊎-elim}
 use native.Mathlib.Omega.{arith}
@@ -9,7 +9,7 @@ use lib.Dec.{leb}
 use borrow.Author.Tests.{leb-true, leb-false, le-leb}
 use Rattle.numbers.specs.declared.Quality.{Quality}
 use Rattle.numbers.specs.Quality.{failed, isFailed}
-use Rattle.run.specs.Moments.{Moment, Moments, ago, isFresh, timeAt, holdoffAt, waitAt, clearsAt, rawQuality, fails, Began, Down, Up, Neither, LastDown, LastUp, BeforeRun, Passed}
+use Rattle.run.specs.Moments.{Moment, Moments, ago, isFresh, timeAt, rawQuality, fails, Began, Down, Up, Neither, LastDown, LastUp, BeforeRun, Passed}
 use Rattle.run.specs.Passed.{alike, runBegan, goodQuality, isDown, isUp, wasUp, passed}
 use Rattle.run.proofs.Laws.{byBool}
 

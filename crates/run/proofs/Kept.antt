@@ -1,11 +1,11 @@
 -- What the code keeps is what the moments gone by come to: one moment at a time, and any stretch with no event at once. Assumes nothing.
-use Prim.Native.Nat.{ℕ, zero, suc, _+_, _-_, _≤_, _<_}
-use mathlib.Core.Bool.{Bool, true, false, not, _&&_, _||_, cond, or-false, true≢false, false≢true}
-use mathlib.Core.List.{List, [], _∷_}
+use Prim.Native.Nat.{ℕ, zero, suc, _+_, _-_, _≤_}
+use mathlib.Core.Bool.{Bool, true, false, not, _&&_, _||_, cond, true≢false, false≢true}
+use mathlib.Core.List.{[], _∷_}
 use mathlib.Core.Path.{_≡_, refl, sym, _∙_, ap, subst}
 use native.Mathlib.Omega.{arith}
 use native.Mathlib.Nat.{add-zero, add-suc}
-use lib.Dec.{leb, ltb, leb·suc-suc}
+use lib.Dec.{leb, leb·suc-suc}
 use borrow.Author.Tests.{leb-true, leb-false, le-leb, lt-leb}
 use Rattle.numbers.specs.declared.Quality.{Quality}
 use Rattle.numbers.specs.Quality.{failed, isFailed}
@@ -13,7 +13,7 @@ use Rattle.numbers.specs.Inputs.{frameLife}
 use Rattle.run.specs.declared.Forecast.{Forecast}
 use Rattle.run.specs.declared.Run.{Run}
 use Rattle.run.specs.Moments.{Moment, Moments, rawQuality, fails, eachMillisecond}
-use Rattle.run.specs.Passed.{alike, runBegan, goodQuality, isDown, isUp, wasUp, passed}
+use Rattle.run.specs.Passed.{alike, runBegan, goodQuality, wasUp, passed}
 use Rattle.run.specs.Run.{runOf, freshRun, isExpired, rawAt, momentAt, runStart, phase, lastGood, atMoment, upBefore, broughtTo, passedQuality}
 use Rattle.run.proofs.Laws.{byBool}
 

@@ -1,13 +1,12 @@
 -- The definitions of `specs/`, a law for each way through the function that meets it. Assumes nothing.
 use Prim.Native.Nat.{ℕ, zero, suc, _+_, _≤_, _<_}
-use mathlib.Core.Bool.{Bool, true, false, not, _||_, cond}
-use mathlib.Core.List.{List, [], _∷_, map}
+use mathlib.Core.Bool.{Bool, true, false}
+use mathlib.Core.List.{List, [], _∷_}
 use mathlib.Core.Path.{_≡_, refl, sym, _∙_, ap}
 use native.Mathlib.Omega.{arith}
 use lib.Dec.{eqb}
 use lib.ListN.{length, getD, set}
 use Rattle.numbers.specs.declared.InputNumber.{InputNumber}
-use Rattle.numbers.specs.declared.Quality.{Quality}
 use Rattle.numbers.specs.Quality.{notTold, sec, codeDnu}
 use Rattle.input.specs.declared.Input.{Input}
 use Rattle.input.specs.Record.{freshInput}

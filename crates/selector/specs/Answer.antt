@@ -1,7 +1,7 @@
 -- Document 01, "Choosing" on clock state, clock quality and outgoing code, and the answer line of "The event log". Cited by `src/lib.rt`.
 -- Assumes nothing.
 use Prim.Native.Nat.{ℕ}
-use mathlib.Core.Bool.{Bool, true, false, not, _||_, cond}
+use mathlib.Core.Bool.{Bool, false, not, _||_, cond}
 use mathlib.Core.List.{List, [], _∷_, map}
 use lib.Dec.{eqb}
 use lib.ListN.{getD}

@@ -2,7 +2,7 @@
 -- Assumes nothing.
 use Prim.Native.Nat.{ℕ}
 use mathlib.Core.Bool.{Bool, true, false}
-use mathlib.Core.List.{List, [], _∷_, map}
+use mathlib.Core.List.{List, map}
 use lib.ListN.{replicate}
 use Rattle.numbers.specs.Inputs.{inputCount}
 use Rattle.input.specs.declared.Input.{Input}
