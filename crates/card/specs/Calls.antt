@@ -1,6 +1,5 @@
--- What C holds after calls in a row on a fresh card, each passing on what the one before handed out: the selector after the
--- same events, so that the demands hold of what C holds. Not cited by the code.
--- Assumes nothing.
+-- What C holds after calls in a row on a fresh card, each passing on what the one before handed out: the selector after
+-- the same events, so that the demands hold of what C holds. Not cited by the code. Assumes nothing.
 use Prim.Native.Nat.{ℕ}
 use mathlib.Core.List.{[], _∷_}
 use mathlib.Core.Path.{_≡_}
@@ -20,7 +19,8 @@ use Rattle.card.specs.Card.{freshCard, stepCard, cardCodes}
 -- a card after a call, by value or in place
 abbrev pub called : Card → Given → Card
 called card given =
-    stepCard card (given .event .kind) (given .event .time) (given .event .input) (given .event .argument) (given .frame)
+    let event = given .event in
+    stepCard card (event .kind) (event .time) (event .input) (event .argument) (given .frame)
 
 -- what C holds after the calls, the latest first
 unfoldable pub cardAfter : Sequence → Card

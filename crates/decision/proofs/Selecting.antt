@@ -43,7 +43,8 @@ module _ (candidates : List Candidate) (on : ℕ) where
       (not-true lower (both-second (eligibleAmong candidates on) (not lower) x))
 
 -- an eligible input is neither off nor locked
-pub eligible-admitted : (candidates : List Candidate) (on : ℕ) → eligibleAmong candidates on ≡ true → forcedMayStand candidates on ≡ true
+pub eligible-admitted : (candidates : List Candidate) (on : ℕ) → eligibleAmong candidates on ≡ true
+    → forcedMayStand candidates on ≡ true
 unfolding isEligible
 eligible-admitted candidates on x =
     both-first (getD candidates on nobody .admitted) (getD candidates on nobody .usable) x
@@ -111,7 +112,8 @@ selected-admitted (choice ∷ earlier) number x = go (decidedOver (choice ∷ ea
         subst (λ (on : ℕ). forcedMayStand (choice .candidates) on ≡ true) (selected-injective (other .0) number y)
         (eligible-admitted (choice .candidates) (other .0) (best .isEligible))
 
-    go : (switch : Switch) → decidedOver (choice ∷ earlier) .switch ≡ switch → forcedMayStand (choice .candidates) number ≡ true
+    go : (switch : Switch) → decidedOver (choice ∷ earlier) .switch ≡ switch
+        → forcedMayStand (choice .candidates) number ≡ true
     go W.Nothing y =
         chosen (decidedOver (choice ∷ earlier) .selection) x (selection-right choice earlier .free y)
     go (W.Forced on) y =

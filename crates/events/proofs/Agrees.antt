@@ -56,8 +56,10 @@ unfolding tick
 tick-settings input time mode = refl
 
 -- what a choice looks at, of a record whose passed quality and settings are those of the recorded events
-pub candidate-recorded : (number time : ℕ) (history : History) (input : Input) → passedOf input ≡ passedAt number history time
-    → input .settings ≡ settingsBy number history → candidateFor (modeOn history) input ≡ candidateBy history time number
+pub candidate-recorded : (number time : ℕ) (history : History) (input : Input)
+    → passedOf input ≡ passedAt number history time
+    → input .settings ≡ settingsBy number history
+    → candidateFor (modeOn history) input ≡ candidateBy history time number
 unfolding candidateFor candidateBy settingsBy
 candidate-recorded number time history input passed settings =
     rw (passed, settings) refl
@@ -99,12 +101,14 @@ takes-mode number event mode input e =
     byBool (eqb (event .input) number) (λ k. rw (k, e)) (λ k. rw k)
 
 -- an event that does not set the mode leaves it
-mode-kept : (event : Event) (history : History) → eqb (event .kind) kindQualityMode ≡ false → modeOn (event ∷ history) ≡ modeOn history
+mode-kept : (event : Event) (history : History) → eqb (event .kind) kindQualityMode ≡ false
+    → modeOn (event ∷ history) ≡ modeOn history
 unfolding lastArgument isOn
 mode-kept event history e = rw (e, and-false)
 
 -- the event's own input takes it
-takes-own : (event : Event) (history : History) → event .input < 16 → heldArgument (event .kind) (event .argument) ≡ event .argument
+takes-own : (event : Event) (history : History) → event .input < 16
+    → heldArgument (event .kind) (event .argument) ≡ event .argument
     → afterEvent (getD (recordsAt history (event .time)) (event .input) freshInput) (event .kind)
     (heldArgument (event .kind) (event .argument))
     (event .time)
@@ -122,8 +126,10 @@ takes-own event history inside whole =
     (getD-ports (λ (number : ℕ). tick (recordAfter number history) (event .time) (modeOn history)) freshInput (event .input) inside))
 
 -- all inputs after an event are the records of the recorded events
-pub inputs-after : (event : Event) (history : History) → Ordered history → timeOf history ≤ event .time → event .input < 16
-    → (event .kind ≡ kindQualityMode → event .input ≡ 0) → heldArgument (event .kind) (event .argument) ≡ event .argument
+pub inputs-after : (event : Event) (history : History) → Ordered history → timeOf history ≤ event .time
+    → event .input < 16
+    → (event .kind ≡ kindQualityMode → event .input ≡ 0)
+    → heldArgument (event .kind) (event .argument) ≡ event .argument
     → inputsAfter (recordsAt history (event .time)) event (modeOn (event ∷ history)) ≡ records (event ∷ history)
 unfolding inputsAfter recordAfter inputAfter
 inputs-after event history ordered later inside zeroed whole =
@@ -193,7 +199,8 @@ pub record TickAgrees (state : Selector) (history : History) (time : ℕ) (choic
   pub held : state .held ≡ decidedOver (tickChoice history time ∷ choices) .held
 
 -- the inputs brought to a time are the records brought there
-brought-inputs : (inputs : List Input) (history : History) (time : ℕ) (mode : Bool) → inputs ≡ records history → mode ≡ modeOn history
+brought-inputs : (inputs : List Input) (history : History) (time : ℕ) (mode : Bool) → inputs ≡ records history
+    → mode ≡ modeOn history
     → map (λ (input : Input). tick input time mode) inputs ≡ recordsAt history time
 brought-inputs inputs history time mode i m = rw (i, m) refl
 
@@ -227,7 +234,8 @@ tick-agrees state history time choices agrees later =
       held = ap (λ (s : Selector). s .held) d;
     }
 
-candidate-tick : (history : History) (time number : ℕ) → passedAt number (tickEvent time ∷ history) time ≡ passedAt number history time
+candidate-tick : (history : History) (time number : ℕ)
+    → passedAt number (tickEvent time ∷ history) time ≡ passedAt number history time
     → candidateBy history time number ≡ candidateBy (tickEvent time ∷ history) time number
 unfolding candidateBy lastArgument isOn
 candidate-tick history time number same = rw (same, and-false)
@@ -242,8 +250,10 @@ candidates-tick history time ordered later =
     one number = candidate-tick history time number (demand-2-tick-adds-nothing number history time time ordered later (omega arith))
 
 -- a refusal 14 to 17 leaves what a tick leaves
-pub late-agrees : (state : Selector) (history : History) (time : ℕ) (choices : Choices) → Ordered history → timeOf history ≤ time
-    → TickAgrees state history time choices → Agrees state (tickEvent time ∷ history) (tickChoice history time ∷ choices)
+pub late-agrees : (state : Selector) (history : History) (time : ℕ) (choices : Choices) → Ordered history
+    → timeOf history ≤ time
+    → TickAgrees state history time choices
+    → Agrees state (tickEvent time ∷ history) (tickChoice history time ∷ choices)
 late-agrees state history time choices ordered later agrees =
     record {
       ordered = (later, ordered);
@@ -312,7 +322,8 @@ placed-agrees state history event choices ordered later inside zeroed whole agre
 -- ---- the numbers, by the recorded events
 
 -- the settings of an input are those of the recorded events
-pub settings-at : (inputs : List Input) (history : History) (number : ℕ) → inputs ≡ records history → number < inputCount
+pub settings-at : (inputs : List Input) (history : History) (number : ℕ) → inputs ≡ records history
+    → number < inputCount
     → getD inputs number freshInput .settings ≡ settingsBy number history
 settings-at inputs history number i inside =
     ap (λ (list : List Input). getD list number freshInput .settings) i ∙
@@ -355,18 +366,21 @@ late-recorded state history choices event ordered later agrees =
 -- ---- any sequence
 
 -- the three ways of a step, with the number that each answers
-pub step-early : (state : Selector) (event : Event) (frame : List ℕ) → (earlyNumber state event (readFrame frame) ≡ accepted → ⊥)
+pub step-early : (state : Selector) (event : Event) (frame : List ℕ)
+    → (earlyNumber state event (readFrame frame) ≡ accepted → ⊥)
     → step state event frame ≡ stepped (earlyNumber state event (readFrame frame)) state
 unfolding step stepRead
 step-early state event frame given = rw (ne-eqb _ _ given)
 
-pub step-late : (state : Selector) (event : Event) (frame : List ℕ) → earlyNumber state event (readFrame frame) ≡ accepted
+pub step-late : (state : Selector) (event : Event) (frame : List ℕ)
+    → earlyNumber state event (readFrame frame) ≡ accepted
     → (lateNumber (ticked state (event .time)) event ≡ accepted → ⊥)
     → step state event frame ≡ stepped (lateNumber (ticked state (event .time)) event) (ticked state (event .time))
 unfolding step stepRead
 step-late state event frame none given = rw (none, ne-eqb _ _ given)
 
-pub step-accepted : (state : Selector) (event : Event) (frame : List ℕ) → earlyNumber state event (readFrame frame) ≡ accepted
+pub step-accepted : (state : Selector) (event : Event) (frame : List ℕ)
+    → earlyNumber state event (readFrame frame) ≡ accepted
     → lateNumber (ticked state (event .time)) event ≡ accepted
     → step state event frame ≡
     stepped accepted (placed (ticked state (event .time)) (recordedEvent event (readFrame frame)))
@@ -487,5 +501,6 @@ sequence-agrees [] = fresh-agrees
 sequence-agrees (given ∷ earlier) = after-event given earlier (sequence-agrees earlier) .agrees
 
 -- the number that any event is then answered with
-pub sequence-number : (sequence : Sequence) (given : Given) → numberAfter given sequence ≡ numberBy (pastOf sequence) given
+pub sequence-number : (sequence : Sequence) (given : Given)
+    → numberAfter given sequence ≡ numberBy (pastOf sequence) given
 sequence-number sequence given = after-event given sequence (sequence-agrees sequence) .number

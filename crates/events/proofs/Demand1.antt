@@ -1,4 +1,5 @@
--- DEMAND 1: each number is given exactly when document 01's table says, and leaves the state as it says. Assumes nothing.
+-- DEMAND 1: each number is given exactly when document 01's table says, and leaves the state as it says. Assumes
+-- nothing.
 use Prim.Native.Nat.{ℕ}
 use mathlib.Core.List.{List}
 use mathlib.Core.Path.{_≡_, sym, _∙_, ap}

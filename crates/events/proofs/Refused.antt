@@ -115,7 +115,8 @@ first-smallest (row ∷ rows) rising =
         }
 
 -- the smallest number that applies is given
-pub smallest-given : (number : ℕ) (rows : List Refusal) → Rising rows → Smallest number rows → firstThatApplies rows ≡ number
+pub smallest-given : (number : ℕ) (rows : List Refusal) → Rising rows → Smallest number rows
+    → firstThatApplies rows ≡ number
 smallest-given number rows rising smallest =
     ⊎-elim
     (λ first. omega (arith, smallest .least (firstThatApplies rows) (first .applies), first .least number (smallest .applies)))
@@ -177,13 +178,15 @@ module _ (candidates : List Candidate) (switch : Switch) (kind on : ℕ) where
 
 -- ---- frames
 
-cond-within : (test : Bool) (least most x y : ℕ) → (least ≤ x) × (x ≤ most) → (y ≡ accepted) ⊎ ((least ≤ y) × (y ≤ most))
+cond-within : (test : Bool) (least most x y : ℕ) → (least ≤ x) × (x ≤ most)
+    → (y ≡ accepted) ⊎ ((least ≤ y) × (y ≤ most))
     → (cond test x y ≡ accepted) ⊎ ((least ≤ cond test x y) × (cond test x y ≤ most))
 cond-within true least most x y here later = inr here
 cond-within false least most x y here later = later
 
 -- a frame is accepted, or refused with 8 to 13
-frameNumber-within : (frame : List ℕ) → (frameNumber frame ≡ accepted) ⊎ ((frameLength ≤ frameNumber frame) × (frameNumber frame ≤ frameTlv))
+frameNumber-within : (frame : List ℕ)
+    → (frameNumber frame ≡ accepted) ⊎ ((frameLength ≤ frameNumber frame) × (frameNumber frame ≤ frameTlv))
 unfolding frameNumber
 frameNumber-within frame =
     cond-within (not (rightLength frame)) 8 13 8 _ (omega arith, omega arith)
@@ -242,7 +245,8 @@ isInputOut-above kind input outside = go (rowOf kind .inputless)
     go false = lt-ltb lastInput input (omega arith)
 
 -- it is refused whatever kind of input it might be
-pub earlyRefusal-outside : (time : ℕ) (event : Event) (read : FrameRead) → inputCount ≤ event .input → (ethernet other : Bool)
+pub earlyRefusal-outside : (time : ℕ) (event : Event) (read : FrameRead) → inputCount ≤ event .input
+    → (ethernet other : Bool)
     → earlyRefusal time ethernet event read ≡ earlyRefusal time other event read
 unfolding earlyRefusal firstThatApplies
 earlyRefusal-outside time event read outside ethernet other = rw (isInputOut-above (kindOf (event .kind)) (event .input) outside)
@@ -294,7 +298,8 @@ module _ (time : ℕ) (ethernet : Bool) (event : Event) (frame : List ℕ)
   unfolding isInputOut
   accepted-input = go (rowOf (kindOf (event .kind)) .inputless) (rows .1 .1 .1 .0)
     where
-      go : (inputless : Bool) → cond inputless (not (eqb (event .input) 0)) (ltb 15 (event .input)) ≡ false → event .input < 16
+      go : (inputless : Bool) → cond inputless (not (eqb (event .input) 0)) (ltb 15 (event .input)) ≡ false
+          → event .input < 16
       go true e = omega (arith, eqb-true (event .input) 0 (not-false _ e))
       go false e = omega (arith, ltb-false 15 (event .input) e)
 

@@ -1,5 +1,5 @@
--- Demand 1: "Each refusal is one of the numbers of document 01, given exactly when stated there, and leaves .. state as its table says."
--- Assumes nothing.
+-- Demand 1: "Each refusal is one of the numbers of document 01, given exactly when stated there, and leaves .. state as
+-- its table says." Assumes nothing.
 use Prim.Native.Nat.{ℕ, _≤_}
 use mathlib.Core.Bool.{true, false}
 use mathlib.Core.List.{List, [], _∷_}

@@ -1,6 +1,6 @@
--- Demand 2: "Codes, ESMC frames, hold-off, wait, commands and all sixteen outgoing codes follow document 01": what is answered of a
--- state is by the recorded events. Frames are in crate `frame`, hold-off and wait in `input`, the commands in `Demand3`.
--- Assumes nothing.
+-- Demand 2: "Codes, ESMC frames, hold-off, wait, commands and all sixteen outgoing codes follow document 01": what is
+-- answered of a state is by the recorded events. Frames are in crate `frame`, hold-off and wait in `input`, the
+-- commands in `Demand3`. Assumes nothing.
 use Prim.Native.Nat.{ℕ, _<_}
 use mathlib.Core.Bool.{false}
 use mathlib.Core.Path.{_≡_}
@@ -27,14 +27,17 @@ pub record Demand2 (sequence : Sequence) : Type 0 where
   -- the quality mode is the last that was set
   pub mode : stateAfter sequence .mode ≡ modeOn (recorded sequence)
   -- "03 is answered should a manual switch be found standing on an ineligible input": none ever is
-  pub never03 : switchFails (stateAfter sequence .inputs) (stateAfter sequence .mode) (stateAfter sequence .switch) ≡ false
-  -- "02 locked if an input is selected and its passed quality is usable ..; otherwise 01 holdover .., 00 free run if not"
+  pub never03 :
+      switchFails (stateAfter sequence .inputs) (stateAfter sequence .mode) (stateAfter sequence .switch) ≡ false
+  -- "02 locked if an input is selected and its passed quality is usable ..; otherwise 01 holdover .., 00 free run if
+  -- not"
   pub state : stateOf (stateAfter sequence) ≡
       clockState false (shown sequence (stateAfter sequence .selection) .usable) (stateAfter sequence .held)
   -- "Clock quality: 0 with mode off; the passed quality when locked; otherwise 4"
   pub quality : qualityOf (stateAfter sequence) ≡
       clockQuality (modeOn (recorded sequence)) (shown sequence (stateAfter sequence .selection))
-  -- "1111 if mode is off, if its sending is off, or if it is the selected input; otherwise the code of the clock quality"
+  -- "1111 if mode is off, if its sending is off, or if it is the selected input; otherwise the code of the clock
+  -- quality"
   pub outgoing : (port : ℕ) → port < inputCount
       → getD (outgoingCodes (stateAfter sequence)) port 0 ≡
       outgoingCode (modeOn (recorded sequence)) (isSending port (recorded sequence))

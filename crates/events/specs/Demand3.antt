@@ -1,5 +1,5 @@
--- Demand 3: "After every event of any sequence from a fresh start, refused ones included, the selection is right, by eligibility
--- worked out from the recorded events with no timers. A switch stands exactly as the document says."
+-- Demand 3: "After every event of any sequence from a fresh start, refused ones included, the selection is right, by
+-- eligibility worked out from the recorded events with no timers. A switch stands exactly as the document says."
 -- Assumes nothing.
 use Prim.Native.Nat.{ℕ, _<_}
 use mathlib.Core.List.{[], _∷_}
@@ -31,13 +31,16 @@ pub record Demand3 (sequence : Sequence) : Type 0 where
   pub held : stateAfter sequence .held ≡ decidedOver (choicesOf sequence) .held
   -- the latest of them was made at the state's time
   pub madeAt : MadeAt (recorded sequence) (stateAfter sequence .time) (choicesOf sequence)
-  -- eligibility is by the passed quality that document 01 states of the recorded events, now and at the tick of an event to come
+  -- eligibility is by the passed quality that document 01 states of the recorded events, now and at the tick of an
+  -- event to come
   pub eligibility : (time number : ℕ) → number < inputCount → (quality : Quality)
       → PassedAt number (recorded sequence) time quality
       → getD (candidatesBy (recorded sequence) time) number nobody ≡
-      candidateOf quality (record { 0 = priorityOf number (recorded sequence) }) (isLockedOut number (recorded sequence))
+      candidateOf quality (record { 0 = priorityOf number (recorded sequence) })
+      (isLockedOut number (recorded sequence))
       (modeOn (recorded sequence))
-  -- after each choice made, so also after a tick's, the switch stands exactly as the document says, and the selection is right
+  -- after each choice made, so also after a tick's, the switch stands exactly as the document says, and the selection
+  -- is right
   pub switchRight : (back : ℕ) → SwitchRight (choicesAgo back (choicesOf sequence))
   pub selectionRight : (back : ℕ) → LatestRight (choicesAgo back (choicesOf sequence))
   -- the clock has been locked exactly if it was after one of them

@@ -1,6 +1,5 @@
--- Document 01 on any sequence of events from a fresh start, refused ones included, with no state and no timer: which number each
--- event is given, what is recorded, and which choices are made.
--- Assumes nothing.
+-- Document 01 on any sequence of events from a fresh start, refused ones included, with no state and no timer: which
+-- number each event is given, what is recorded, and which choices are made. Assumes nothing.
 use Prim.Native.Nat.{ℕ}
 use mathlib.Core.Bool.{not, cond}
 use mathlib.Core.List.{List, [], _∷_, map}
@@ -48,7 +47,8 @@ abbrev pub eventChoice : History → Event → ChoiceMoment
 eventChoice earlier event =
     record { candidates = candidatesBy (event ∷ earlier) (event .time); kind = event .kind; on = event .input }
 
--- rows 2 to 13: "the smallest number that applies", at the time of the last recorded event, for the kind that its input has
+-- rows 2 to 13: "the smallest number that applies", at the time of the last recorded event, for the kind that its input
+-- has
 abbrev pub earlyBy : Past → Given → ℕ
 earlyBy past given =
     earlyRefusal (timeOf (past .history)) (isEthernet (given .event .input) (past .history)) (given .event)

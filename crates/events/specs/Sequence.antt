@@ -1,6 +1,5 @@
--- Any sequence of events from a fresh start, refused ones included: the state that the code is in after it, and the number that the
--- code answers. `Past` has what document 01 says of the same sequence.
--- Assumes nothing.
+-- Any sequence of events from a fresh start, refused ones included: the state that the code is in after it, and the
+-- number that the code answers. `Past` has what document 01 says of the same sequence. Assumes nothing.
 use Prim.Native.Nat.{ℕ}
 use mathlib.Core.List.{List, [], _∷_}
 use Rattle.numbers.specs.declared.Event.{Event}

@@ -27,7 +27,8 @@ forecastAfter input history = forecast (recordAfter input history) (modeOn histo
 
 -- ---- the run kept is that of the moments
 
-pub settled-moments : (input : ℕ) (history : History) → Settled (forecastAfter input history) (kept (moments input history)) (timeOf history)
+pub settled-moments : (input : ℕ) (history : History)
+    → Settled (forecastAfter input history) (kept (moments input history)) (timeOf history)
 unfolding kept moments
 settled-moments input [] = settled-fresh (forecastAfter input []) (ap isFailed (sym (raw-recalled input [] 0) ∙ raw-fresh input))
 settled-moments input (event ∷ earlier) =
@@ -53,11 +54,13 @@ unfolding takes afterEvent settle isOn forecast
 takes-run input event mode before = byBool (eqb (event .input) input) (λ e. rw e) (λ e. rw e)
 
 -- a tick brings the run to its time
-tick-run : (input : Input) (time : ℕ) (mode : Bool) → tick input time mode .run ≡ broughtTo (input .run) (forecast input mode) time
+tick-run : (input : Input) (time : ℕ) (mode : Bool)
+    → tick input time mode .run ≡ broughtTo (input .run) (forecast input mode) time
 unfolding tick
 tick-run input time mode = refl
 
-pub run-moments : (input : ℕ) (history : History) → Ordered history → recordAfter input history .run ≡ kept (moments input history)
+pub run-moments : (input : ℕ) (history : History) → Ordered history
+    → recordAfter input history .run ≡ kept (moments input history)
 unfolding recordAfter kept moments
 run-moments input [] ordered = refl
 run-moments input (event ∷ earlier) ordered =
@@ -141,7 +144,8 @@ takes-tick input history time ordered later =
 
 -- ---- what is shown
 
--- DEMAND 2: after any recorded events, and at any later time, the record passes the quality that they define, and no other is defined.
+-- DEMAND 2: after any recorded events, and at any later time, the record passes the quality that they define, and no
+-- other is defined.
 pub demand-2-passed-quality : (input : ℕ) (history : History) (time : ℕ) → Ordered history → timeOf history ≤ time
     → PassesWhatIsRecorded input history time
 unfolding passedAt
@@ -157,7 +161,8 @@ demand-2-passed-at-once input history ordered =
     record { passes = rw (passed-now input history ordered) (passed-exact (momentsUntil input history (timeOf history))) }
 
 -- DEMAND 2: time going by in two pieces equals one piece.
-pub demand-2-two-pieces : (input : ℕ) (history : History) (time later : ℕ) → Ordered history → timeOf history ≤ time → time ≤ later
+pub demand-2-two-pieces : (input : ℕ) (history : History) (time later : ℕ) → Ordered history → timeOf history ≤ time
+    → time ≤ later
     → TwoPieces input history time later
 unfolding tick forecast
 demand-2-two-pieces input history time later ordered i j =
@@ -166,7 +171,8 @@ demand-2-two-pieces input history time later ordered i j =
     (settled-record input history ordered))
 
 -- DEMAND 2: a tick in between changes no later passed quality.
-pub demand-2-tick-adds-nothing : (input : ℕ) (history : History) (time later : ℕ) → Ordered history → timeOf history ≤ time
+pub demand-2-tick-adds-nothing : (input : ℕ) (history : History) (time later : ℕ) → Ordered history
+    → timeOf history ≤ time
     → time ≤ later → TickAddsNothing input history time later
 unfolding lastArgument isOn
 demand-2-tick-adds-nothing input history time later ordered i j =

@@ -79,7 +79,8 @@ settingsAfter settings kind argument =
       sending = cond (eqb kind kindSending) (not (eqb argument 0)) (settings .sending);
     }
 
--- "In this order: signal failing gives 7; quality mode off gives 0; a fixed quality gives itself; otherwise what was heard"
+-- "In this order: signal failing gives 7; quality mode off gives 0; a fixed quality gives itself; otherwise what was
+-- heard"
 unfoldable pub qualityNow : Heard → Settings → Bool → Quality
 qualityNow heard settings mode =
     cond (not (heard .good)) failed

@@ -1,5 +1,5 @@
--- Document 01, "Passed quality", computed over the moments of one input. `proofs/Exact` shows that it is what `Moments` states.
--- Assumes nothing.
+-- Document 01, "Passed quality", computed over the moments of one input. `proofs/Exact` shows that it is what `Moments`
+-- states. Assumes nothing.
 use Prim.Native.Nat.{ℕ, _+_}
 use mathlib.Core.Bool.{Bool, true, false, not, _&&_, _||_, cond}
 use mathlib.Core.List.{[], _∷_}

@@ -32,7 +32,8 @@ module _ {A : Type 0} (f : ℕ → A) (x : A) where
   abbrev pub butAt : ℕ → ℕ → A
   butAt place number = cond (eqb number place) x (f number)
 
-  map-later : (first count place : ℕ) → place < first → map f (numbersFrom first count) ≡ map (butAt place) (numbersFrom first count)
+  map-later : (first count place : ℕ) → place < first
+      → map f (numbersFrom first count) ≡ map (butAt place) (numbersFrom first count)
   unfolding numbersFrom
   map-later first zero place h = refl
   map-later first (suc count) place h =
