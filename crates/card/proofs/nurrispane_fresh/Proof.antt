@@ -13,7 +13,7 @@ card-of-requires c κs = search needs
 
 returns : tie.Need-returns
 unfolding freshCard
-returns c = cc
+returns c = rw (c .card-of .ensures, c .before .fresh .ensures)
 
 pub nurrispane-fresh-spec : {M : Type 1} → statement M
 nurrispane-fresh-spec = tie.close (tie.spec fresh-requires card-of-requires returns)

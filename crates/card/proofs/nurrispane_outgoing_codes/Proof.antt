@@ -13,7 +13,7 @@ outgoing-codes-requires c κs = search needs
 
 returns : tie.Need-returns
 unfolding cardCodes
-returns c = cc
+returns c = rw (c .outgoing-codes .ensures, c .before .selector-of .ensures)
 
 pub nurrispane-outgoing-codes-spec : {M : Type 1} → statement M
 nurrispane-outgoing-codes-spec =

@@ -16,7 +16,12 @@ card-of-requires c κs = search needs
 
 returns : tie.Need-returns
 unfolding stepCard
-returns c = cc
+returns c =
+    rw (
+      c .card-of .ensures,
+      c .before .before .step .ensures,
+      c .before .before .before .selector-of .ensures,
+    )
 
 pub nurrispane-step-spec : {M : Type 1} → statement M
 nurrispane-step-spec =

@@ -16,7 +16,12 @@ selection-of-requires c κs = search needs
 
 returns : tie.Need-returns
 unfolding selectorOf
-returns c = cc
+returns c =
+    rw (
+      c .before .before .selection-of .ensures,
+      c .before .before .before .switch-of .ensures,
+      c .before .before .before .before .inputs-of .ensures,
+    )
 
 pub selector-of-spec : {M : Type 1} → statement M
 selector-of-spec =

@@ -16,7 +16,12 @@ is-usable-requires c κs = search needs
 
 returns : tie.Need-returns
 unfolding candidateOf
-returns c = cc
+returns c =
+    rw (
+      c .is-usable .ensures,
+      c .before .is-admitted .ensures,
+      c .before .before .ranked-quality .ensures,
+    )
 
 pub candidate-of-spec : {M : Type 1} → statement M
 candidate-of-spec =

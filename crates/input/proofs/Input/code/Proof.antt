@@ -13,7 +13,7 @@ settle-requires c κs = search needs
 
 returns : tie.Need-returns
 unfolding afterEvent heardAfter settingsAfter
-returns c = cc
+returns c = rw (c .settle .ensures, c .before .code .ensures)
 
 pub code-spec : {M : Type 1} → statement M
 code-spec = tie.close (tie.spec code-requires settle-requires returns)

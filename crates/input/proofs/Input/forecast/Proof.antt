@@ -19,7 +19,13 @@ can-expire-requires c κs = search needs
 
 returns : tie.Need-returns
 unfolding forecast
-returns c = cc
+returns c =
+    rw (
+      c .can-expire .ensures,
+      c .before .quality-now .ensures,
+      c .before .before .minutes-in-ms .ensures,
+      c .before .before .before .in-ms .ensures,
+    )
 
 pub forecast-spec : {M : Type 1} → statement M
 forecast-spec =

@@ -13,7 +13,7 @@ settle-requires c κs = search needs
 
 returns : tie.Need-returns
 unfolding afterEvent heardAfter settingsAfter
-returns c = cc
+returns c = rw (c .settle .ensures, c .before .frame .ensures)
 
 pub frame-spec : {M : Type 1} → statement M
 frame-spec = tie.close (tie.spec frame-requires settle-requires returns)

@@ -10,7 +10,7 @@ settle-requires c κs = search needs
 
 returns : tie.Need-returns
 unfolding afterEvent heardAfter settingsAfter
-returns c = cc
+returns c = rw (c .settle .ensures)
 
 pub priority-spec : {M : Type 1} → statement M
 priority-spec = tie.close (tie.spec settle-requires returns)

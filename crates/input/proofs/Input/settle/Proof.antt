@@ -13,7 +13,7 @@ at-moment-requires c κs = search needs
 
 returns : tie.Need-returns
 unfolding settle
-returns c = cc
+returns c = rw (c .at-moment .ensures, c .before .before .forecast .ensures)
 
 pub settle-spec : {M : Type 1} → statement M
 settle-spec = tie.close (tie.spec forecast-requires at-moment-requires returns)

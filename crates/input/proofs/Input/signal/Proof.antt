@@ -13,7 +13,7 @@ settle-requires c κs = search needs
 
 returns : tie.Need-returns
 unfolding afterEvent heardAfter settingsAfter
-returns c = cc
+returns c = rw (c .settle .ensures, c .before .signal .ensures)
 
 pub signal-spec : {M : Type 1} → statement M
 signal-spec = tie.close (tie.spec signal-requires settle-requires returns)

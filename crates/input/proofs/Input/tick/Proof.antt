@@ -13,7 +13,7 @@ brought-to-requires c κs = search needs
 
 returns : tie.Need-returns
 unfolding tick
-returns c = cc
+returns c = rw (c .brought-to .ensures, c .before .before .forecast .ensures)
 
 pub tick-spec : {M : Type 1} → statement M
 tick-spec = tie.close (tie.spec forecast-requires brought-to-requires returns)

@@ -22,7 +22,14 @@ last-good-requires c κs = search needs
 
 returns : tie.Need-returns
 unfolding atMoment
-returns c = cc
+returns c =
+    rw (
+      c .last-good .ensures,
+      c .before .before .phase .ensures,
+      c .before .before .before .run-start .ensures,
+      c .before .before .before .before .is-failed .ensures,
+      c .before .before .before .before .before .raw-at .ensures,
+    )
 
 pub at-moment-spec : {M : Type 1} → statement M
 at-moment-spec =

@@ -28,7 +28,16 @@ switch-input-requires c κs = search needs
 
 returns : tie.Need-returns
 unfolding answerOf
-returns c = cc
+returns c =
+    rw (
+      c .switch-input .ensures,
+      c .before .switch-number .ensures,
+      c .before .before .clock-state .ensures,
+      c .before .before .before .selected-number .ensures,
+      c .before .before .before .before .clock-quality .ensures,
+      c .before .before .before .before .before .switch-fails .ensures,
+      c .before .before .before .before .before .before .selected-candidate .ensures,
+    )
 
 pub answer-spec : {M : Type 1} → statement M
 answer-spec =

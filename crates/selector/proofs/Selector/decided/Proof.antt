@@ -13,7 +13,7 @@ decide-requires c κs = search needs
 
 returns : tie.Need-returns
 unfolding decided
-returns c = cc
+returns c = rw (c .decide .ensures, c .before .candidates-of .ensures)
 
 pub decided-spec : {M : Type 1} → statement M
 decided-spec = tie.close (tie.spec candidates-of-requires decide-requires returns)

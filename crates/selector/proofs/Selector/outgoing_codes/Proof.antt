@@ -22,7 +22,14 @@ codes-for-requires c κs = search needs
 
 returns : tie.Need-returns
 unfolding outgoingCodes
-returns c = cc
+returns c =
+    rw (
+      c .codes-for .ensures,
+      c .before .selected-number .ensures,
+      c .before .before .code-of-quality .ensures,
+      c .before .before .before .clock-quality .ensures,
+      c .before .before .before .before .selected-candidate .ensures,
+    )
 
 pub outgoing-codes-spec : {M : Type 1} → statement M
 outgoing-codes-spec =

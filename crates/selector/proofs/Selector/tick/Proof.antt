@@ -13,7 +13,7 @@ decided-requires c κs = search needs
 
 returns : tie.Need-returns
 unfolding ticked
-returns c = cc
+returns c = rw (c .decided .ensures, c .before .tick-all .ensures)
 
 pub tick-spec : {M : Type 1} → statement M
 tick-spec = tie.close (tie.spec tick-all-requires decided-requires returns)
