@@ -101,7 +101,8 @@ card-right sequence =
 
 -- one more call, of the step that it stands for
 cardAfter-step : (sequence : Sequence) (given : Given) (after : Stepped)
-    → step (stateAfter sequence) (given .event) (given .frame) ≡ after → cardAfter (given ∷ sequence) ≡ steppedCard after
+    → step (stateAfter sequence) (given .event) (given .frame) ≡ after
+    → cardAfter (given ∷ sequence) ≡ steppedCard after
 unfolding stateAfter numberAfter latestNumber
 cardAfter-step sequence given after is = cardAfter-whole (given ∷ sequence) ∙ ap steppedCard is
 

@@ -1,5 +1,5 @@
--- `Laws`: the code's definitions, way by way. `Calls`: what C holds after calls in a row. `Ports`: what is written for a
--- port.
+-- `Laws`: the code's definitions, way by way. `Calls`: what C holds after calls in a row. `Ports`: what is written for
+-- a port.
 pub mod Laws
 pub mod Calls
 pub mod Ports

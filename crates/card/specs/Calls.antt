@@ -1,6 +1,5 @@
--- What C holds after calls in a row on a fresh card, each passing on what the one before handed out: the selector after the
--- same events, so that the demands hold of what C holds. Not cited by the code.
--- Assumes nothing.
+-- What C holds after calls in a row on a fresh card, each passing on what the one before handed out: the selector after
+-- the same events, so that the demands hold of what C holds. Not cited by the code. Assumes nothing.
 use Prim.Native.Nat.{ℕ}
 use mathlib.Core.List.{[], _∷_}
 use mathlib.Core.Path.{_≡_}
@@ -8,8 +7,9 @@ use Rattle.numbers.specs.Refusal.{accepted}
 use Rattle.decision.specs.Choices.{decidedOver}
 use Rattle.selector.specs.State.{ticked}
 use Rattle.selector.specs.Answer.{selectedNumber, switchNumber, switchInput, answerOf, outgoingCodes}
-use Rattle.events.specs.Sequence.{Given, Sequence, stateAfter, numberAfter, choicesOf}
-use Rattle.events.specs.Demand1.{NoneApplies, FirstApplies, rowsBefore, rowsAfter}
+use Rattle.events.specs.Sequence.{Given, Sequence, stateAfter, numberAfter}
+use Rattle.events.specs.Past.{choicesOf}
+use Rattle.events.specs.Demand1.{NoneApplies, Smallest, rowsBefore, rowsAfter}
 use Rattle.events.specs.Demand3.{Demand3}
 use Rattle.card.specs.declared.Card.{Card}
 use Rattle.card.specs.declared.CardAnswer.{CardAnswer}
@@ -19,7 +19,8 @@ use Rattle.card.specs.Card.{freshCard, stepCard, cardCodes}
 -- a card after a call, by value or in place
 abbrev pub called : Card → Given → Card
 called card given =
-    stepCard card (given .event .kind) (given .event .time) (given .event .input) (given .event .argument) (given .frame)
+    let event = given .event in
+    stepCard card (event .kind) (event .time) (event .input) (event .argument) (given .frame)
 
 -- what C holds after the calls, the latest first
 unfoldable pub cardAfter : Sequence → Card
@@ -57,12 +58,12 @@ pub record CardRight (sequence : Sequence) : Type 0 where
 -- demand 1 of what C holds: what one more call leaves where the table refuses it
 pub record Demand1Card (sequence : Sequence) (given : Given) : Type 0 where
   -- "Numbers 1 to 13 leave the state, its time included"
-  pub before : (number : ℕ) → FirstApplies number (rowsBefore (stateAfter sequence) (given .event) (given .frame))
+  pub before : (number : ℕ) → Smallest number (rowsBefore (stateAfter sequence) (given .event) (given .frame))
       → cardAfter (given ∷ sequence)
       ≡ withAnswer (cardAfter sequence) (flatAnswer (answerOf number (stateAfter sequence)))
   -- "14 to 17 are judged after the tick and leave what a tick at that time leaves"
   pub after : (number : ℕ) → NoneApplies (rowsBefore (stateAfter sequence) (given .event) (given .frame))
-      → FirstApplies number (rowsAfter (stateAfter sequence) (given .event))
+      → Smallest number (rowsAfter (stateAfter sequence) (given .event))
       → cardAfter (given ∷ sequence) ≡ cardOf number (ticked (stateAfter sequence) (given .event .time))
 
 -- demand 3 of what C holds, and of what C reads in it

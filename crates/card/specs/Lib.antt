@@ -1,5 +1,5 @@
--- `Flat`: a selector as numbers, and back. `Card`: what each exported function answers and leaves. `Calls`: what C holds
--- after calls in a row. `Ports`: what is written for a port.
+-- `Flat`: a selector as numbers, and back. `Card`: what each exported function answers and leaves. `Calls`: what C
+-- holds after calls in a row. `Ports`: what is written for a port.
 pub mod Flat
 pub mod Card
 pub mod Calls

@@ -2,7 +2,7 @@
 -- Assumes nothing.
 use Prim.Native.Nat.{ℕ, zero, suc, _≤_}
 use mathlib.Core.Bool.{Bool, true, false, not, _&&_, _||_, cond}
-use mathlib.Core.List.{List, [], _∷_}
+use mathlib.Core.List.{List}
 use mathlib.Core.Path.{_≡_}
 use lib.Dec.{leb, ltb, eqb}
 use lib.ListN.{getD}
@@ -38,8 +38,8 @@ candidateOf passed priority locked mode =
 unfoldable pub isEligible : Candidate → Bool
 isEligible candidate = candidate .admitted && candidate .usable
 
--- "priority not 0, not locked, passed quality not 7, and with quality mode on passed quality 1 to 4", said of one input;
--- `eligible-exact`: `isEligible (candidateOf ..)` exactly where it holds
+-- "priority not 0, not locked, passed quality not 7, and with quality mode on passed quality 1 to 4", said of one
+-- input; `eligible-exact`: `isEligible (candidateOf ..)` exactly where it holds
 pub record Eligible (passed : Quality) (priority : Priority) (locked mode : Bool) : Type 0 where
   pub notOff : priority .0 ≡ 0 → ⊥
   pub notLocked : locked ≡ false
@@ -71,7 +71,8 @@ isLower found candidate quality = cond (isEligible candidate && ltb (candidate .
 -- "an eligible input has lower passed quality (mode on)", among the first `count`
 unfoldable pub lowerAmong : List Candidate → Quality → ℕ → Bool
 lowerAmong candidates quality zero = false
-lowerAmong candidates quality (suc count) = isLower (lowerAmong candidates quality count) (getD candidates count nobody) quality
+lowerAmong candidates quality (suc count) =
+    isLower (lowerAmong candidates quality count) (getD candidates count nobody) quality
 
 -- the same among all sixteen
 abbrev pub anyLower : List Candidate → Quality → Bool

@@ -1,10 +1,9 @@
--- Document 01, "Choosing", and demand 3: what a choice has to be, over any eligibility and any ranking; and the choice computed.
--- Assumes nothing.
+-- Document 01, "Choosing", and demand 3: what a choice has to be, over any eligibility and any ranking; and the choice
+-- computed. Assumes nothing.
 use Prim.Native.Nat.{ℕ, zero, suc, _≤_, _<_}
 use mathlib.Core.Bool.{Bool, true, false, _&&_, cond}
 use mathlib.Core.Path.{_≡_}
 use lib.Dec.{ltb}
-use Rattle.numbers.specs.declared.InputNumber.{InputNumber}
 use Rattle.numbers.specs.Inputs.{inputCount}
 use Rattle.choice.specs.declared.Selection.{Selection}
 use Rattle.choice.specs.declared.Selection.the-variants.{Nothing, At}
@@ -19,8 +18,8 @@ pub record Ranking (better : ℕ → ℕ → Bool) : Type 0 where
   pub transitive : (a b c : ℕ) → better a b ≡ true → better b c ≡ true → better a c ≡ true
   pub negatively-transitive : (a b c : ℕ) → better a b ≡ false → better b c ≡ false → better a c ≡ false
 
--- the input that is chosen: eligible, none eligible is better; "Full equals: keep the one selected at the choice just before,
--- otherwise lowest input number"
+-- the input that is chosen: eligible, none eligible is better; "Full equals: keep the one selected at the choice just
+-- before, otherwise lowest input number"
 pub record Best (eligible : ℕ → Bool) (better : ℕ → ℕ → Bool) (before : Selection) (chosen : ℕ) : Type 0 where
   pub inside : chosen < inputCount
   pub isEligible : eligible chosen ≡ true
@@ -43,7 +42,8 @@ seeded eligible (At earlier) = cond (ltb (earlier .0) inputCount && eligible (ea
 -- an input is offered: a strictly better one takes over
 unfoldable pub offered : (ℕ → Bool) → (ℕ → ℕ → Bool) → ℕ → Selection → Selection
 offered eligible better number Nothing = cond (eligible number) (selected number) Nothing
-offered eligible better number (At leading) = cond (eligible number && better number (leading .0)) (selected number) (At leading)
+offered eligible better number (At leading) =
+    cond (eligible number && better number (leading .0)) (selected number) (At leading)
 
 -- the first `count` inputs are offered, one by one
 unfoldable pub scanned : (ℕ → Bool) → (ℕ → ℕ → Bool) → ℕ → Selection → Selection

@@ -1,7 +1,7 @@
 // Which of the sixteen inputs is chosen: document 01, "Choosing".
 //
-// A candidate is what a choice looks at of one input. Nothing here knows inputs, time or a switch, and no public
-// function has a `requires`.
+// A candidate is what a choice looks at of one input. Nothing here knows inputs, time or a switch,
+// and no public function has a `requires`.
 use numbers::INPUT_COUNT;
 use numbers::InputNumber;
 use numbers::NOT_TOLD;
@@ -15,8 +15,8 @@ ghost use lib.ListN.{getD};
 ghost use Rattle.choice.specs.Candidate.{nobody, isUsable, isAdmitted, rankedQuality, candidateOf, isEligible, isBetter, eligibleAmong, betterAmong, isLower, anyLower};
 ghost use Rattle.choice.specs.Choice.{seeded, offered, choose};
 
-// One input as a choice sees it: the quality by which it ranks (0 for all with quality mode off), its priority, whether
-// it is neither off nor locked, and whether its passed quality is usable.
+// One input as a choice sees it: the quality by which it ranks (0 for all with quality mode off),
+// its priority, whether it is neither off nor locked, and whether its passed quality is usable.
 pub struct Candidate {
     pub quality: Quality,
     pub priority: Priority,
@@ -175,7 +175,8 @@ fn seeded(candidates: [Candidate; 16], before: Selection) -> Selection
 
 // The one that leads once an input has been offered: a strictly better one takes over.
 fn offered(candidates: [Candidate; 16], number: InputNumber, leader: Selection) -> Selection
-    ensures { λ answer. ⌜ answer ≡ offered (eligibleAmong candidates) (betterAmong candidates) (number .0) leader ⌝ }
+    ensures { λ answer. ⌜
+        answer ≡ offered (eligibleAmong candidates) (betterAmong candidates) (number .0) leader ⌝ }
 {
     let candidate = candidate_at(candidates, number);
     if candidate.is_eligible() {
@@ -194,9 +195,11 @@ fn offered(candidates: [Candidate; 16], number: InputNumber, leader: Selection) 
     }
 }
 
-// The choice: the best of the eligible inputs; of full equals the one selected just before, otherwise the lowest number.
+// The choice: the best of the eligible inputs; of full equals the one selected just before,
+// otherwise the lowest number.
 pub fn choose(candidates: [Candidate; 16], before: Selection) -> Selection
-    ensures { λ answer. ⌜ answer ≡ choose (eligibleAmong candidates) (betterAmong candidates) before ⌝ }
+    ensures { λ answer. ⌜
+        answer ≡ choose (eligibleAmong candidates) (betterAmong candidates) before ⌝ }
 {
     let mut leader = seeded(candidates, before);
     let mut number: u8 = 0;

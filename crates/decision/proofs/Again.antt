@@ -1,9 +1,8 @@
 -- Deciding again, by the same candidates and with no command, changes nothing.
 -- Assumes nothing.
-use Prim.Native.Nat.{ℕ}
 use mathlib.Core.Bool.{Bool, true, false, cond}
 use mathlib.Core.List.{List, _∷_}
-use mathlib.Core.Path.{_≡_, refl, sym, _∙_, ap}
+use mathlib.Core.Path.{_≡_, refl, _∙_}
 use mathlib.Core.Logic.{⊎-elim}
 use native.Mathlib.Omega.{arith}
 use Rattle.numbers.specs.Kind.{kindTick}
@@ -14,7 +13,6 @@ use Rattle.choice.proofs.Choosing.{choose-again}
 use Rattle.choice.proofs.Ranks.{isBetter-ranking}
 use Rattle.decision.specs.declared.Switch.{Switch}
 use Rattle.decision.specs.declared.Switch.the-variants as W
-use Rattle.decision.specs.declared.Decision.{Decision}
 use Rattle.decision.specs.Decision.{judged, selectedBy, isClockLocked, isHeld, decide}
 use Rattle.decision.specs.Choices.{ChoiceMoment, Choices, Commands, commanded, decidedOver}
 use Rattle.decision.proofs.Standing.{stands, judged-stands, commanded-other}

@@ -1,11 +1,10 @@
 -- The definitions of `specs/Decision`, a law for each way through the function that meets it. Assumes nothing.
 use Prim.Native.Nat.{ℕ}
-use mathlib.Core.Bool.{Bool, true, false, not, _&&_, cond}
+use mathlib.Core.Bool.{Bool, true, false}
 use mathlib.Core.List.{List}
-use mathlib.Core.Path.{_≡_, refl, sym, _∙_, ap}
+use mathlib.Core.Path.{_≡_, sym, _∙_, ap}
 use lib.ListN.{getD}
 use Rattle.numbers.specs.declared.InputNumber.{InputNumber}
-use Rattle.numbers.specs.declared.Quality.{Quality}
 use Rattle.choice.specs.declared.Candidate.{Candidate}
 use Rattle.choice.specs.declared.Selection.{Selection}
 use Rattle.choice.specs.declared.Selection.the-variants as S
@@ -27,12 +26,14 @@ module _ (candidates : List Candidate) (on : ℕ) (candidate : Candidate) (able 
   unfolding manualMayStand
   manualMayStand-barred c e f = rw (← c, ← e, f)
 
-  pub manualMayStand-beaten : (lower : Bool) → candidate ≡ getD candidates on nobody → able ≡ isEligible candidate → able ≡ true
+  pub manualMayStand-beaten : (lower : Bool) → candidate ≡ getD candidates on nobody → able ≡ isEligible candidate
+      → able ≡ true
       → lower ≡ anyLower candidates (candidate .quality) → lower ≡ true → false ≡ manualMayStand candidates on
   unfolding manualMayStand
   manualMayStand-beaten lower c e f l t = rw (← c, ← e, f, ← l, t)
 
-  pub manualMayStand-best : (lower : Bool) → candidate ≡ getD candidates on nobody → able ≡ isEligible candidate → able ≡ true
+  pub manualMayStand-best : (lower : Bool) → candidate ≡ getD candidates on nobody → able ≡ isEligible candidate
+      → able ≡ true
       → lower ≡ anyLower candidates (candidate .quality) → lower ≡ false → true ≡ manualMayStand candidates on
   unfolding manualMayStand
   manualMayStand-best lower c e f l t = rw (← c, ← e, f, ← l, t)
@@ -58,12 +59,14 @@ module _ (candidates : List Candidate) (switch : Switch) where
   judged-forced-barred on candidate s c a =
       let k : getD candidates (on .0) nobody .admitted ≡ false = sym (ap (λ (x : Candidate). x .admitted) c) ∙ a in rw (s, k)
 
-  pub judged-manual : (on : InputNumber) (stands : Bool) → switch ≡ W.Manual on → stands ≡ manualMayStand candidates (on .0)
+  pub judged-manual : (on : InputNumber) (stands : Bool) → switch ≡ W.Manual on
+      → stands ≡ manualMayStand candidates (on .0)
       → stands ≡ true → W.Manual on ≡ judged candidates switch
   unfolding judged
   judged-manual on stands s c a = rw (s, ← c, a)
 
-  pub judged-manual-falls : (on : InputNumber) (stands : Bool) → switch ≡ W.Manual on → stands ≡ manualMayStand candidates (on .0)
+  pub judged-manual-falls : (on : InputNumber) (stands : Bool) → switch ≡ W.Manual on
+      → stands ≡ manualMayStand candidates (on .0)
       → stands ≡ false → W.Nothing ≡ judged candidates switch
   unfolding judged
   judged-manual-falls on stands s c a = rw (s, ← c, a)
@@ -74,7 +77,8 @@ pub ruleset judged-laws = (judged-nothing, judged-forced, judged-forced-barred, 
 
 module _ (candidates : List Candidate) (switch : Switch) (before : Selection) where
   pub selectedBy-choice : (chosen : Selection) → switch ≡ W.Nothing
-      → chosen ≡ choose (eligibleAmong candidates) (betterAmong candidates) before → chosen ≡ selectedBy candidates switch before
+      → chosen ≡ choose (eligibleAmong candidates) (betterAmong candidates) before
+      → chosen ≡ selectedBy candidates switch before
   unfolding selectedBy
   selectedBy-choice chosen s c = c ∙ (rw s)
 
@@ -116,7 +120,8 @@ pub ruleset isHeld-laws = (isHeld-now, isHeld-before)
 
 pub decide-made : (candidates : List Candidate) (switch : Switch) (before : Selection) (held : Bool) (standing : Switch)
     (selection : Selection) (locked ever : Bool) → standing ≡ judged candidates switch
-    → selection ≡ selectedBy candidates standing before → locked ≡ isClockLocked candidates selection → ever ≡ isHeld held locked
+    → selection ≡ selectedBy candidates standing before → locked ≡ isClockLocked candidates selection
+    → ever ≡ isHeld held locked
     → decision standing selection ever ≡ decide candidates switch before held
 unfolding decide
 decide-made candidates switch before held standing selection locked ever s l k e = rw (e, k, l, s)

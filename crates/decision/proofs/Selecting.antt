@@ -1,25 +1,27 @@
 -- What is selected after any sequence of choices is what document 01 asks for, "Choosing": the switch's own input, or,
 -- with no switch, the right choice; and a manual switch overrides priority only.
 -- Assumes nothing.
-use Prim.Native.Nat.{ℕ, _≤_, _<_}
-use mathlib.Core.Bool.{Bool, true, false, not, _&&_}
-use mathlib.Core.List.{List, _∷_}
-use mathlib.Core.Path.{_≡_, refl, sym}
+use Prim.Native.Nat.{ℕ, zero, suc, _≤_, _<_}
+use mathlib.Core.Bool.{Bool, true, false, not, cond, false≢true}
+use mathlib.Core.List.{List, [], _∷_}
+use mathlib.Core.Path.{_≡_, refl, sym, _∙_, subst}
+use native.Mathlib.Omega.{arith}
 use lib.ListN.{getD}
 use borrow.Author.Tests.{not-true}
 use Rattle.numbers.specs.Inputs.{inputCount}
 use Rattle.choice.specs.declared.Candidate.{Candidate}
 use Rattle.choice.specs.declared.Selection.{Selection}
-use Rattle.choice.specs.Candidate.{nobody, eligibleAmong, betterAmong, anyLower}
+use Rattle.choice.specs.declared.Selection.the-variants.{Nothing, At}
+use Rattle.choice.specs.Candidate.{nobody, isEligible, eligibleAmong, betterAmong, anyLower}
 use Rattle.choice.specs.Choice.{Chosen, selected}
-use Rattle.choice.proofs.Choosing.{both-first, both-second, choose-chosen}
+use Rattle.choice.proofs.Choosing.{both-first, both-second, choose-chosen, selected-injective, nothing-selected}
 use Rattle.choice.proofs.Ranks.{isBetter-ranking, lower-none}
 use Rattle.decision.specs.declared.Switch.{Switch}
 use Rattle.decision.specs.declared.Switch.the-variants as W
-use Rattle.decision.specs.Decision.{manualMayStand, judged, selectedBy, decide}
-use Rattle.decision.specs.Choices.{ChoiceMoment, Choices, commanded, decidedOver, SelectionRight}
+use Rattle.decision.specs.Decision.{forcedMayStand, manualMayStand, judged, selectedBy, isClockLocked, isHeld, decide}
+use Rattle.decision.specs.Choices.{ChoiceMoment, Choices, commanded, decidedOver, choicesAgo, Passes, SelectionRight, LatestRight, Locked, HeldRight}
 use Rattle.decision.proofs.Laws.{selectedBy-forced, selectedBy-manual}
-use Rattle.decision.proofs.Standing.{manualOn, manual-passes}
+use Rattle.decision.proofs.Standing.{manual-passes, switch-right}
 
 -- ---- manualMayStand
 
@@ -39,6 +41,13 @@ module _ (candidates : List Candidate) (on : ℕ) where
       let lower : Bool = anyLower candidates (getD candidates on nobody .quality) in
       lower-none candidates (getD candidates on nobody .quality)
       (not-true lower (both-second (eligibleAmong candidates on) (not lower) x))
+
+-- an eligible input is neither off nor locked
+pub eligible-admitted : (candidates : List Candidate) (on : ℕ) → eligibleAmong candidates on ≡ true
+    → forcedMayStand candidates on ≡ true
+unfolding isEligible
+eligible-admitted candidates on x =
+    both-first (getD candidates on nobody .admitted) (getD candidates on nobody .usable) x
 
 -- ---- selectedBy
 
@@ -81,3 +90,69 @@ module _ (choice : ChoiceMoment) (earlier : Choices) where
   selection-lower on x =
       manualMayStand-lower (choice .candidates) on
       (manual-passes (choice .candidates) (commanded (choice .kind) (choice .on) (decidedOver earlier .switch)) on x)
+
+-- every choice is right
+pub latest-right : (choices : Choices) → LatestRight choices
+unfolding decidedOver
+latest-right [] = refl
+latest-right (choice ∷ earlier) = selection-right choice earlier
+
+-- what is selected is neither off nor locked
+pub selected-admitted : (choices : Choices) (number : ℕ) → decidedOver choices .selection ≡ selected number
+    → Passes forcedMayStand number choices
+unfolding decidedOver choicesAgo
+selected-admitted [] number x = absurd (nothing-selected number x)
+selected-admitted (choice ∷ earlier) number x = go (decidedOver (choice ∷ earlier) .switch) refl
+  where
+    chosen : (selection : Selection) → selection ≡ selected number
+        → Chosen (eligibleAmong (choice .candidates)) (betterAmong (choice .candidates)) (decidedOver earlier .selection) selection
+        → forcedMayStand (choice .candidates) number ≡ true
+    chosen Nothing y best = absurd (nothing-selected number y)
+    chosen (At other) y best =
+        subst (λ (on : ℕ). forcedMayStand (choice .candidates) on ≡ true) (selected-injective (other .0) number y)
+        (eligible-admitted (choice .candidates) (other .0) (best .isEligible))
+
+    go : (switch : Switch) → decidedOver (choice ∷ earlier) .switch ≡ switch
+        → forcedMayStand (choice .candidates) number ≡ true
+    go W.Nothing y =
+        chosen (decidedOver (choice ∷ earlier) .selection) x (selection-right choice earlier .free y)
+    go (W.Forced on) y =
+        subst (λ (other : ℕ). forcedMayStand (choice .candidates) other ≡ true)
+        (selected-injective (on .0) number (sym (selection-right choice earlier .forced (on .0) y) ∙ x))
+        (switch-right (choice ∷ earlier) .forced (on .0) y .unbroken 0 (omega arith))
+    go (W.Manual on) y =
+        subst (λ (other : ℕ). forcedMayStand (choice .candidates) other ≡ true)
+        (selected-injective (on .0) number (sym (selection-right choice earlier .manual (on .0) y .0) ∙ x))
+        (eligible-admitted (choice .candidates) (on .0) (selection-right choice earlier .manual (on .0) y .1))
+
+-- ---- held
+
+held-some : (choices : Choices) → decidedOver choices .held ≡ true → (back : ℕ) × Locked (choicesAgo back choices)
+unfolding decidedOver choicesAgo decide isHeld
+held-some [] x = absurd (false≢true x)
+held-some (choice ∷ earlier) x =
+    go (isClockLocked (choice .candidates) (decidedOver (choice ∷ earlier) .selection)) refl x (λ z. held-some earlier z)
+  where
+    go : (locked : Bool) → isClockLocked (choice .candidates) (decidedOver (choice ∷ earlier) .selection) ≡ locked
+        → cond locked true (decidedOver earlier .held) ≡ true
+        → (decidedOver earlier .held ≡ true → (back : ℕ) × Locked (choicesAgo back earlier))
+        → (back : ℕ) × Locked (choicesAgo back (choice ∷ earlier))
+    go true y z before = (0, y)
+    go false y z before = (suc (before z .0), before z .1)
+
+either-true : (locked : Bool) → cond locked true true ≡ true
+either-true true = refl
+either-true false = refl
+
+held-any : (choices : Choices) (back : ℕ) → Locked (choicesAgo back choices) → decidedOver choices .held ≡ true
+unfolding decidedOver choicesAgo decide isHeld
+held-any [] zero x = absurd x
+held-any [] (suc back) x = absurd x
+held-any (choice ∷ earlier) zero x = rw x
+held-any (choice ∷ earlier) (suc back) x =
+    rw (held-any earlier back x)
+    (either-true (isClockLocked (choice .candidates) (decidedOver (choice ∷ earlier) .selection)))
+
+-- the clock has been locked exactly if it was locked after some choice
+pub held-right : (choices : Choices) → HeldRight choices
+held-right choices = record { some = held-some choices; any = held-any choices }

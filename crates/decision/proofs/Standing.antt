@@ -15,7 +15,7 @@ use Rattle.choice.specs.declared.Candidate.{Candidate}
 use Rattle.decision.specs.declared.Switch.{Switch}
 use Rattle.decision.specs.declared.Switch.the-variants as W
 use Rattle.decision.specs.Decision.{forcedMayStand, manualMayStand, judged, decide}
-use Rattle.decision.specs.Choices.{ChoiceMoment, Choices, commanded, decidedOver, choicesAgo, FollowsOn, Commands, Passes, Stands, StandsForced, StandsManual, SwitchRight}
+use Rattle.decision.specs.Choices.{Choices, commanded, decidedOver, choicesAgo, FollowsOn, Commands, Passes, Stands, StandsForced, StandsManual, SwitchRight}
 
 -- the switches on an input
 abbrev pub forcedOn : ℕ → Switch

@@ -1,27 +1,23 @@
--- Document 01, "Choosing", over any sequence of choices: which switch stands and what is selected, as statements, and computed.
--- The statements keep no state; `decidedOver` computes.
--- Assumes nothing.
+-- Document 01, "Choosing", over any sequence of choices: which switch stands and what is selected, as statements, and
+-- computed. The statements keep no state; `decidedOver` computes. Assumes nothing.
 use Prim.Native.Nat.{ℕ, zero, suc, _≤_, _<_}
 use mathlib.Core.Bool.{Bool, true, false, cond}
 use mathlib.Core.List.{List, [], _∷_}
 use mathlib.Core.Path.{_≡_}
 use mathlib.Core.Logic.{_⊎_}
 use lib.Dec.{eqb}
-use lib.ListN.{getD}
-use Rattle.numbers.specs.declared.InputNumber.{InputNumber}
 use Rattle.numbers.specs.Kind.{kindForced, kindManual, kindClearSwitch}
 use Rattle.choice.specs.declared.Candidate.{Candidate}
-use Rattle.choice.specs.declared.Selection.{Selection}
 use Rattle.choice.specs.declared.Selection.the-variants as S
-use Rattle.choice.specs.Candidate.{nobody, eligibleAmong, betterAmong, anyLower}
+use Rattle.choice.specs.Candidate.{eligibleAmong, betterAmong}
 use Rattle.choice.specs.Choice.{Chosen, selected}
 use Rattle.decision.specs.declared.Switch.{Switch}
 use Rattle.decision.specs.declared.Switch.the-variants as W
 use Rattle.decision.specs.declared.Decision.{Decision}
-use Rattle.decision.specs.Decision.{forcedMayStand, manualMayStand, judged, selectedBy, isClockLocked, decide}
+use Rattle.decision.specs.Decision.{forcedMayStand, manualMayStand, isClockLocked, decide}
 
--- one choice: the sixteen inputs as they are then, and the kind and input of the event that the choice follows; a tick's kind where it
--- follows the tick
+-- one choice: the sixteen inputs as they are then, and the kind and input of the event that the choice follows; a
+-- tick's kind where it follows the tick
 pub record ChoiceMoment : Type 0 where
   pub candidates : List Candidate
   pub kind : ℕ
@@ -44,7 +40,10 @@ unfoldable pub decidedOver : Choices → Decision
 decidedOver [] = record { switch = W.Nothing; selection = S.Nothing; held = false }
 decidedOver (choice ∷ earlier) =
     let before = decidedOver earlier in
-    decide (choice .candidates) (commanded (choice .kind) (choice .on) (before .switch)) (before .selection) (before .held)
+    decide (choice .candidates)
+    (commanded (choice .kind) (choice .on) (before .switch))
+    (before .selection)
+    (before .held)
 
 -- the choice that was made `count` choices ago, with those before it
 unfoldable pub choicesAgo : ℕ → Choices → Choices
@@ -71,19 +70,21 @@ abbrev pub Passes : (List Candidate → ℕ → Bool) → ℕ → Choices → Ty
 Passes test on [] = ⊥
 Passes test on (choice ∷ earlier) = test (choice .candidates) on ≡ true
 
--- a switch of a kind stands on an input: some choice follows its command; no later one follows a command to the switch; and its
--- input has passed the switch's test at that choice and at every later one
+-- a switch of a kind stands on an input: some choice follows its command; no later one follows a command to the switch;
+-- and its input has passed the switch's test at that choice and at every later one
 pub record Stands (kind : ℕ) (test : List Candidate → ℕ → Bool) (on : ℕ) (choices : Choices) : Type 0 where
   pub count : ℕ
   pub given : FollowsOn kind on (choicesAgo count choices)
   pub unreplaced : (back : ℕ) → back < count → Commands (choicesAgo back choices) → ⊥
   pub unbroken : (back : ℕ) → back ≤ count → Passes test on (choicesAgo back choices)
 
--- "stands until cleared, replaced by another forced switch, or its input is off or locked"
+-- "stands until cleared, replaced by another forced switch, or its input is off or locked"; a manual one is refused
+-- while it stands
 abbrev pub StandsForced : ℕ → Choices → Type 0
 StandsForced on choices = Stands kindForced forcedMayStand on choices
 
--- "stands while its input is eligible and, mode on, no eligible input has lower passed quality; a newer manual replaces it"
+-- "stands while its input is eligible and, mode on, no eligible input has lower passed quality; a newer manual replaces
+-- it"
 abbrev pub StandsManual : ℕ → Choices → Type 0
 StandsManual on choices = Stands kindManual manualMayStand on choices
 
@@ -103,3 +104,18 @@ pub record SelectionRight (choice : ChoiceMoment) (earlier : Choices) : Type 0 w
       → decidedOver (choice ∷ earlier) .selection ≡ selected on
   pub manual : (on : ℕ) → decidedOver (choice ∷ earlier) .switch ≡ W.Manual (record { 0 = on })
       → (decidedOver (choice ∷ earlier) .selection ≡ selected on) × (eligibleAmong (choice .candidates) on ≡ true)
+
+-- the latest choice is right; before any choice nothing is selected
+abbrev pub LatestRight : Choices → Type 0
+LatestRight [] = decidedOver [] .selection ≡ S.Nothing
+LatestRight (choice ∷ earlier) = SelectionRight choice earlier
+
+-- the clock is locked after the latest choice
+abbrev pub Locked : Choices → Type 0
+Locked [] = ⊥
+Locked (choice ∷ earlier) = isClockLocked (choice .candidates) (decidedOver (choice ∷ earlier) .selection) ≡ true
+
+-- "if it was locked after any earlier choice"
+pub record HeldRight (choices : Choices) : Type 0 where
+  pub some : decidedOver choices .held ≡ true → (back : ℕ) × Locked (choicesAgo back choices)
+  pub any : (back : ℕ) → Locked (choicesAgo back choices) → decidedOver choices .held ≡ true

@@ -19,7 +19,8 @@ forcedMayStand candidates on = getD candidates on nobody .admitted
 
 -- "its input is eligible and, mode on, no eligible input has lower passed quality"
 unfoldable pub manualMayStand : List Candidate → ℕ → Bool
-manualMayStand candidates on = eligibleAmong candidates on && not (anyLower candidates (getD candidates on nobody .quality))
+manualMayStand candidates on =
+    eligibleAmong candidates on && not (anyLower candidates (getD candidates on nobody .quality))
 
 -- the switch judged
 unfoldable pub judged : List Candidate → Switch → Switch

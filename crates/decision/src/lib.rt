@@ -17,14 +17,16 @@ pub enum Switch {
     Manual(InputNumber),
 }
 
-// What a choice leaves: the switch that stands, what is selected, and whether the clock has ever been locked.
+// What a choice leaves: the switch that stands, what is selected, and whether the clock has ever
+// been locked.
 pub struct Decision {
     pub switch: Switch,
     pub selection: Selection,
     pub held: bool,
 }
 
-// Whether a manual switch may stand on an input: it is eligible and, mode on, no eligible input has lower passed quality.
+// Whether a manual switch may stand on an input: it is eligible and, mode on, no eligible input has
+// lower passed quality.
 pub fn manual_may_stand(candidates: [Candidate; 16], on: InputNumber) -> bool
     ensures { λ answer. ⌜ answer ≡ manualMayStand candidates (on .0) ⌝ }
 {

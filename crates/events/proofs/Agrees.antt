@@ -1,41 +1,39 @@
 -- After any sequence of events the state is what the recorded events and the choices made say. Assumes nothing.
-use Prim.Native.Nat.{ℕ, zero, suc, _+_, _≤_, _<_}
-use mathlib.Core.Bool.{Bool, true, false, not, _&&_, _||_, cond, and-false, true≢false, false≢true}
+use Prim.Native.Nat.{ℕ, _≤_, _<_}
+use mathlib.Core.Bool.{Bool, true, false, and-false}
 use mathlib.Core.List.{List, [], _∷_, map}
 use mathlib.Core.Path.{_≡_, refl, sym, _∙_, ap, subst, fun-ext}
 use native.Mathlib.Omega.{arith}
-use lib.Dec.{eqb, leb}
-use lib.ListN.{getD, set}
-use borrow.Author.Tests.{eqb-true, eqb-false, eq-eqb, ne-eqb, le-leb, lt-leb}
+use lib.Dec.{eqb, ltb}
+use lib.ListN.{getD}
+use borrow.Author.Tests.{eqb-true, eqb-false, eq-eqb, ne-eqb, ltb-true, ltb-false}
 use Rattle.numbers.specs.declared.Event.{Event}
-use Rattle.numbers.specs.declared.Priority.{Priority}
-use Rattle.numbers.specs.declared.Quality.{Quality}
-use Rattle.numbers.specs.Kind.{kindTick, kindQualityMode, kindClearWait}
-use Rattle.numbers.specs.Refusal.{accepted, frameTlv}
+use Rattle.numbers.specs.Inputs.{inputCount}
+use Rattle.numbers.specs.Kind.{kindTick, kindQualityMode}
+use Rattle.numbers.specs.Refusal.{accepted}
+use Rattle.frame.specs.declared.FrameRead.{FrameRead}
 use Rattle.frame.specs.Read.{readFrame}
 use Rattle.run.proofs.Laws.{byBool}
 use Rattle.input.specs.declared.Input.{Input}
 use Rattle.input.specs.declared.Settings.{Settings}
-use Rattle.input.specs.Recorded.{History, tickEvent, isOn, lastArgument, modeOn, priorityOf, isLockedOut, timeOf, passedAt, Ordered}
+use Rattle.input.specs.Recorded.{History, tickEvent, isOn, lastArgument, modeOn, isEthernet, timeOf, passedAt, Ordered}
 use Rattle.input.specs.Record.{freshInput, heardAfter, settingsAfter, settle, tick, afterEvent, passedOf, takes, recordAfter}
 use Rattle.input.proofs.Recalled.{settingsBy, settings-recalled}
 use Rattle.input.proofs.Demand2.{passed-tick, passed-now, takes-other, takes-tick, demand-2-tick-adds-nothing}
 use Rattle.choice.specs.declared.Candidate.{Candidate}
-use Rattle.choice.specs.Candidate.{candidateOf}
-use Rattle.decision.specs.declared.Decision.{Decision}
 use Rattle.decision.specs.declared.Switch.{Switch}
-use Rattle.decision.specs.Decision.{decide}
 use Rattle.decision.specs.Choices.{ChoiceMoment, Choices, commanded, decidedOver}
 use Rattle.selector.specs.declared.Selector.{Selector}
-use Rattle.selector.specs.State.{freshSelector, candidateFor, candidatesOf, withDecision, decided, broughtTo, ticked}
+use Rattle.selector.specs.State.{candidateFor, candidatesOf, withDecision, decided, broughtTo, ticked}
 use Rattle.selector.specs.Answer.{ports}
 use Rattle.selector.proofs.Ports.{butAt, set-ports, getD-ports}
 use Rattle.events.specs.declared.Stepped.{Stepped}
 use Rattle.events.specs.Refusals.{earlyRefusal, lateRefusal, ethernetAt}
-use Rattle.events.specs.Step.{heldArgument, inputAfter, inputsAfter, modeAfter, recordedArgument, recordedEvent, placed, stepped, earlyNumber, lateNumber, stepRead, step}
-use Rattle.events.specs.Sequence.{Given, Sequence, stateAfter, numberAfter, byNumber, asRecorded, recorded, candidateBy, candidatesBy, tickChoice, eventChoice, choicesOf}
+use Rattle.events.specs.Step.{heldArgument, inputAfter, inputsAfter, modeAfter, recordedEvent, placed, stepped, earlyNumber, lateNumber, stepRead, step}
+use Rattle.events.specs.Sequence.{Given, Sequence, stateAfter, numberAfter}
+use Rattle.events.specs.Past.{Past, asRecorded, candidateBy, candidatesBy, tickChoice, eventChoice, earlyBy, lateBy, numberBy, withTick, withEvent, pastOf, recorded, choicesOf}
 use Rattle.events.specs.Demand3.{MadeAt}
-use Rattle.events.proofs.Refused.{early-most, late-above, accepted-time, accepted-input, accepted-mode, accepted-argument}
+use Rattle.events.proofs.Refused.{earlyRefusal-outside, accepted-time, accepted-input, accepted-mode, accepted-argument}
 
 -- ---- the records of sixteen inputs
 
@@ -58,8 +56,10 @@ unfolding tick
 tick-settings input time mode = refl
 
 -- what a choice looks at, of a record whose passed quality and settings are those of the recorded events
-pub candidate-recorded : (number time : ℕ) (history : History) (input : Input) → passedOf input ≡ passedAt number history time
-    → input .settings ≡ settingsBy number history → candidateFor (modeOn history) input ≡ candidateBy history time number
+pub candidate-recorded : (number time : ℕ) (history : History) (input : Input)
+    → passedOf input ≡ passedAt number history time
+    → input .settings ≡ settingsBy number history
+    → candidateFor (modeOn history) input ≡ candidateBy history time number
 unfolding candidateFor candidateBy settingsBy
 candidate-recorded number time history input passed settings =
     rw (passed, settings) refl
@@ -101,12 +101,14 @@ takes-mode number event mode input e =
     byBool (eqb (event .input) number) (λ k. rw (k, e)) (λ k. rw k)
 
 -- an event that does not set the mode leaves it
-mode-kept : (event : Event) (history : History) → eqb (event .kind) kindQualityMode ≡ false → modeOn (event ∷ history) ≡ modeOn history
+mode-kept : (event : Event) (history : History) → eqb (event .kind) kindQualityMode ≡ false
+    → modeOn (event ∷ history) ≡ modeOn history
 unfolding lastArgument isOn
 mode-kept event history e = rw (e, and-false)
 
 -- the event's own input takes it
-takes-own : (event : Event) (history : History) → event .input < 16 → heldArgument (event .kind) (event .argument) ≡ event .argument
+takes-own : (event : Event) (history : History) → event .input < 16
+    → heldArgument (event .kind) (event .argument) ≡ event .argument
     → afterEvent (getD (recordsAt history (event .time)) (event .input) freshInput) (event .kind)
     (heldArgument (event .kind) (event .argument))
     (event .time)
@@ -124,8 +126,10 @@ takes-own event history inside whole =
     (getD-ports (λ (number : ℕ). tick (recordAfter number history) (event .time) (modeOn history)) freshInput (event .input) inside))
 
 -- all inputs after an event are the records of the recorded events
-pub inputs-after : (event : Event) (history : History) → Ordered history → timeOf history ≤ event .time → event .input < 16
-    → (event .kind ≡ kindQualityMode → event .input ≡ 0) → heldArgument (event .kind) (event .argument) ≡ event .argument
+pub inputs-after : (event : Event) (history : History) → Ordered history → timeOf history ≤ event .time
+    → event .input < 16
+    → (event .kind ≡ kindQualityMode → event .input ≡ 0)
+    → heldArgument (event .kind) (event .argument) ≡ event .argument
     → inputsAfter (recordsAt history (event .time)) event (modeOn (event ∷ history)) ≡ records (event ∷ history)
 unfolding inputsAfter recordAfter inputAfter
 inputs-after event history ordered later inside zeroed whole =
@@ -195,7 +199,8 @@ pub record TickAgrees (state : Selector) (history : History) (time : ℕ) (choic
   pub held : state .held ≡ decidedOver (tickChoice history time ∷ choices) .held
 
 -- the inputs brought to a time are the records brought there
-brought-inputs : (inputs : List Input) (history : History) (time : ℕ) (mode : Bool) → inputs ≡ records history → mode ≡ modeOn history
+brought-inputs : (inputs : List Input) (history : History) (time : ℕ) (mode : Bool) → inputs ≡ records history
+    → mode ≡ modeOn history
     → map (λ (input : Input). tick input time mode) inputs ≡ recordsAt history time
 brought-inputs inputs history time mode i m = rw (i, m) refl
 
@@ -229,7 +234,8 @@ tick-agrees state history time choices agrees later =
       held = ap (λ (s : Selector). s .held) d;
     }
 
-candidate-tick : (history : History) (time number : ℕ) → passedAt number (tickEvent time ∷ history) time ≡ passedAt number history time
+candidate-tick : (history : History) (time number : ℕ)
+    → passedAt number (tickEvent time ∷ history) time ≡ passedAt number history time
     → candidateBy history time number ≡ candidateBy (tickEvent time ∷ history) time number
 unfolding candidateBy lastArgument isOn
 candidate-tick history time number same = rw (same, and-false)
@@ -244,8 +250,10 @@ candidates-tick history time ordered later =
     one number = candidate-tick history time number (demand-2-tick-adds-nothing number history time time ordered later (omega arith))
 
 -- a refusal 14 to 17 leaves what a tick leaves
-pub late-agrees : (state : Selector) (history : History) (time : ℕ) (choices : Choices) → Ordered history → timeOf history ≤ time
-    → TickAgrees state history time choices → Agrees state (tickEvent time ∷ history) (tickChoice history time ∷ choices)
+pub late-agrees : (state : Selector) (history : History) (time : ℕ) (choices : Choices) → Ordered history
+    → timeOf history ≤ time
+    → TickAgrees state history time choices
+    → Agrees state (tickEvent time ∷ history) (tickChoice history time ∷ choices)
 late-agrees state history time choices ordered later agrees =
     record {
       ordered = (later, ordered);
@@ -311,56 +319,95 @@ placed-agrees state history event choices ordered later inside zeroed whole agre
       made = refl;
     }
 
+-- ---- the numbers, by the recorded events
+
+-- the settings of an input are those of the recorded events
+pub settings-at : (inputs : List Input) (history : History) (number : ℕ) → inputs ≡ records history
+    → number < inputCount
+    → getD inputs number freshInput .settings ≡ settingsBy number history
+settings-at inputs history number i inside =
+    ap (λ (list : List Input). getD list number freshInput .settings) i ∙
+    ap (λ (input : Input). input .settings) (getD-ports (λ (other : ℕ). recordAfter other history) freshInput number inside) ∙
+    settings-recalled number history
+
+ethernet-at : (inputs : List Input) (history : History) (number : ℕ) → inputs ≡ records history → number < inputCount
+    → ethernetAt inputs number ≡ isEthernet number history
+unfolding settingsBy
+ethernet-at inputs history number i inside = ap (λ (settings : Settings). settings .ethernet) (settings-at inputs history number i inside)
+
+-- rows 2 to 13 give the number that they give by the recorded events
+early-recorded : (state : Selector) (history : History) (choices : Choices) → Agrees state history choices
+    → (event : Event) (read : FrameRead)
+    → earlyNumber state event read ≡ earlyRefusal (timeOf history) (isEthernet (event .input) history) event read
+early-recorded state history choices agrees event read =
+    ap (λ (time : ℕ). earlyRefusal time (ethernetAt (state .inputs) (event .input)) event read) (agrees .time) ∙
+    byBool (ltb (event .input) inputCount)
+    (λ e. ap (λ (ethernet : Bool). earlyRefusal (timeOf history) ethernet event read)
+    (ethernet-at (state .inputs) history (event .input) (agrees .inputs) (ltb-true (event .input) inputCount e)))
+    (λ e. earlyRefusal-outside (timeOf history) event read (ltb-false (event .input) inputCount e)
+    (ethernetAt (state .inputs) (event .input)) (isEthernet (event .input) history))
+
+-- rows 14 to 17 too
+late-recorded : (state : Selector) (history : History) (choices : Choices) (event : Event) → Ordered history
+    → timeOf history ≤ event .time → TickAgrees state history (event .time) choices
+    → lateNumber state event ≡
+    lateRefusal (candidatesBy history (event .time)) (decidedOver (tickChoice history (event .time) ∷ choices) .switch)
+    (event .kind)
+    (event .input)
+late-recorded state history choices event ordered later agrees =
+    ap (λ (inputs : List Input). lateRefusal (candidatesOf inputs (state .mode)) (state .switch) (event .kind) (event .input))
+    (agrees .inputs) ∙
+    ap (λ (mode : Bool). lateRefusal (candidatesOf (recordsAt history (event .time)) mode) (state .switch) (event .kind) (event .input))
+    (agrees .mode) ∙
+    ap (λ (candidates : List Candidate). lateRefusal candidates (state .switch) (event .kind) (event .input))
+    (candidates-at history (event .time) ordered later) ∙
+    ap (λ (switch : Switch). lateRefusal (candidatesBy history (event .time)) switch (event .kind) (event .input)) (agrees .switch)
+
 -- ---- any sequence
 
 -- the three ways of a step, with the number that each answers
-pub step-early : (state : Selector) (event : Event) (frame : List ℕ) → (earlyNumber state event (readFrame frame) ≡ accepted → ⊥)
+pub step-early : (state : Selector) (event : Event) (frame : List ℕ)
+    → (earlyNumber state event (readFrame frame) ≡ accepted → ⊥)
     → step state event frame ≡ stepped (earlyNumber state event (readFrame frame)) state
 unfolding step stepRead
 step-early state event frame given = rw (ne-eqb _ _ given)
 
-pub step-late : (state : Selector) (event : Event) (frame : List ℕ) → earlyNumber state event (readFrame frame) ≡ accepted
+pub step-late : (state : Selector) (event : Event) (frame : List ℕ)
+    → earlyNumber state event (readFrame frame) ≡ accepted
     → (lateNumber (ticked state (event .time)) event ≡ accepted → ⊥)
     → step state event frame ≡ stepped (lateNumber (ticked state (event .time)) event) (ticked state (event .time))
 unfolding step stepRead
 step-late state event frame none given = rw (none, ne-eqb _ _ given)
 
-pub step-accepted : (state : Selector) (event : Event) (frame : List ℕ) → earlyNumber state event (readFrame frame) ≡ accepted
+pub step-accepted : (state : Selector) (event : Event) (frame : List ℕ)
+    → earlyNumber state event (readFrame frame) ≡ accepted
     → lateNumber (ticked state (event .time)) event ≡ accepted
     → step state event frame ≡
     stepped accepted (placed (ticked state (event .time)) (recordedEvent event (readFrame frame)))
 unfolding step stepRead
 step-accepted state event frame none later = rw (none, later)
 
-module _ {A : Type 0} (number : ℕ) (x y z : A) where
-  byNumber-accepted : number ≡ accepted → byNumber number x y z ≡ x
-  unfolding byNumber
-  byNumber-accepted e = rw (eq-eqb number accepted e)
-
-  byNumber-early : (number ≡ accepted → ⊥) → number ≤ frameTlv → byNumber number x y z ≡ y
-  unfolding byNumber
-  byNumber-early n h = rw (ne-eqb number accepted n, le-leb number frameTlv h)
-
-  byNumber-late : frameTlv < number → byNumber number x y z ≡ z
-  unfolding byNumber
-  byNumber-late h = let n : number ≡ accepted → ⊥ = λ e. omega arith in rw (ne-eqb number accepted n, lt-leb number frameTlv h)
-
 -- a number is accepted or not
 accepted-or-not : {C : Type 0} (number : ℕ) → (number ≡ accepted → C) → ((number ≡ accepted → ⊥) → C) → C
 accepted-or-not number here other =
     byBool (eqb number accepted) (λ e. here (eqb-true number accepted e)) (λ e. other (eqb-false number accepted e))
 
-agrees-as : (state state' : Selector) (history history' : History) (choices choices' : Choices) → state' ≡ state → history' ≡ history
-    → choices' ≡ choices → Agrees state history choices → Agrees state' history' choices'
-agrees-as state state' history history' choices choices' s h c agrees = rw (s, h, c) agrees
+agrees-as : (state state' : Selector) (past past' : Past) → state' ≡ state → past' ≡ past
+    → Agrees state (past .history) (past .choices) → Agrees state' (past' .history) (past' .choices)
+agrees-as state state' past past' s h agrees = rw (s, h) agrees
 
 -- a fresh selector
 fresh-agrees : Agrees (stateAfter []) (recorded []) (choicesOf [])
-unfolding stateAfter recorded choicesOf recordAfter decidedOver lastArgument
+unfolding stateAfter pastOf recordAfter decidedOver lastArgument
 fresh-agrees = record { ordered = tt; time = refl; inputs = refl; mode = refl; switch = refl; selection = refl; held = refl; made = tt }
 
-module _ (given : Given) (earlier : Sequence) where
-  -- what the event before its tick, and after it, is refused with
+-- after an event the state agrees with what has happened, and the number is the one that document 01 gives
+pub record AfterEvent (given : Given) (earlier : Sequence) : Type 0 where
+  pub number : numberAfter given earlier ≡ numberBy (pastOf earlier) given
+  pub agrees : Agrees (stateAfter (given ∷ earlier)) (recorded (given ∷ earlier)) (choicesOf (given ∷ earlier))
+
+module _ (given : Given) (earlier : Sequence) (agrees : Agrees (stateAfter earlier) (recorded earlier) (choicesOf earlier)) where
+  -- what the code refuses the event with before its tick, and after it
   abbrev early : ℕ
   early = earlyNumber (stateAfter earlier) (given .event) (readFrame (given .frame))
 
@@ -370,49 +417,24 @@ module _ (given : Given) (earlier : Sequence) where
   abbrev late : ℕ
   late = lateNumber brought (given .event)
 
-  after-state : stateAfter (given ∷ earlier) ≡ step (stateAfter earlier) (given .event) (given .frame) .state
-  unfolding stateAfter
-  after-state = refl
-
-  after-number : numberAfter given earlier ≡ step (stateAfter earlier) (given .event) (given .frame) .number
-  unfolding numberAfter
-  after-number = refl
-
-  after-recorded : recorded (given ∷ earlier) ≡
-      byNumber (numberAfter given earlier) (asRecorded given ∷ recorded earlier) (recorded earlier)
-      (tickEvent (given .event .time) ∷ recorded earlier)
-  unfolding recorded
-  after-recorded = refl
-
-  after-choices : choicesOf (given ∷ earlier) ≡
-      byNumber (numberAfter given earlier)
-      (eventChoice (recorded earlier) (asRecorded given) ∷
-      (tickChoice (recorded earlier) (given .event .time) ∷ choicesOf earlier))
-      (choicesOf earlier)
-      (tickChoice (recorded earlier) (given .event .time) ∷ choicesOf earlier)
-  unfolding choicesOf
-  after-choices = refl
+  early-same : early ≡ earlyBy (pastOf earlier) given
+  early-same = early-recorded (stateAfter earlier) (recorded earlier) (choicesOf earlier) agrees (given .event) (readFrame (given .frame))
 
   -- an event refused before its tick
-  after-early : (early ≡ accepted → ⊥) → Agrees (stateAfter earlier) (recorded earlier) (choicesOf earlier)
-      → Agrees (stateAfter (given ∷ earlier)) (recorded (given ∷ earlier)) (choicesOf (given ∷ earlier))
-  after-early refused agrees =
+  after-early : (early ≡ accepted → ⊥) → AfterEvent given earlier
+  unfolding stateAfter numberAfter numberBy pastOf
+  after-early refused =
       let s : step (stateAfter earlier) (given .event) (given .frame) ≡ stepped early (stateAfter earlier) =
       step-early (stateAfter earlier) (given .event) (given .frame) refused
       in
-      let n : numberAfter given earlier ≡ early = after-number ∙ ap (λ (x : Stepped). x .number) s in
-      let positive : numberAfter given earlier ≡ accepted → ⊥ = λ e. refused (sym n ∙ e) in
-      let most : numberAfter given earlier ≤ frameTlv =
-      subst (λ (x : ℕ). x ≤ frameTlv) (sym n)
-      (early-most (stateAfter earlier .time) (ethernetAt (stateAfter earlier .inputs) (given .event .input)) (given .event) (given .frame))
-      in
-      agrees-as _ _ _ _ _ _ (after-state ∙ ap (λ (x : Stepped). x .state) s)
-      (after-recorded ∙ byNumber-early (numberAfter given earlier) _ _ _ positive most)
-      (after-choices ∙ byNumber-early (numberAfter given earlier) _ _ _ positive most)
-      agrees
+      let n : eqb (earlyBy (pastOf earlier) given) accepted ≡ false = ne-eqb _ _ (λ e. refused (early-same ∙ e)) in
+      record {
+        number = ap (λ (x : Stepped). x .number) s ∙ early-same ∙ rw n refl;
+        agrees = agrees-as _ _ (pastOf earlier) (pastOf (given ∷ earlier)) (ap (λ (x : Stepped). x .state) s) (rw n) agrees;
+      }
 
   -- an event that gets past its tick
-  module _ (none : early ≡ accepted) (agrees : Agrees (stateAfter earlier) (recorded earlier) (choicesOf earlier)) where
+  module _ (none : early ≡ accepted) where
     ethernet : Bool
     ethernet = ethernetAt (stateAfter earlier .inputs) (given .event .input)
 
@@ -425,47 +447,60 @@ module _ (given : Given) (earlier : Sequence) where
     tick-left : TickAgrees brought (recorded earlier) (given .event .time) (choicesOf earlier)
     tick-left = tick-agrees (stateAfter earlier) (recorded earlier) (given .event .time) (choicesOf earlier) agrees later
 
+    late-same : late ≡ lateBy (pastOf earlier) given
+    late-same = late-recorded brought (recorded earlier) (choicesOf earlier) (given .event) (agrees .ordered) later tick-left
+
+    not-early : eqb (earlyBy (pastOf earlier) given) accepted ≡ true
+    not-early = eq-eqb _ _ (sym early-same ∙ none)
+
     -- refused after the tick
-    after-late : (late ≡ accepted → ⊥)
-        → Agrees (stateAfter (given ∷ earlier)) (recorded (given ∷ earlier)) (choicesOf (given ∷ earlier))
+    after-late : (late ≡ accepted → ⊥) → AfterEvent given earlier
+    unfolding stateAfter numberAfter numberBy pastOf
     after-late refused =
         let s : step (stateAfter earlier) (given .event) (given .frame) ≡ stepped late brought =
         step-late (stateAfter earlier) (given .event) (given .frame) none refused
         in
-        let n : numberAfter given earlier ≡ late = after-number ∙ ap (λ (x : Stepped). x .number) s in
-        let above : frameTlv < numberAfter given earlier =
-        subst (λ (x : ℕ). frameTlv < x) (sym n)
-        (late-above (candidatesOf (brought .inputs) (brought .mode)) (brought .switch) (given .event .kind) (given .event .input) refused)
-        in
-        agrees-as _ _ _ _ _ _ (after-state ∙ ap (λ (x : Stepped). x .state) s)
-        (after-recorded ∙ byNumber-late (numberAfter given earlier) _ _ _ above)
-        (after-choices ∙ byNumber-late (numberAfter given earlier) _ _ _ above)
-        (late-agrees brought (recorded earlier) (given .event .time) (choicesOf earlier) (agrees .ordered) later tick-left)
+        let n : eqb (lateBy (pastOf earlier) given) accepted ≡ false = ne-eqb _ _ (λ e. refused (late-same ∙ e)) in
+        record {
+          number = ap (λ (x : Stepped). x .number) s ∙ late-same ∙ rw not-early refl;
+          agrees =
+              agrees-as _ _ (withTick (pastOf earlier) (given .event .time)) (pastOf (given ∷ earlier)) (ap (λ (x : Stepped). x .state) s)
+              (rw (not-early, n))
+              (late-agrees brought (recorded earlier) (given .event .time) (choicesOf earlier) (agrees .ordered) later tick-left);
+        }
 
     -- accepted
-    after-accepted : late ≡ accepted
-        → Agrees (stateAfter (given ∷ earlier)) (recorded (given ∷ earlier)) (choicesOf (given ∷ earlier))
-    unfolding ethernet
+    after-accepted : late ≡ accepted → AfterEvent given earlier
+    unfolding stateAfter numberAfter numberBy pastOf ethernet
     after-accepted taken =
         let s : step (stateAfter earlier) (given .event) (given .frame) ≡ stepped accepted (placed brought (asRecorded given)) =
         step-accepted (stateAfter earlier) (given .event) (given .frame) none taken
         in
-        let n : numberAfter given earlier ≡ accepted = after-number ∙ ap (λ (x : Stepped). x .number) s in
-        agrees-as _ _ _ _ _ _ (after-state ∙ ap (λ (x : Stepped). x .state) s)
-        (after-recorded ∙ byNumber-accepted (numberAfter given earlier) _ _ _ n)
-        (after-choices ∙ byNumber-accepted (numberAfter given earlier) _ _ _ n)
-        (placed-agrees brought (recorded earlier) (asRecorded given) (choicesOf earlier) (agrees .ordered) later
-        (accepted-input (stateAfter earlier .time) ethernet (given .event) (given .frame) none)
-        (accepted-mode (stateAfter earlier .time) ethernet (given .event) (given .frame) none)
-        (accepted-argument (stateAfter earlier .time) ethernet (given .event) (given .frame) none)
-        tick-left)
+        let n : lateBy (pastOf earlier) given ≡ accepted = sym late-same ∙ taken in
+        record {
+          number = ap (λ (x : Stepped). x .number) s ∙ sym n ∙ rw not-early refl;
+          agrees =
+              agrees-as _ _ (withEvent (pastOf earlier) (asRecorded given)) (pastOf (given ∷ earlier)) (ap (λ (x : Stepped). x .state) s)
+              (rw (not-early, eq-eqb _ _ n))
+              (placed-agrees brought (recorded earlier) (asRecorded given) (choicesOf earlier) (agrees .ordered) later
+              (accepted-input (stateAfter earlier .time) ethernet (given .event) (given .frame) none)
+              (accepted-mode (stateAfter earlier .time) ethernet (given .event) (given .frame) none)
+              (accepted-argument (stateAfter earlier .time) ethernet (given .event) (given .frame) none)
+              tick-left);
+        }
+
+  after-event : AfterEvent given earlier
+  after-event =
+      accepted-or-not early
+      (λ none. accepted-or-not late (λ taken. after-accepted none taken) (λ refused. after-late none refused))
+      (λ refused. after-early refused)
 
 -- after any sequence of events, refused ones included
 pub sequence-agrees : (sequence : Sequence) → Agrees (stateAfter sequence) (recorded sequence) (choicesOf sequence)
 sequence-agrees [] = fresh-agrees
-sequence-agrees (given ∷ earlier) =
-    accepted-or-not (early given earlier)
-    (λ none. accepted-or-not (late given earlier)
-    (λ taken. after-accepted given earlier none (sequence-agrees earlier) taken)
-    (λ refused. after-late given earlier none (sequence-agrees earlier) refused))
-    (λ refused. after-early given earlier refused (sequence-agrees earlier))
+sequence-agrees (given ∷ earlier) = after-event given earlier (sequence-agrees earlier) .agrees
+
+-- the number that any event is then answered with
+pub sequence-number : (sequence : Sequence) (given : Given)
+    → numberAfter given sequence ≡ numberBy (pastOf sequence) given
+sequence-number sequence given = after-event given sequence (sequence-agrees sequence) .number

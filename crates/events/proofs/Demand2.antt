@@ -1,73 +1,153 @@
 -- DEMAND 2, for what is answered of a state after any sequence of events. Assumes nothing.
 use Prim.Native.Nat.{ℕ, _<_}
-use mathlib.Core.Bool.{Bool}
-use mathlib.Core.List.{List, map}
-use mathlib.Core.Path.{_≡_, refl, sym, _∙_, ap, subst}
-use lib.Dec.{eqb}
+use mathlib.Core.Bool.{Bool, true, false, not, true≢false}
+use mathlib.Core.List.{List, [], _∷_}
+use mathlib.Core.Path.{_≡_, refl, sym, _∙_, ap}
+use native.Mathlib.Omega.{arith}
+use lib.Dec.{eqb, ltb}
 use lib.ListN.{getD}
+use borrow.Author.Tests.{ltb-true, ltb-false}
+use Rattle.numbers.specs.declared.InputNumber.{InputNumber}
 use Rattle.numbers.specs.Inputs.{inputCount}
 use Rattle.numbers.specs.Quality.{codeOfQuality}
+use Rattle.run.proofs.Laws.{byBool}
 use Rattle.input.specs.declared.Input.{Input}
 use Rattle.input.specs.declared.Settings.{Settings}
 use Rattle.input.specs.Recorded.{History, modeOn, timeOf, isSending}
 use Rattle.input.specs.Record.{freshInput, recordAfter}
 use Rattle.input.proofs.Recalled.{settingsBy, settings-recalled}
 use Rattle.input.proofs.Demand2.{passed-now}
+use Rattle.choice.specs.declared.Candidate.{Candidate}
 use Rattle.choice.specs.declared.Selection.{Selection}
 use Rattle.choice.specs.declared.Selection.the-variants as S
+use Rattle.choice.specs.Candidate.{nobody, isEligible, eligibleAmong}
+use Rattle.decision.specs.declared.Switch.{Switch}
+use Rattle.decision.specs.declared.Switch.the-variants as W
+use Rattle.decision.specs.Decision.{forcedMayStand, manualMayStand}
+use Rattle.decision.specs.Choices.{Choices, choicesAgo, Passes}
+use Rattle.decision.proofs.Standing.{switch-right}
+use Rattle.decision.proofs.Selecting.{manualMayStand-eligible, eligible-admitted, selected-admitted}
 use Rattle.selector.specs.declared.Selector.{Selector}
 use Rattle.selector.specs.State.{candidateFor}
-use Rattle.selector.specs.Answer.{outgoingCode, selectedNumber, selectedCandidate, qualityOf, codeFor, ports, outgoingCodes}
+use Rattle.selector.specs.Answer.{switchFails, clockQuality, outgoingCode, selectedNumber, selectedCandidate, candidateAt, qualityOf, codeFor, outgoingCodes}
+use Rattle.selector.proofs.Laws.{getD-past}
 use Rattle.selector.proofs.Ports.{getD-ports}
-use Rattle.events.specs.Sequence.{Sequence, stateAfter, recorded, candidateBy}
+use Rattle.events.specs.Sequence.{Sequence, stateAfter}
+use Rattle.events.specs.Past.{candidateBy, candidatesBy, recorded, choicesOf}
 use Rattle.events.specs.Demand2.{shown, Demand2}
-use Rattle.events.proofs.Agrees.{records, Agrees, sequence-agrees, candidate-recorded}
+use Rattle.events.specs.Demand3.{MadeAt}
+use Rattle.events.proofs.Agrees.{Agrees, sequence-agrees, settings-at, candidate-recorded}
 
-module _ (state : Selector) (history : History) (inputs : state .inputs ≡ records history) where
-  -- what stands at a number is the record of the recorded events
-  record-at : (number : ℕ) → number < inputCount → getD (state .inputs) number freshInput ≡ recordAfter number history
-  record-at number inside =
-      ap (λ (list : List Input). getD list number freshInput) inputs ∙
-      getD-ports (λ (other : ℕ). recordAfter other history) freshInput number inside
+-- an input that is neither off nor locked is one of the sixteen
+admitted-inside : (history : History) (time number : ℕ) → forcedMayStand (candidatesBy history time) number ≡ true
+    → number < inputCount
+admitted-inside history time number x =
+    byBool (ltb number inputCount) (ltb-true number inputCount)
+    (λ e.
+    let none : getD (candidatesBy history time) number nobody ≡ nobody =
+    getD-past (candidatesBy history time) number nobody (ltb-false number inputCount e)
+    in
+    absurd (true≢false (sym x ∙ ap (λ (candidate : Candidate). candidate .admitted) none)))
 
-  sending-at : (port : ℕ) → port < inputCount → getD (state .inputs) port freshInput .settings .sending ≡ isSending port history
-  unfolding settingsBy
-  sending-at port inside =
-      ap (λ (input : Input). input .settings .sending) (record-at port inside) ∙
-      ap (λ (settings : Settings). settings .sending) (settings-recalled port history)
+-- a test at the latest choice is a test of the inputs as the recorded events show them
+passes-made : (test : List Candidate → ℕ → Bool) (number time : ℕ) (history : History) (choices : Choices)
+    → MadeAt history time choices → Passes test number choices → test (candidatesBy history time) number ≡ true
+passes-made test number time history [] made passes = absurd passes
+passes-made test number time history (choice ∷ earlier) made passes =
+    ap (λ (candidates : List Candidate). test candidates number) (sym made) ∙ passes
 
-selected-at : (state : Selector) (history : History) (choices : _) → Agrees state history choices → (number : ℕ) → number < inputCount
-    → candidateFor (state .mode) (getD (state .inputs) number freshInput) ≡ candidateBy history (state .time) number
-selected-at state history choices agrees number inside =
-    ap (λ (input : Input). candidateFor (state .mode) input) (record-at state history (agrees .inputs) number inside) ∙
-    ap (λ (mode : Bool). candidateFor mode (recordAfter number history)) (agrees .mode) ∙
-    candidate-recorded number (timeOf history) history (recordAfter number history) (passed-now number history (agrees .ordered))
-    (settings-recalled number history) ∙
-    ap (λ (time : ℕ). candidateBy history time number) (sym (agrees .time))
+module _ (state : Selector) (history : History) (choices : Choices) (agrees : Agrees state history choices) where
+  -- an input of the state, as a choice sees it, is that of the recorded events
+  candidate-at : (number : ℕ) → number < inputCount
+      → candidateAt (state .inputs) (state .mode) number ≡ candidateBy history (state .time) number
+  candidate-at number inside =
+      ap (λ (inputs : List Input). candidateAt inputs (state .mode) number) (agrees .inputs) ∙
+      ap (candidateFor (state .mode)) (getD-ports (λ (other : ℕ). recordAfter other history) freshInput number inside) ∙
+      ap (λ (mode : Bool). candidateFor mode (recordAfter number history)) (agrees .mode) ∙
+      candidate-recorded number (timeOf history) history (recordAfter number history) (passed-now number history (agrees .ordered))
+      (settings-recalled number history) ∙
+      ap (λ (time : ℕ). candidateBy history time number) (sym (agrees .time))
+
+  -- the selected input is one of the sixteen
+  selected-inside : (number : InputNumber) → state .selection ≡ S.At number → number .0 < inputCount
+  selected-inside number x =
+      admitted-inside history (timeOf history) (number .0)
+      (passes-made forcedMayStand (number .0) (timeOf history) history choices (agrees .made)
+      (selected-admitted choices (number .0) (sym (agrees .selection) ∙ x)))
+
+  -- a manual switch stands on an eligible input
+  manual-eligible : (on : InputNumber) → state .switch ≡ W.Manual on
+      → isEligible (candidateAt (state .inputs) (state .mode) (on .0)) ≡ true
+  unfolding choicesAgo
+  manual-eligible on x =
+      let stands : manualMayStand (candidatesBy history (timeOf history)) (on .0) ≡ true =
+      passes-made manualMayStand (on .0) (timeOf history) history choices (agrees .made)
+      (switch-right choices .manual (on .0) (sym (agrees .switch) ∙ x) .unbroken 0 (omega arith))
+      in
+      let eligible : eligibleAmong (candidatesBy history (timeOf history)) (on .0) ≡ true =
+      manualMayStand-eligible (candidatesBy history (timeOf history)) (on .0) stands
+      in
+      let inside : on .0 < inputCount =
+      admitted-inside history (timeOf history) (on .0) (eligible-admitted (candidatesBy history (timeOf history)) (on .0) eligible)
+      in
+      ap isEligible (candidate-at (on .0) inside) ∙
+      ap (λ (time : ℕ). isEligible (candidateBy history time (on .0))) (agrees .time) ∙
+      ap isEligible (sym (getD-ports (candidateBy history (timeOf history)) nobody (on .0) inside)) ∙
+      eligible
+
+  never-fails : switchFails (state .inputs) (state .mode) (state .switch) ≡ false
+  unfolding switchFails
+  never-fails = go (state .switch) refl
+    where
+      go : (switch : Switch) → state .switch ≡ switch → switchFails (state .inputs) (state .mode) switch ≡ false
+      go W.Nothing x = refl
+      go (W.Forced on) x = refl
+      go (W.Manual on) x = ap not (manual-eligible on x)
+
+selected-shown : (sequence : Sequence) (selection : Selection) → stateAfter sequence .selection ≡ selection
+    → selectedCandidate (stateAfter sequence .inputs) (stateAfter sequence .mode) selection ≡ shown sequence selection
+unfolding selectedCandidate
+selected-shown sequence S.Nothing x = refl
+selected-shown sequence (S.At number) x =
+    let agrees = sequence-agrees sequence in
+    candidate-at (stateAfter sequence) (recorded sequence) (choicesOf sequence) agrees (number .0)
+    (selected-inside (stateAfter sequence) (recorded sequence) (choicesOf sequence) agrees number x)
+
+sending-at : (sequence : Sequence) (port : ℕ) → port < inputCount
+    → getD (stateAfter sequence .inputs) port freshInput .settings .sending ≡ isSending port (recorded sequence)
+unfolding settingsBy
+sending-at sequence port inside =
+    ap (λ (settings : Settings). settings .sending)
+    (settings-at (stateAfter sequence .inputs) (recorded sequence) port (sequence-agrees sequence .inputs) inside)
 
 -- DEMAND 2, for every sequence of events.
 pub demand-2-answers : (sequence : Sequence) → Demand2 sequence
-unfolding selectedCandidate outgoingCodes codeFor
+unfolding outgoingCodes codeFor
 demand-2-answers sequence =
+    let after = stateAfter sequence in
     let agrees = sequence-agrees sequence in
+    let fails = never-fails after (recorded sequence) (choicesOf sequence) agrees in
+    let selected = selected-shown sequence (after .selection) refl in
     record {
       mode = agrees .mode;
-      selected = λ number inside e. rw e (selected-at (stateAfter sequence) (recorded sequence) _ agrees number inside);
+      never03 = fails;
+      state = rw (fails, selected) refl;
+      quality =
+          ap (clockQuality (after .mode)) selected ∙
+          ap (λ (mode : Bool). clockQuality mode (shown sequence (after .selection))) (agrees .mode);
       outgoing = λ port inside.
           getD-ports
-          (codeFor (stateAfter sequence .inputs) (stateAfter sequence .mode) (selectedNumber (stateAfter sequence .selection))
-          (codeOfQuality (qualityOf (stateAfter sequence))))
+          (codeFor (after .inputs) (after .mode) (selectedNumber (after .selection)) (codeOfQuality (qualityOf after)))
           0
           port
           inside ∙
           ap
-          (λ (mode : Bool). outgoingCode mode (getD (stateAfter sequence .inputs) port freshInput .settings .sending)
-          (eqb (selectedNumber (stateAfter sequence .selection)) port)
-          (codeOfQuality (qualityOf (stateAfter sequence))))
+          (λ (mode : Bool). outgoingCode mode (getD (after .inputs) port freshInput .settings .sending)
+          (eqb (selectedNumber (after .selection)) port)
+          (codeOfQuality (qualityOf after)))
           (agrees .mode) ∙
           ap
-          (λ (sending : Bool). outgoingCode (modeOn (recorded sequence)) sending
-          (eqb (selectedNumber (stateAfter sequence .selection)) port)
-          (codeOfQuality (qualityOf (stateAfter sequence))))
-          (sending-at (stateAfter sequence) (recorded sequence) (agrees .inputs) port inside);
+          (λ (sending : Bool). outgoingCode (modeOn (recorded sequence)) sending (eqb (selectedNumber (after .selection)) port)
+          (codeOfQuality (qualityOf after)))
+          (sending-at sequence port inside);
     }

@@ -1,12 +1,12 @@
 -- The definitions of `specs/`, a law for each way through the function that meets it. Assumes nothing.
-use Prim.Native.Nat.{ℕ, zero, suc, _≤_, _<_, _%_}
-use mathlib.Core.Bool.{Bool, true, false, not, _&&_, cond}
+use Prim.Native.Nat.{ℕ, zero, suc, _≤_, _<_}
+use mathlib.Core.Bool.{Bool, true, false, not, cond}
 use mathlib.Core.List.{List, [], _∷_, map}
 use mathlib.Core.Path.{_≡_, refl, sym, _∙_, ap}
 use native.Mathlib.Omega.{arith}
-use lib.Dec.{eqb, leb, ltb}
+use lib.Dec.{eqb}
 use lib.ListN.{length, getD, set}
-use borrow.Author.Tests.{eqb-true, eq-eqb, ne-eqb, lt-ltb, le-ltb, le-leb, lt-leb, not-true, not-false}
+use borrow.Author.Tests.{eqb-true, eq-eqb, ne-eqb, lt-ltb, le-ltb, le-leb, lt-leb}
 use Rattle.numbers.specs.declared.Event.{Event}
 use Rattle.numbers.specs.declared.EventKind.{EventKind}
 use Rattle.numbers.specs.declared.InputNumber.{InputNumber}
@@ -15,20 +15,19 @@ use Rattle.numbers.specs.Kind.{kindOf, isKnown, isInputOut, isArgumentOut, flag
 use Rattle.numbers.specs.Refusal.{accepted, kindUnknown, timeTooLarge, timeBeforeState, inputOutOfRange, argumentOutOfRange, wrongInputKind, forcedBarred, manualForcedStands, manualNotEligible, manualLowerQuality}
 use Rattle.frame.specs.declared.FrameRead.{FrameRead}
 use Rattle.frame.specs.declared.FrameRead.the-variants as R
-use Rattle.frame.specs.Read.{numberOfRead, codeOfRead}
+use Rattle.frame.specs.Read.{numberOfRead}
 use Rattle.input.specs.declared.Input.{Input}
 use Rattle.input.specs.Record.{freshInput, settle, afterEvent, heardAfter, settingsAfter}
 use Rattle.choice.specs.declared.Candidate.{Candidate}
-use Rattle.choice.specs.Candidate.{nobody, isEligible, eligibleAmong, anyLower}
+use Rattle.choice.specs.Candidate.{nobody, isEligible, anyLower}
 use Rattle.decision.specs.declared.Switch.{Switch}
 use Rattle.decision.specs.declared.Switch.the-variants as W
 use Rattle.decision.specs.Choices.{commanded}
 use Rattle.selector.specs.declared.Selector.{Selector}
 use Rattle.selector.specs.State.{candidatesOf, ticked}
-use Rattle.selector.proofs.Laws.{getD-any}
 use Rattle.run.proofs.Laws.{byBool}
 use Rattle.events.specs.Refusals.{firstThatApplies, isWrongKind, frameRefusal, earlyRefusal, ethernetAt, isForcedSwitch, lateRefusal}
-use Rattle.events.specs.Step.{lowByte, heldArgument, inputAfter, inputsAfter, modeAfter, recordedArgument, recordedEvent, placed, stepped, earlyNumber, lateNumber, stepRead}
+use Rattle.events.specs.Step.{lowByte, heldArgument, inputAfter, inputsAfter, modeAfter, recordedArgument, placed, stepped, stepRead}
 
 -- ---- isWrongKind
 
@@ -37,11 +36,13 @@ module _ (kind : ℕ) (ethernet : Bool) where
   unfolding isWrongKind
   isWrongKind-code e = rw (eq-eqb _ _ e)
 
-  pub isWrongKind-frame : (kind ≡ kindLineCode → ⊥) → kind ≡ kindFrame → ethernet ≡ true → false ≡ isWrongKind kind ethernet
+  pub isWrongKind-frame : (kind ≡ kindLineCode → ⊥) → kind ≡ kindFrame → ethernet ≡ true
+      → false ≡ isWrongKind kind ethernet
   unfolding isWrongKind
   isWrongKind-frame n e t = rw (ne-eqb _ _ n, eq-eqb _ _ e, t)
 
-  pub isWrongKind-frame-line : (kind ≡ kindLineCode → ⊥) → kind ≡ kindFrame → ethernet ≡ false → true ≡ isWrongKind kind ethernet
+  pub isWrongKind-frame-line : (kind ≡ kindLineCode → ⊥) → kind ≡ kindFrame → ethernet ≡ false
+      → true ≡ isWrongKind kind ethernet
   unfolding isWrongKind
   isWrongKind-frame-line n e t = rw (ne-eqb _ _ n, eq-eqb _ _ e, t)
 
@@ -54,7 +55,8 @@ pub ruleset isWrongKind-laws = (isWrongKind-code, isWrongKind-frame, isWrongKind
 -- ---- frameRefusal
 
 module _ (kind : ℕ) (read : FrameRead) where
-  pub frameRefusal-refused : (number : ℕ) → kind ≡ kindFrame → number ≡ numberOfRead read → number ≡ frameRefusal kind read
+  pub frameRefusal-refused : (number : ℕ) → kind ≡ kindFrame → number ≡ numberOfRead read
+      → number ≡ frameRefusal kind read
   unfolding frameRefusal
   frameRefusal-refused number e n = n ∙ (rw (eq-eqb _ _ e))
 
@@ -80,25 +82,29 @@ module _ (time : ℕ) (ethernet : Bool) (event : Event) (read : FrameRead) (kind
   unfolding earlyRefusal firstThatApplies
   earlyRefusal-unknown k n f = rw (← k, ← n, f)
 
-  pub earlyRefusal-late-time : kind ≡ kindOf (event .kind) → known ≡ isKnown kind → not known ≡ false → timeLimit ≤ event .time
+  pub earlyRefusal-late-time : kind ≡ kindOf (event .kind) → known ≡ isKnown kind → not known ≡ false
+      → timeLimit ≤ event .time
       → timeTooLarge ≡ earlyRefusal time ethernet event read
   unfolding earlyRefusal firstThatApplies
   earlyRefusal-late-time k n f t = rw (← k, ← n, f, le-leb _ _ t)
 
-  pub earlyRefusal-early-time : kind ≡ kindOf (event .kind) → known ≡ isKnown kind → not known ≡ false → event .time < timeLimit
+  pub earlyRefusal-early-time : kind ≡ kindOf (event .kind) → known ≡ isKnown kind → not known ≡ false
+      → event .time < timeLimit
       → event .time < time → timeBeforeState ≡ earlyRefusal time ethernet event read
   unfolding earlyRefusal firstThatApplies
   earlyRefusal-early-time k n f t u = rw (← k, ← n, f, lt-leb _ _ t, lt-ltb _ _ u)
 
   module _ (out : Bool) where
-    pub earlyRefusal-input : kind ≡ kindOf (event .kind) → known ≡ isKnown kind → not known ≡ false → event .time < timeLimit
+    pub earlyRefusal-input : kind ≡ kindOf (event .kind) → known ≡ isKnown kind → not known ≡ false
+        → event .time < timeLimit
         → time ≤ event .time → out ≡ isInputOut kind (event .input) → out ≡ true
         → inputOutOfRange ≡ earlyRefusal time ethernet event read
     unfolding earlyRefusal firstThatApplies
     earlyRefusal-input k n f t u i o = rw (← k, ← n, f, lt-leb _ _ t, le-ltb _ _ u, ← i, o)
 
     module _ (argumentOut : Bool) where
-      pub earlyRefusal-argument : kind ≡ kindOf (event .kind) → known ≡ isKnown kind → not known ≡ false → event .time < timeLimit
+      pub earlyRefusal-argument : kind ≡ kindOf (event .kind) → known ≡ isKnown kind → not known ≡ false
+          → event .time < timeLimit
           → time ≤ event .time → out ≡ isInputOut kind (event .input) → out ≡ false
           → argumentOut ≡ isArgumentOut kind (event .argument) → argumentOut ≡ true
           → argumentOutOfRange ≡ earlyRefusal time ethernet event read
@@ -106,16 +112,19 @@ module _ (time : ℕ) (ethernet : Bool) (event : Event) (read : FrameRead) (kind
       earlyRefusal-argument k n f t u i o a p = rw (← k, ← n, f, lt-leb _ _ t, le-ltb _ _ u, ← i, o, ← a, p)
 
       module _ (wrong : Bool) where
-        pub earlyRefusal-kind : kind ≡ kindOf (event .kind) → known ≡ isKnown kind → not known ≡ false → event .time < timeLimit
+        pub earlyRefusal-kind : kind ≡ kindOf (event .kind) → known ≡ isKnown kind → not known ≡ false
+            → event .time < timeLimit
             → time ≤ event .time → out ≡ isInputOut kind (event .input) → out ≡ false
-            → argumentOut ≡ isArgumentOut kind (event .argument) → argumentOut ≡ false → wrong ≡ isWrongKind (event .kind) ethernet
+            → argumentOut ≡ isArgumentOut kind (event .argument) → argumentOut ≡ false
+            → wrong ≡ isWrongKind (event .kind) ethernet
             → wrong ≡ true → wrongInputKind ≡ earlyRefusal time ethernet event read
         unfolding earlyRefusal firstThatApplies
         earlyRefusal-kind k n f t u i o a p w q = rw (← k, ← n, f, lt-leb _ _ t, le-ltb _ _ u, ← i, o, ← a, p, ← w, q)
 
         pub earlyRefusal-frame : (number : ℕ) → kind ≡ kindOf (event .kind) → known ≡ isKnown kind → not known ≡ false
             → event .time < timeLimit → time ≤ event .time → out ≡ isInputOut kind (event .input) → out ≡ false
-            → argumentOut ≡ isArgumentOut kind (event .argument) → argumentOut ≡ false → wrong ≡ isWrongKind (event .kind) ethernet
+            → argumentOut ≡ isArgumentOut kind (event .argument) → argumentOut ≡ false
+            → wrong ≡ isWrongKind (event .kind) ethernet
             → wrong ≡ false → number ≡ frameRefusal (event .kind) read → number ≡ earlyRefusal time ethernet event read
         unfolding earlyRefusal firstThatApplies
         earlyRefusal-frame number k n f t u i o a p w q r =
@@ -155,32 +164,40 @@ module _ (candidates : List Candidate) (switch : Switch) (kind on : ℕ) where
   lateRefusal-barred candidate e c a =
       let k : getD candidates on nobody .admitted ≡ false = sym (ap (λ (x : Candidate). x .admitted) c) ∙ a in rw (e, k)
 
-  pub lateRefusal-stands : (stands : Bool) → (kind ≡ kindForced → ⊥) → kind ≡ kindManual → stands ≡ isForcedSwitch switch
+  pub lateRefusal-stands : (stands : Bool) → (kind ≡ kindForced → ⊥) → kind ≡ kindManual
+      → stands ≡ isForcedSwitch switch
       → stands ≡ true → manualForcedStands ≡ lateRefusal candidates switch kind on
   unfolding lateRefusal firstThatApplies
   lateRefusal-stands stands n e s t = rw (e, ← s, t)
 
-  pub lateRefusal-ineligible : (stands : Bool) (candidate : Candidate) (able : Bool) → (kind ≡ kindForced → ⊥) → kind ≡ kindManual
-      → stands ≡ isForcedSwitch switch → stands ≡ false → candidate ≡ getD candidates on nobody → able ≡ isEligible candidate
+  pub lateRefusal-ineligible : (stands : Bool) (candidate : Candidate) (able : Bool) → (kind ≡ kindForced → ⊥)
+      → kind ≡ kindManual
+      → stands ≡ isForcedSwitch switch → stands ≡ false → candidate ≡ getD candidates on nobody
+      → able ≡ isEligible candidate
       → able ≡ false → manualNotEligible ≡ lateRefusal candidates switch kind on
   unfolding lateRefusal firstThatApplies
   lateRefusal-ineligible stands candidate able n e s t c a f = rw (e, ← s, t, ← c, ← a, f)
 
-  pub lateRefusal-lower : (stands : Bool) (candidate : Candidate) (able lower : Bool) → (kind ≡ kindForced → ⊥) → kind ≡ kindManual
-      → stands ≡ isForcedSwitch switch → stands ≡ false → candidate ≡ getD candidates on nobody → able ≡ isEligible candidate
+  pub lateRefusal-lower : (stands : Bool) (candidate : Candidate) (able lower : Bool) → (kind ≡ kindForced → ⊥)
+      → kind ≡ kindManual
+      → stands ≡ isForcedSwitch switch → stands ≡ false → candidate ≡ getD candidates on nobody
+      → able ≡ isEligible candidate
       → able ≡ true → lower ≡ anyLower candidates (candidate .quality) → lower ≡ true
       → manualLowerQuality ≡ lateRefusal candidates switch kind on
   unfolding lateRefusal firstThatApplies
   lateRefusal-lower stands candidate able lower n e s t c a f l o = rw (e, ← s, t, ← c, ← a, f, ← l, o)
 
-  pub lateRefusal-manual : (stands : Bool) (candidate : Candidate) (able lower : Bool) → (kind ≡ kindForced → ⊥) → kind ≡ kindManual
-      → stands ≡ isForcedSwitch switch → stands ≡ false → candidate ≡ getD candidates on nobody → able ≡ isEligible candidate
+  pub lateRefusal-manual : (stands : Bool) (candidate : Candidate) (able lower : Bool) → (kind ≡ kindForced → ⊥)
+      → kind ≡ kindManual
+      → stands ≡ isForcedSwitch switch → stands ≡ false → candidate ≡ getD candidates on nobody
+      → able ≡ isEligible candidate
       → able ≡ true → lower ≡ anyLower candidates (candidate .quality) → lower ≡ false
       → accepted ≡ lateRefusal candidates switch kind on
   unfolding lateRefusal firstThatApplies
   lateRefusal-manual stands candidate able lower n e s t c a f l o = rw (e, ← s, t, ← c, ← a, f, ← l, o)
 
-  pub lateRefusal-other : (kind ≡ kindForced → ⊥) → (kind ≡ kindManual → ⊥) → accepted ≡ lateRefusal candidates switch kind on
+  pub lateRefusal-other : (kind ≡ kindForced → ⊥) → (kind ≡ kindManual → ⊥)
+      → accepted ≡ lateRefusal candidates switch kind on
   unfolding lateRefusal firstThatApplies
   lateRefusal-other n m = rw (ne-eqb _ _ n, ne-eqb _ _ m)
 
@@ -221,11 +238,13 @@ module _ (kind : ℕ) (on : InputNumber) (switch : Switch) where
 pub ruleset commanded-laws = (commanded-forced, commanded-manual, commanded-clear, commanded-other)
 
 module _ (kind argument : ℕ) (read : FrameRead) where
-  pub recordedArgument-code : (code : ℕ) → kind ≡ kindFrame → read ≡ R.Code code → code ≡ recordedArgument kind argument read
+  pub recordedArgument-code : (code : ℕ) → kind ≡ kindFrame → read ≡ R.Code code
+      → code ≡ recordedArgument kind argument read
   unfolding recordedArgument
   recordedArgument-code code e r = rw (eq-eqb _ _ e, r)
 
-  pub recordedArgument-refused : (number : ℕ) → kind ≡ kindFrame → read ≡ R.Refused number → 0 ≡ recordedArgument kind argument read
+  pub recordedArgument-refused : (number : ℕ) → kind ≡ kindFrame → read ≡ R.Refused number
+      → 0 ≡ recordedArgument kind argument read
   unfolding recordedArgument
   recordedArgument-refused number e r = rw (eq-eqb _ _ e, r)
 
@@ -265,7 +284,8 @@ module _ (input : Input) (kind argument byte time : ℕ) (mode : Bool) (after : 
   -- a kind whose argument is 0 or 1
   pub inputAfter-flag : kind ≡ known → eqb known kindHoldoff ≡ false → byte ≡ lowByte argument
       → afterEvent input known (flag (not (eqb byte 0))) time mode ≡ afterEvent input known byte time mode
-      → after ≡ afterEvent input known (flag (not (eqb byte 0))) time mode → after ≡ inputAfter input kind argument time mode
+      → after ≡ afterEvent input known (flag (not (eqb byte 0))) time mode
+      → after ≡ inputAfter input kind argument time mode
   inputAfter-flag k h b same a = inputAfter-byte k h b (a ∙ same)
 
 module _ (input : Input) (kind argument time : ℕ) (mode : Bool) (after : Input) where
@@ -280,7 +300,8 @@ module _ (input : Input) (kind argument time : ℕ) (mode : Bool) (after : Input
   inputAfter-clear k a = a ∙ (rw k)
 
 -- an event that an input does not hear: none of the eleven kinds that change it
-pub inputAfter-unheard : (input : Input) (kind argument time : ℕ) (mode : Bool) (after : Input) → after ≡ settle input time mode false
+pub inputAfter-unheard : (input : Input) (kind argument time : ℕ) (mode : Bool) (after : Input)
+    → after ≡ settle input time mode false
     → (kind ≡ kindSignal → ⊥) → (kind ≡ kindFrame → ⊥) → (kind ≡ kindLineCode → ⊥) → (kind ≡ kindPriority → ⊥)
     → (kind ≡ kindLockout → ⊥) → (kind ≡ kindHoldoff → ⊥) → (kind ≡ kindWait → ⊥) → (kind ≡ kindFixedQuality → ⊥)
     → (kind ≡ kindClearWait → ⊥) → (kind ≡ kindSending → ⊥) → (kind ≡ kindInputKind → ⊥)
@@ -313,11 +334,13 @@ set-past (y ∷ list) (suc number) x h = ap (λ (rest : List _). y ∷ rest) (se
 
 module _ (inputs : List Input) (event : Event) (mode : Bool) where
   pub inputsAfter-mode : (all : List Input) → event .kind ≡ kindQualityMode
-      → all ≡ map (λ (input : Input). settle input (event .time) mode false) inputs → all ≡ inputsAfter inputs event mode
+      → all ≡ map (λ (input : Input). settle input (event .time) mode false) inputs
+      → all ≡ inputsAfter inputs event mode
   unfolding inputsAfter
   inputsAfter-mode all k a = a ∙ (rw (eq-eqb _ _ k))
 
-  pub inputsAfter-own : (before after : Input) → (event .kind ≡ kindQualityMode → ⊥) → before ≡ getD inputs (event .input) freshInput
+  pub inputsAfter-own : (before after : Input) → (event .kind ≡ kindQualityMode → ⊥)
+      → before ≡ getD inputs (event .input) freshInput
       → after ≡ inputAfter before (event .kind) (event .argument) (event .time) mode
       → set inputs (event .input) after ≡ inputsAfter inputs event mode
   unfolding inputsAfter
@@ -333,21 +356,25 @@ pub ruleset inputsAfter-laws = (inputsAfter-mode, inputsAfter-own, inputsAfter-p
 -- ---- stepRead
 
 module _ (state : Selector) (event : Event) (read : FrameRead) (ethernet : Bool) (early : ℕ) where
-  pub stepRead-early : ethernet ≡ ethernetAt (state .inputs) (event .input) → early ≡ earlyRefusal (state .time) ethernet event read
+  pub stepRead-early : ethernet ≡ ethernetAt (state .inputs) (event .input)
+      → early ≡ earlyRefusal (state .time) ethernet event read
       → (early ≡ accepted → ⊥) → stepped early state ≡ stepRead state event read
   unfolding stepRead
   stepRead-early i e n = rw (← i, ← e, ne-eqb _ _ n)
 
   module _ (brought : Selector) (candidates : List Candidate) (late : ℕ) where
-    pub stepRead-late : ethernet ≡ ethernetAt (state .inputs) (event .input) → early ≡ earlyRefusal (state .time) ethernet event read
-        → early ≡ accepted → brought ≡ ticked state (event .time) → candidates ≡ candidatesOf (brought .inputs) (brought .mode)
+    pub stepRead-late : ethernet ≡ ethernetAt (state .inputs) (event .input)
+        → early ≡ earlyRefusal (state .time) ethernet event read
+        → early ≡ accepted → brought ≡ ticked state (event .time)
+        → candidates ≡ candidatesOf (brought .inputs) (brought .mode)
         → late ≡ lateRefusal candidates (brought .switch) (event .kind) (event .input) → (late ≡ accepted → ⊥)
         → stepped late brought ≡ stepRead state event read
     unfolding stepRead
     stepRead-late i e z b c l n = rw (← i, ← e, z, ← b, ← c, ← l, ne-eqb _ _ n)
 
     pub stepRead-accepted : (after : Selector) (argument : ℕ) → ethernet ≡ ethernetAt (state .inputs) (event .input)
-        → early ≡ earlyRefusal (state .time) ethernet event read → early ≡ accepted → brought ≡ ticked state (event .time)
+        → early ≡ earlyRefusal (state .time) ethernet event read → early ≡ accepted
+        → brought ≡ ticked state (event .time)
         → candidates ≡ candidatesOf (brought .inputs) (brought .mode)
         → late ≡ lateRefusal candidates (brought .switch) (event .kind) (event .input) → late ≡ accepted
         → argument ≡ recordedArgument (event .kind) (event .argument) read

@@ -1,7 +1,7 @@
--- Demand 1: "Each refusal is one of the numbers of document 01, given exactly when stated there, and leaves .. state as its table says."
--- Assumes nothing.
+-- Demand 1: "Each refusal is one of the numbers of document 01, given exactly when stated there, and leaves .. state as
+-- its table says." Assumes nothing.
 use Prim.Native.Nat.{ℕ, _≤_}
-use mathlib.Core.Bool.{Bool, true, false}
+use mathlib.Core.Bool.{true, false}
 use mathlib.Core.List.{List, [], _∷_}
 use mathlib.Core.Path.{_≡_}
 use mathlib.Core.Logic.{_⊎_}
@@ -18,15 +18,20 @@ abbrev pub NoneApplies : List Refusal → Type 0
 NoneApplies [] = Unit {0}
 NoneApplies (row ∷ rows) = (row .applies ≡ false) × NoneApplies rows
 
--- the number is that of the first row that applies; the table's numbers rise, so it is "the smallest number that applies"
-abbrev pub FirstApplies : ℕ → List Refusal → Type 0
-FirstApplies number [] = ⊥
-FirstApplies number (row ∷ rows) =
-    ((row .applies ≡ true) × (number ≡ row .number)) ⊎ ((row .applies ≡ false) × FirstApplies number rows)
+-- a row with this number applies
+abbrev pub Applies : ℕ → List Refusal → Type 0
+Applies number [] = ⊥
+Applies number (row ∷ rows) = ((row .applies ≡ true) × (row .number ≡ number)) ⊎ Applies number rows
+
+-- "The smallest number that applies"
+pub record Smallest (number : ℕ) (rows : List Refusal) : Type 0 where
+  pub applies : Applies number rows
+  pub least : (other : ℕ) → Applies other rows → number ≤ other
 
 -- rows 2 to 13 for an event on a state
 abbrev pub rowsBefore : Selector → Event → List ℕ → List Refusal
-rowsBefore state event frame = earlyRows (state .time) (ethernetAt (state .inputs) (event .input)) event (readFrame frame)
+rowsBefore state event frame =
+    earlyRows (state .time) (ethernetAt (state .inputs) (event .input)) event (readFrame frame)
 
 -- rows 14 to 17 for an event on the state that a tick at its time leaves
 abbrev pub rowsAfter : Selector → Event → List Refusal
@@ -39,18 +44,20 @@ rowsAfter state event =
 -- what an event comes to, on any state
 pub record Demand1 (state : Selector) (event : Event) (frame : List ℕ) : Type 0 where
   -- one of three, always
-  pub one : ((number : ℕ) × FirstApplies number (rowsBefore state event frame)) ⊎
+  pub one : ((number : ℕ) × Smallest number (rowsBefore state event frame)) ⊎
       (NoneApplies (rowsBefore state event frame) ×
-      (((number : ℕ) × FirstApplies number (rowsAfter state event)) ⊎ NoneApplies (rowsAfter state event)))
+      (((number : ℕ) × Smallest number (rowsAfter state event)) ⊎ NoneApplies (rowsAfter state event)))
   -- "Numbers 1 to 13 leave the state, its time included"
-  pub before : (number : ℕ) → FirstApplies number (rowsBefore state event frame) → step state event frame ≡ stepped number state
+  pub before : (number : ℕ) → Smallest number (rowsBefore state event frame)
+      → step state event frame ≡ stepped number state
   -- "14 to 17 are judged after the tick and leave what a tick at that time leaves"
-  pub after : (number : ℕ) → NoneApplies (rowsBefore state event frame) → FirstApplies number (rowsAfter state event)
+  pub after : (number : ℕ) → NoneApplies (rowsBefore state event frame) → Smallest number (rowsAfter state event)
       → step state event frame ≡ stepped number (ticked state (event .time))
   -- otherwise the event is accepted and does what it says
   pub otherwise : NoneApplies (rowsBefore state event frame) → NoneApplies (rowsAfter state event)
       → step state event frame ≡
       stepped accepted (placed (ticked state (event .time)) (recordedEvent event (readFrame frame)))
-  -- the last row before the tick is one of 8 to 13 where it applies
+  -- the last row before the tick has one of the numbers 8 to 13 where it applies
   pub frames : (frameRefusal (event .kind) (readFrame frame) ≡ accepted) ⊎
-      ((frameLength ≤ frameRefusal (event .kind) (readFrame frame)) × (frameRefusal (event .kind) (readFrame frame) ≤ frameTlv))
+      ((frameLength ≤ frameRefusal (event .kind) (readFrame frame)) ×
+      (frameRefusal (event .kind) (readFrame frame) ≤ frameTlv))

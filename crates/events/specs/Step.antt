@@ -1,8 +1,7 @@
--- Document 01, "Choosing": "Each accepted event is first a tick at its time .. and then the event itself at that moment". Cited by
--- `src/lib.rt`.
--- Assumes nothing.
+-- Document 01, "Choosing": "Each accepted event is first a tick at its time .. and then the event itself at that
+-- moment". Cited by `src/lib.rt`. Assumes nothing.
 use Prim.Native.Nat.{ℕ, _%_}
-use mathlib.Core.Bool.{Bool, true, false, not, cond}
+use mathlib.Core.Bool.{Bool, false, not, cond}
 use mathlib.Core.List.{List, map}
 use lib.Dec.{eqb}
 use lib.ListN.{getD, set}
@@ -13,7 +12,6 @@ use Rattle.frame.specs.declared.FrameRead.{FrameRead}
 use Rattle.frame.specs.Read.{readFrame, codeOfRead}
 use Rattle.input.specs.declared.Input.{Input}
 use Rattle.input.specs.Record.{freshInput, settle, afterEvent}
-use Rattle.choice.specs.declared.Candidate.{Candidate}
 use Rattle.decision.specs.Choices.{commanded}
 use Rattle.selector.specs.declared.Selector.{Selector}
 use Rattle.selector.specs.State.{candidatesOf, decided, ticked}
@@ -84,7 +82,8 @@ abbrev pub lateNumber : Selector → Event → ℕ
 lateNumber state event =
     lateRefusal (candidatesOf (state .inputs) (state .mode)) (state .switch) (event .kind) (event .input)
 
--- "Numbers 1 to 13 leave the state, its time included. 14 to 17 are judged after the tick and leave what a tick at that time leaves."
+-- "Numbers 1 to 13 leave the state, its time included. 14 to 17 are judged after the tick and leave what a tick at that
+-- time leaves."
 unfoldable pub stepRead : Selector → Event → FrameRead → Stepped
 stepRead state event read =
     cond (not (eqb (earlyNumber state event read) accepted)) (stepped (earlyNumber state event read) state)

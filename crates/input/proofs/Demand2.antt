@@ -1,24 +1,22 @@
 -- DEMAND 2 for one input. No premise but that the times of the recorded events do not fall. Assumes nothing.
-use Prim.Native.Nat.{ℕ, zero, suc, _+_, _-_, _*_, _≤_, _<_}
-use mathlib.Core.Bool.{Bool, true, false, not, _&&_, _||_, cond, and-false, true≢false, false≢true}
-use mathlib.Core.List.{List, [], _∷_}
+use Prim.Native.Nat.{ℕ, _+_, _-_, _≤_}
+use mathlib.Core.Bool.{Bool, false}
+use mathlib.Core.List.{[], _∷_}
 use mathlib.Core.Path.{_≡_, refl, sym, _∙_, ap, subst}
 use native.Mathlib.Omega.{arith}
 use lib.Dec.{eqb}
 use Rattle.numbers.specs.declared.Event.{Event}
-use Rattle.numbers.specs.declared.Quality.{Quality}
-use Rattle.numbers.specs.Quality.{failed, isFailed}
-use Rattle.numbers.specs.Kind.{kindClearWait, kindQualityMode}
+use Rattle.numbers.specs.Quality.{isFailed}
+use Rattle.numbers.specs.Kind.{kindClearWait}
 use Rattle.run.specs.declared.Forecast.{Forecast}
 use Rattle.run.specs.declared.Run.{Run}
-use Rattle.run.specs.Moments.{Moment, Passed, eachMillisecond}
-use Rattle.run.specs.Passed.{passed}
+use Rattle.run.specs.Moments.{Moment, eachMillisecond}
 use Rattle.run.specs.Run.{atMoment, broughtTo, passedQuality}
 use Rattle.run.proofs.Laws.{byBool}
 use Rattle.run.proofs.Kept.{taken, kept, passed-defined, atMoment-taken, Settled, broughtTo-settled, atMoment-settled, settled-atMoment, settled-fresh, kept-each, settled-broughtTo, broughtTo-broughtTo}
 use Rattle.run.proofs.Exact.{passed-unique, passed-exact}
 use Rattle.input.specs.declared.Input.{Input}
-use Rattle.input.specs.Recorded.{tickEvent, History, isOn, lastArgument, modeOn, timeOf, momentOf, moments, momentsUntil, PassedAt, passedAt, Ordered}
+use Rattle.input.specs.Recorded.{tickEvent, History, isOn, lastArgument, modeOn, timeOf, momentOf, moments, momentsUntil, passedAt, Ordered}
 use Rattle.input.specs.Record.{heardAfter, settingsAfter, forecast, withRun, settle, tick, afterEvent, passedOf, takes, recordAfter}
 use Rattle.input.specs.Demand2.{PassesWhatIsRecorded, PassesAtOnce, TwoPieces, TickAddsNothing}
 use Rattle.input.proofs.Recalled.{raw-recalled, moment-recalled, raw-fresh}
@@ -29,7 +27,8 @@ forecastAfter input history = forecast (recordAfter input history) (modeOn histo
 
 -- ---- the run kept is that of the moments
 
-pub settled-moments : (input : ℕ) (history : History) → Settled (forecastAfter input history) (kept (moments input history)) (timeOf history)
+pub settled-moments : (input : ℕ) (history : History)
+    → Settled (forecastAfter input history) (kept (moments input history)) (timeOf history)
 unfolding kept moments
 settled-moments input [] = settled-fresh (forecastAfter input []) (ap isFailed (sym (raw-recalled input [] 0) ∙ raw-fresh input))
 settled-moments input (event ∷ earlier) =
@@ -55,11 +54,13 @@ unfolding takes afterEvent settle isOn forecast
 takes-run input event mode before = byBool (eqb (event .input) input) (λ e. rw e) (λ e. rw e)
 
 -- a tick brings the run to its time
-tick-run : (input : Input) (time : ℕ) (mode : Bool) → tick input time mode .run ≡ broughtTo (input .run) (forecast input mode) time
+tick-run : (input : Input) (time : ℕ) (mode : Bool)
+    → tick input time mode .run ≡ broughtTo (input .run) (forecast input mode) time
 unfolding tick
 tick-run input time mode = refl
 
-pub run-moments : (input : ℕ) (history : History) → Ordered history → recordAfter input history .run ≡ kept (moments input history)
+pub run-moments : (input : ℕ) (history : History) → Ordered history
+    → recordAfter input history .run ≡ kept (moments input history)
 unfolding recordAfter kept moments
 run-moments input [] ordered = refl
 run-moments input (event ∷ earlier) ordered =
@@ -143,7 +144,8 @@ takes-tick input history time ordered later =
 
 -- ---- what is shown
 
--- DEMAND 2: after any recorded events, and at any later time, the record passes the quality that they define, and no other is defined.
+-- DEMAND 2: after any recorded events, and at any later time, the record passes the quality that they define, and no
+-- other is defined.
 pub demand-2-passed-quality : (input : ℕ) (history : History) (time : ℕ) → Ordered history → timeOf history ≤ time
     → PassesWhatIsRecorded input history time
 unfolding passedAt
@@ -159,7 +161,8 @@ demand-2-passed-at-once input history ordered =
     record { passes = rw (passed-now input history ordered) (passed-exact (momentsUntil input history (timeOf history))) }
 
 -- DEMAND 2: time going by in two pieces equals one piece.
-pub demand-2-two-pieces : (input : ℕ) (history : History) (time later : ℕ) → Ordered history → timeOf history ≤ time → time ≤ later
+pub demand-2-two-pieces : (input : ℕ) (history : History) (time later : ℕ) → Ordered history → timeOf history ≤ time
+    → time ≤ later
     → TwoPieces input history time later
 unfolding tick forecast
 demand-2-two-pieces input history time later ordered i j =
@@ -168,7 +171,8 @@ demand-2-two-pieces input history time later ordered i j =
     (settled-record input history ordered))
 
 -- DEMAND 2: a tick in between changes no later passed quality.
-pub demand-2-tick-adds-nothing : (input : ℕ) (history : History) (time later : ℕ) → Ordered history → timeOf history ≤ time
+pub demand-2-tick-adds-nothing : (input : ℕ) (history : History) (time later : ℕ) → Ordered history
+    → timeOf history ≤ time
     → time ≤ later → TickAddsNothing input history time later
 unfolding lastArgument isOn
 demand-2-tick-adds-nothing input history time later ordered i j =

@@ -1,8 +1,7 @@
 -- The definitions of `specs/Record`, a law for each way through the function that meets it. Assumes nothing.
 use Prim.Native.Nat.{ℕ, _+_, _≤_, _<_}
-use mathlib.Core.Bool.{Bool, true, false, not, _&&_, _||_, cond}
-use mathlib.Core.Path.{_≡_, refl, sym, _∙_, ap}
-use lib.Dec.{eqb, ltb}
+use mathlib.Core.Bool.{Bool, true, false}
+use mathlib.Core.Path.{_≡_, _∙_}
 use borrow.Author.Tests.{lt-ltb, le-ltb, eq-eqb, ne-eqb}
 use Rattle.numbers.specs.declared.Quality.{Quality}
 use Rattle.numbers.specs.Quality.{notTold, failed, qualityOfCode}
@@ -79,7 +78,8 @@ module _ (code count : ℕ) (line : Quality) where
   unfolding lineAfter
   lineAfter-kept h = rw (lt-ltb _ _ h)
 
-  pub lineAfter-settled : (said : Quality) → said ≡ qualityOfCode code → reportsNeeded ≤ count → said ≡ lineAfter code count line
+  pub lineAfter-settled : (said : Quality) → said ≡ qualityOfCode code → reportsNeeded ≤ count
+      → said ≡ lineAfter code count line
   unfolding lineAfter
   lineAfter-settled said e h = rw (le-ltb _ _ h) e
 
@@ -137,8 +137,10 @@ module _ (heard : Heard) (fail : Bool) where
 pub ruleset heardAfter-signal-laws = (heardAfter-fails, heardAfter-fails-again, heardAfter-good)
 
 module _ (heard : Heard) (code : ℕ) where
-  pub heardAfter-code : (count : ℕ) (line : Quality) → heard .good ≡ true → count ≡ countAfter code (heard .code) (heard .count)
-      → line ≡ lineAfter code count (heard .line) → withCode heard line code count ≡ heardAfter heard kindLineCode code 0
+  pub heardAfter-code : (count : ℕ) (line : Quality) → heard .good ≡ true
+      → count ≡ countAfter code (heard .code) (heard .count)
+      → line ≡ lineAfter code count (heard .line)
+      → withCode heard line code count ≡ heardAfter heard kindLineCode code 0
   unfolding heardAfter
   heardAfter-code count line g c l = rw (l, c, g)
 
@@ -216,7 +218,8 @@ module _ (heard : Heard) (settings : Settings) (mode : Bool) where
   unfolding canExpire
   canExpire-off g m = rw (g, m)
 
-  pub canExpire-fixed : heard .good ≡ true → mode ≡ true → (settings .fixed .0 ≡ 0 → ⊥) → false ≡ canExpire heard settings mode
+  pub canExpire-fixed : heard .good ≡ true → mode ≡ true → (settings .fixed .0 ≡ 0 → ⊥)
+      → false ≡ canExpire heard settings mode
   unfolding canExpire
   canExpire-fixed g m f = rw (g, m, ne-eqb _ _ f)
 

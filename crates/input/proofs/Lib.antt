@@ -1,4 +1,5 @@
--- `Laws`: the code's definitions, way by way. `Recalled`: what the record keeps. `Demand2`: what it passes. `Cases`: document 01's replay.
+-- `Laws`: the code's definitions, way by way. `Recalled`: what the record keeps. `Demand2`: what it passes. `Cases`:
+-- document 01's replay.
 pub mod Laws
 pub mod Recalled
 pub mod Demand2

@@ -1,25 +1,23 @@
 -- What the record keeps of settings and reports is what the recorded events say. Assumes nothing.
-use Prim.Native.Nat.{ℕ, zero, suc, _+_, _-_, _*_, _≤_, _<_, min}
-use mathlib.Core.Bool.{Bool, true, false, not, _&&_, _||_, cond, and-false, true≢false, false≢true}
+use Prim.Native.Nat.{ℕ, suc, _+_, _-_, _≤_, _<_, min}
+use mathlib.Core.Bool.{Bool, true, false, not, _&&_, _||_, cond}
 use mathlib.Core.List.{List, [], _∷_}
-use mathlib.Core.Path.{_≡_, refl, sym, _∙_, ap, fun-ext}
+use mathlib.Core.Path.{_≡_, refl, fun-ext}
 use native.Mathlib.Omega.{arith}
 use lib.Dec.{leb, ltb, eqb}
-use borrow.Author.Tests.{ltb-true, ltb-false, leb-true, leb-false, eqb-true, lt-ltb, le-ltb, le-leb, lt-leb, eq-eqb, ne-eqb}
+use borrow.Author.Tests.{ltb-true, ltb-false, leb-true, leb-false, lt-ltb, le-ltb}
 use Rattle.numbers.specs.declared.Event.{Event}
 use Rattle.numbers.specs.declared.Priority.{Priority}
 use Rattle.numbers.specs.declared.Quality.{Quality}
-use Rattle.numbers.specs.Quality.{quality, notTold, failed, isFailed, qualityOfCode}
-use Rattle.numbers.specs.Inputs.{minute, freshHoldoff, freshWait, frameLife, reportsNeeded}
-use Rattle.numbers.specs.Kind.{kindSignal, kindFrame, kindLineCode, kindPriority, kindLockout, kindHoldoff, kindWait, kindFixedQuality, kindClearWait, kindQualityMode, kindSending, kindInputKind}
-use Rattle.run.specs.declared.Run.{Run}
+use Rattle.numbers.specs.Quality.{quality, notTold, failed, qualityOfCode}
+use Rattle.numbers.specs.Inputs.{freshWait, frameLife, reportsNeeded}
+use Rattle.numbers.specs.Kind.{kindSignal, kindFrame, kindLineCode, kindPriority, kindLockout, kindHoldoff, kindWait, kindFixedQuality, kindSending, kindInputKind}
 use Rattle.run.specs.Run.{rawAt, isExpired, momentAt}
 use Rattle.run.proofs.Laws.{byBool}
 use Rattle.input.specs.declared.Heard.{Heard}
 use Rattle.input.specs.declared.Settings.{Settings}
-use Rattle.input.specs.declared.Input.{Input}
-use Rattle.input.specs.Recorded.{History, isOn, lastArgument, modeOn, signalGood, isEthernet, priorityOf, isLockedOut, holdoffOf, waitOf, fixedOf, isSending, forgets, heard, isThird, lineQuality, frameQuality, rawQualityAt, momentOf}
-use Rattle.input.specs.Record.{forgotten, freshSettings, countAfter, lineAfter, heardAfter, settingsAfter, qualityNow, canExpire, forecast, withRun, settle, tick, afterEvent, takes, recordAfter}
+use Rattle.input.specs.Recorded.{History, isOn, lastArgument, modeOn, signalGood, isEthernet, priorityOf, isLockedOut, holdoffOf, waitOf, fixedOf, isSending, heard, isThird, lineQuality, frameQuality, rawQualityAt, momentOf}
+use Rattle.input.specs.Record.{forgotten, freshSettings, countAfter, lineAfter, heardAfter, settingsAfter, qualityNow, canExpire, forecast, settle, tick, afterEvent, takes, recordAfter}
 
 -- ---- what the reports heard come to
 

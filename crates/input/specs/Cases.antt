@@ -13,8 +13,8 @@ use Rattle.input.specs.Recorded.{History, timeOf, passedAt}
 abbrev pub at : ℕ → ℕ → ℕ → ℕ → Event
 at time kind input argument = record { kind = kind; time = time; input = input; argument = argument }
 
--- what has been recorded after each line, the first line first. Line 7 is refused with 16, so it records a tick; line 8 is refused with
--- 4, so it records nothing.
+-- what has been recorded after each line, the first line first. Line 7 is refused with 16, so it records a tick; line 8
+-- is refused with 4, so it records nothing.
 abbrev pub after1 : History
 after1 = at 0 kindPriority 3 1 ∷ []
 

@@ -1,13 +1,14 @@
 -- Demand 2 for one input: the record passes what the recorded events define, and ticks add nothing.
 -- Assumes nothing.
-use Prim.Native.Nat.{ℕ, _≤_}
+use Prim.Native.Nat.{ℕ}
 use mathlib.Core.List.{_∷_}
 use mathlib.Core.Path.{_≡_}
 use Rattle.numbers.specs.declared.Quality.{Quality}
 use Rattle.input.specs.Recorded.{History, tickEvent, modeOn, timeOf, PassedAt, passedAt}
 use Rattle.input.specs.Record.{tick, passedOf, recordAfter}
 
--- after the recorded events, brought to a time, the record passes what document 01 says, and document 01 says no other quality
+-- after the recorded events, brought to a time, the record passes what document 01 says, and document 01 says no other
+-- quality
 pub record PassesWhatIsRecorded (input : ℕ) (history : History) (time : ℕ) : Type 0 where
   pub passes : PassedAt input history time (passedOf (tick (recordAfter input history) time (modeOn history)))
   pub only : (quality : Quality) → PassedAt input history time quality
@@ -25,4 +26,5 @@ TwoPieces input history time later =
 
 -- a tick in between changes no later passed quality
 abbrev pub TickAddsNothing : ℕ → History → ℕ → ℕ → Type 0
-TickAddsNothing input history time later = passedAt input (tickEvent time ∷ history) later ≡ passedAt input history later
+TickAddsNothing input history time later =
+    passedAt input (tickEvent time ∷ history) later ≡ passedAt input history later

@@ -2,10 +2,9 @@
 -- Assumes nothing.
 use Prim.Native.Nat.{ℕ, _+_, _*_}
 use mathlib.Core.Bool.{Bool, true, false, not, _&&_, _||_, cond}
-use mathlib.Core.List.{List, [], _∷_}
+use mathlib.Core.List.{[], _∷_}
 use lib.Dec.{ltb, eqb}
 use Rattle.numbers.specs.declared.Event.{Event}
-use Rattle.numbers.specs.declared.Priority.{Priority}
 use Rattle.numbers.specs.declared.Quality.{Quality}
 use Rattle.numbers.specs.Quality.{quality, notTold, failed, qualityOfCode}
 use Rattle.numbers.specs.Inputs.{minute, freshHoldoff, freshWait, reportsNeeded}
@@ -80,7 +79,8 @@ settingsAfter settings kind argument =
       sending = cond (eqb kind kindSending) (not (eqb argument 0)) (settings .sending);
     }
 
--- "In this order: signal failing gives 7; quality mode off gives 0; a fixed quality gives itself; otherwise what was heard"
+-- "In this order: signal failing gives 7; quality mode off gives 0; a fixed quality gives itself; otherwise what was
+-- heard"
 unfoldable pub qualityNow : Heard → Settings → Bool → Quality
 qualityNow heard settings mode =
     cond (not (heard .good)) failed

@@ -1,9 +1,9 @@
--- Document 01, "The sixteen inputs", "Raw quality" and "Passed quality", by the recorded events alone: no timer and no state.
--- Assumes nothing.
-use Prim.Native.Nat.{ℕ, zero, suc, _+_, _-_, _*_, _≤_}
-use mathlib.Core.Bool.{Bool, true, false, not, _&&_, _||_, cond}
+-- Document 01, "The sixteen inputs", "Raw quality" and "Passed quality", by the recorded events alone: no timer and no
+-- state. Assumes nothing.
+use Prim.Native.Nat.{ℕ, _+_, _-_, _*_, _≤_}
+use mathlib.Core.Bool.{Bool, false, not, _&&_, _||_, cond}
 use mathlib.Core.List.{List, [], _∷_}
-use lib.Dec.{leb, ltb, eqb}
+use lib.Dec.{ltb, eqb}
 use Rattle.numbers.specs.declared.Event.{Event}
 use Rattle.numbers.specs.declared.Quality.{Quality}
 use Rattle.numbers.specs.Quality.{quality, notTold, failed, qualityOfCode}
@@ -12,7 +12,8 @@ use Rattle.numbers.specs.Kind.{kindSignal, kindFrame, kindLineCode, kindPriorit
 use Rattle.run.specs.Moments.{Moment, Moments, Passed, eachMillisecond}
 use Rattle.run.specs.Passed.{passed}
 
--- the recorded events, the latest first, with kind and argument as in the log; a frame's argument is the code that it carried
+-- the recorded events, the latest first, with kind and argument as in the log; a frame's argument is the code that it
+-- carried
 abbrev pub History : Type 0
 History = List Event
 
@@ -71,8 +72,8 @@ abbrev pub forgets : ℕ → Event → Bool → Bool
 forgets input event good =
     isOn input kindInputKind event || (isOn input kindSignal event && not (eqb (event .argument) 0) && good)
 
--- the reports of a kind that the input has recorded and not forgotten, the latest first; "While the signal fails, reports of codes
--- and frames are checked and accepted but not recorded"
+-- the reports of a kind that the input has recorded and not forgotten, the latest first; "While the signal fails,
+-- reports of codes and frames are checked and accepted but not recorded"
 unfoldable pub heard : ℕ → ℕ → History → List Event
 heard input kind [] = []
 heard input kind (event ∷ earlier) =
@@ -95,9 +96,11 @@ lineQuality (report ∷ earlier) = cond (isThird report earlier) (qualityOfCode 
 -- "Ethernet: the code of the last accepted frame, if it came less than 5,000 ms ago; otherwise 7"
 unfoldable pub frameQuality : List Event → ℕ → Quality
 frameQuality [] time = failed
-frameQuality (report ∷ earlier) time = cond (ltb time (report .time + frameLife)) (qualityOfCode (report .argument)) failed
+frameQuality (report ∷ earlier) time =
+    cond (ltb time (report .time + frameLife)) (qualityOfCode (report .argument)) failed
 
--- "In this order: signal failing gives 7; quality mode off gives 0; a fixed quality gives itself; otherwise what was heard"
+-- "In this order: signal failing gives 7; quality mode off gives 0; a fixed quality gives itself; otherwise what was
+-- heard"
 unfoldable pub rawQualityAt : ℕ → History → ℕ → Quality
 rawQualityAt input history time =
     cond (not (signalGood input history)) failed
@@ -106,7 +109,8 @@ rawQualityAt input history time =
     (cond (isEthernet input history) (frameQuality (heard input kindFrame history) time)
     (lineQuality (heard input kindLineCode history)))))
 
--- the moment at a time with these events recorded; `clears` where the last of them is a clear-wait on the input, at this moment
+-- the moment at a time with these events recorded; `clears` where the last of them is a clear-wait on the input, at
+-- this moment
 unfoldable pub momentOf : ℕ → History → Bool → ℕ → Moment
 momentOf input history clears time =
     record {
@@ -122,13 +126,14 @@ abbrev pub timeOf : History → ℕ
 timeOf [] = 0
 timeOf (event ∷ earlier) = event .time
 
--- all moments up to the last event: each millisecond since the event before, up to and with this event's, by the old events
--- ("an expired frame comes first"); then the event's own
+-- all moments up to the last event: each millisecond since the event before, up to and with this event's, by the old
+-- events ("an expired frame comes first"); then the event's own
 unfoldable pub moments : ℕ → History → Moments
 moments input [] = []
 moments input (event ∷ earlier) =
     momentOf input (event ∷ earlier) (isOn input kindClearWait event) (event .time) ∷
-    eachMillisecond (momentOf input earlier false) (timeOf earlier) (event .time - timeOf earlier) (moments input earlier)
+    eachMillisecond (momentOf input earlier false) (timeOf earlier) (event .time - timeOf earlier)
+    (moments input earlier)
 
 -- all moments up to a time, if no further event comes
 unfoldable pub momentsUntil : ℕ → History → ℕ → Moments

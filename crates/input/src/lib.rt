@@ -1,8 +1,9 @@
-// One input: its settings, what it hears, and its run. Document 01, "The sixteen inputs" and "Raw quality".
+// One input: its settings, what it hears, and its run. Document 01, "The sixteen inputs" and "Raw
+// quality".
 //
-// An event's method is told the time and the quality mode in force after the event, takes the event's own moment, and
-// hands the record back; `tick` brings it to a time at which no event has come yet. Every time and every setting is
-// safe, and no public function has a `requires`.
+// An event's method is told the time and the quality mode in force after the event, takes the
+// event's own moment, and hands the record back; `tick` brings it to a time at which no event has
+// come yet. Every time and every setting is safe, and no public function has a `requires`.
 use numbers::FAILED;
 use numbers::NOT_TOLD;
 use numbers::Priority;
@@ -27,8 +28,9 @@ const FRESH_WAIT: u8 = 5;
 // A minute in ms.
 const MINUTE: u64 = 60_000;
 
-// What was heard: when the last frame came and what it said; what the last code that came three times in a row said;
-// the last code with its count, three for any more; and whether the signal is good. 7 where nothing was heard.
+// What was heard: when the last frame came and what it said; what the last code that came three
+// times in a row said; the last code with its count, three for any more; and whether the signal is
+// good. 7 where nothing was heard.
 pub struct Heard {
     pub framed: u64,
     pub frame: Quality,
@@ -226,7 +228,8 @@ impl Input {
         }
     }
 
-    // An event's own moment taken, once the event has been heard; `clears` where it is a clear-wait on this input.
+    // An event's own moment taken, once the event has been heard; `clears` where it is a clear-wait
+    // on this input.
     pub fn settle(mut self, time: u64, mode: bool, clears: bool) -> Input
         ensures { λ answer. ⌜ answer ≡ settle self time mode clears ⌝ }
     {

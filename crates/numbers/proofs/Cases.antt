@@ -1,5 +1,5 @@
 -- The table of document 01, "Qualities and codes", by computation. Assumes nothing.
-use mathlib.Core.Path.{_≡_, refl}
+use mathlib.Core.Path.{refl}
 use Rattle.numbers.specs.Quality.{qualityOfCode, codeOfQuality}
 use Rattle.numbers.specs.Cases.{CodeTable}
 

@@ -4,7 +4,7 @@ use Prim.Native.Nat.{ℕ}
 use mathlib.Core.List.{List, [], _∷_, map}
 use mathlib.Core.Path.{_≡_}
 use Rattle.numbers.specs.declared.Quality.{Quality}
-use Rattle.numbers.specs.Quality.{quality, prc, ssuA, ssuB, sec, dnu, invalid, qualityOfCode, codeOfQuality}
+use Rattle.numbers.specs.Quality.{prc, ssuA, ssuB, sec, dnu, invalid, qualityOfCode, codeOfQuality}
 
 -- the sixteen codes, 0000 to 1111
 abbrev pub codes : List ℕ

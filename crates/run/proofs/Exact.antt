@@ -1,7 +1,8 @@
--- The statements of `specs/Moments` have one answer always, and it is the one that `specs/Passed` computes. Assumes nothing.
-use Prim.Native.Nat.{ℕ, zero, suc, _+_, _-_, _≤_, _<_}
-use mathlib.Core.Bool.{Bool, true, false, not, _&&_, _||_, cond, or-true, or-false, true≢false, false≢true}
-use mathlib.Core.List.{List, [], _∷_}
+-- The statements of `specs/Moments` have one answer always, and it is the one that `specs/Passed` computes. Assumes
+-- nothing.
+use Prim.Native.Nat.{ℕ, zero, suc, _+_, _-_, _≤_}
+use mathlib.Core.Bool.{Bool, true, false, not, _&&_, _||_, cond, or-true, true≢false, false≢true}
+use mathlib.Core.List.{[], _∷_}
 use mathlib.Core.Path.{_≡_, refl, sym, _∙_, ap, subst}
 use mathlib.Core.Logic.{_⊎_, inl, inr, ⊎-elim}
 use native.Mathlib.Omega.{arith}
@@ -9,7 +10,7 @@ use lib.Dec.{leb}
 use borrow.Author.Tests.{leb-true, leb-false, le-leb}
 use Rattle.numbers.specs.declared.Quality.{Quality}
 use Rattle.numbers.specs.Quality.{failed, isFailed}
-use Rattle.run.specs.Moments.{Moment, Moments, ago, isFresh, timeAt, holdoffAt, waitAt, clearsAt, rawQuality, fails, Began, Down, Up, Neither, LastDown, LastUp, BeforeRun, Passed}
+use Rattle.run.specs.Moments.{Moment, Moments, ago, isFresh, timeAt, rawQuality, fails, Began, Down, Up, Neither, LastDown, LastUp, BeforeRun, Passed}
 use Rattle.run.specs.Passed.{alike, runBegan, goodQuality, isDown, isUp, wasUp, passed}
 use Rattle.run.proofs.Laws.{byBool}
 
@@ -31,11 +32,13 @@ alike-false true g e = e
 alike-false false true e = refl
 alike-false false false e = sym e
 
-start-new : (moment : Moment) (moments : Moments) → fails moments ≡ not (isFailed (moment .raw)) → runBegan (moment ∷ moments) ≡ moment .time
+start-new : (moment : Moment) (moments : Moments) → fails moments ≡ not (isFailed (moment .raw))
+    → runBegan (moment ∷ moments) ≡ moment .time
 start-new moment moments x =
     ap (λ (b : Bool). cond b (runBegan moments) (moment .time)) (ap (λ (b : Bool). alike (isFailed (moment .raw)) b) x ∙ alike-not (isFailed (moment .raw)))
 
-start-old : (moment : Moment) (moments : Moments) → fails moments ≡ isFailed (moment .raw) → runBegan (moment ∷ moments) ≡ runBegan moments
+start-old : (moment : Moment) (moments : Moments) → fails moments ≡ isFailed (moment .raw)
+    → runBegan (moment ∷ moments) ≡ runBegan moments
 start-old moment moments x =
     ap (λ (b : Bool). cond b (runBegan moments) (moment .time)) (ap (λ (b : Bool). alike (isFailed (moment .raw)) b) x ∙ alike-self (isFailed (moment .raw)))
 
@@ -62,7 +65,8 @@ not-failed-good : (moments : Moments) → fails moments ≡ false → rawQuality
 not-failed-good [] f = absurd (true≢false f)
 not-failed-good (moment ∷ moments) f = rw f
 
-began-good : (moments : Moments) (n : ℕ) → Began moments n → fails moments ≡ true → isFresh (ago n moments) ≡ false → rawQuality (ago (suc n) moments) ≡ goodQuality moments
+began-good : (moments : Moments) (n : ℕ) → Began moments n → fails moments ≡ true → isFresh (ago n moments) ≡ false
+    → rawQuality (ago (suc n) moments) ≡ goodQuality moments
 unfolding ago
 began-good [] zero b f g = absurd (true≢false g)
 began-good [] (suc n) b f g = absurd (true≢false g)
@@ -73,7 +77,8 @@ began-good (moment ∷ moments) (suc n) b f g =
     rw f (began-good moments n (earlier moment moments n b) (e ∙ f) g)
 
 -- from the moment before, if the run is the alike
-later : (moment : Moment) (moments : Moments) (n : ℕ) → fails moments ≡ isFailed (moment .raw) → Began moments n → Began (moment ∷ moments) (suc n)
+later : (moment : Moment) (moments : Moments) (n : ℕ) → fails moments ≡ isFailed (moment .raw) → Began moments n
+    → Began (moment ∷ moments) (suc n)
 unfolding ago
 later moment moments n e b =
     record {
@@ -98,7 +103,8 @@ began-find (moment ∷ moments) = go (began-find moments) (alike (isFailed (mome
     all zero i = refl
     all (suc k) i = absurd (omega arith)
 
-    go : ((n : ℕ) × Began moments n) → (b : Bool) → alike (isFailed (moment .raw)) (fails moments) ≡ b → (n : ℕ) × Began (moment ∷ moments) n
+    go : ((n : ℕ) × Began moments n) → (b : Bool) → alike (isFailed (moment .raw)) (fails moments) ≡ b
+        → (n : ℕ) × Began (moment ∷ moments) n
     go w true e = (suc (w .0), later moment moments (w .0) (alike-true (isFailed (moment .raw)) (fails moments) e) (w .1))
     go w false e = (0, record { unbroken = all; first = inr (alike-false (isFailed (moment .raw)) (fails moments) e) })
 
@@ -170,7 +176,8 @@ neither-less : (moment : Moment) (moments : Moments) (n : ℕ) → Neither (mome
 unfolding ago
 neither-less moment moments n q k i = q (suc k) (omega arith)
 
-last-step : (moment : Moment) (moments : Moments) (n : ℕ) → Neither (moment ∷ moments) (suc n) → wasUp (moment ∷ moments) ≡ wasUp moments
+last-step : (moment : Moment) (moments : Moments) (n : ℕ) → Neither (moment ∷ moments) (suc n)
+    → wasUp (moment ∷ moments) ≡ wasUp moments
 unfolding ago
 last-step moment moments n q =
     let d : isDown (moment ∷ moments) ≡ false = is-false _ (λ x. (q 0 (omega arith)) .0 (true-down (moment ∷ moments) x)) in
@@ -199,7 +206,8 @@ up-last (moment ∷ moments) zero d q =
 up-last (moment ∷ moments) (suc n) d q = last-step moment moments n q ∙ up-last moments n d (neither-less moment moments n q)
 
 -- there is a last one, and it is as `wasUp` says
-neither-more : (moment : Moment) (moments : Moments) (n : ℕ) → isDown (moment ∷ moments) ≡ false → isUp (moment ∷ moments) ≡ false → Neither moments n → Neither (moment ∷ moments) (suc n)
+neither-more : (moment : Moment) (moments : Moments) (n : ℕ) → isDown (moment ∷ moments) ≡ false
+    → isUp (moment ∷ moments) ≡ false → Neither moments n → Neither (moment ∷ moments) (suc n)
 unfolding ago
 neither-more moment moments n x y q zero i = (λ d. false≢true (sym x ∙ down-true (moment ∷ moments) d), λ u. false≢true (sym y ∙ up-true (moment ∷ moments) u))
 neither-more moment moments n x y q (suc k) i = q k (omega arith)
@@ -212,7 +220,8 @@ unfolding ago
 find-last [] = inl (0, (inl refl, neither-none []))
 find-last (moment ∷ moments) = go (isDown (moment ∷ moments)) refl (isUp (moment ∷ moments)) refl (find-last moments)
   where
-    go : (a : Bool) → isDown (moment ∷ moments) ≡ a → (b : Bool) → isUp (moment ∷ moments) ≡ b → (LastDown moments ⊎ LastUp moments) → (LastDown (moment ∷ moments) ⊎ LastUp (moment ∷ moments))
+    go : (a : Bool) → isDown (moment ∷ moments) ≡ a → (b : Bool) → isUp (moment ∷ moments) ≡ b
+        → (LastDown moments ⊎ LastUp moments) → (LastDown (moment ∷ moments) ⊎ LastUp (moment ∷ moments))
     go true x b y w = inl (0, (true-down (moment ∷ moments) x, neither-none (moment ∷ moments)))
     go false x true y w = inr (0, (true-up (moment ∷ moments) y, neither-none (moment ∷ moments)))
     go false x false y (inl w) = inl (suc (w .0), (w .1 .0, neither-more moment moments (w .0) x y (w .1 .1)))

@@ -1,11 +1,12 @@
--- What the code keeps is what the moments gone by come to: one moment at a time, and any stretch with no event at once. Assumes nothing.
-use Prim.Native.Nat.{ℕ, zero, suc, _+_, _-_, _≤_, _<_}
-use mathlib.Core.Bool.{Bool, true, false, not, _&&_, _||_, cond, or-false, true≢false, false≢true}
-use mathlib.Core.List.{List, [], _∷_}
+-- What the code keeps is what the moments gone by come to: one moment at a time, and any stretch with no event at once.
+-- Assumes nothing.
+use Prim.Native.Nat.{ℕ, zero, suc, _+_, _-_, _≤_}
+use mathlib.Core.Bool.{Bool, true, false, not, _&&_, _||_, cond, true≢false, false≢true}
+use mathlib.Core.List.{[], _∷_}
 use mathlib.Core.Path.{_≡_, refl, sym, _∙_, ap, subst}
 use native.Mathlib.Omega.{arith}
 use native.Mathlib.Nat.{add-zero, add-suc}
-use lib.Dec.{leb, ltb, leb·suc-suc}
+use lib.Dec.{leb, leb·suc-suc}
 use borrow.Author.Tests.{leb-true, leb-false, le-leb, lt-leb}
 use Rattle.numbers.specs.declared.Quality.{Quality}
 use Rattle.numbers.specs.Quality.{failed, isFailed}
@@ -13,7 +14,7 @@ use Rattle.numbers.specs.Inputs.{frameLife}
 use Rattle.run.specs.declared.Forecast.{Forecast}
 use Rattle.run.specs.declared.Run.{Run}
 use Rattle.run.specs.Moments.{Moment, Moments, rawQuality, fails, eachMillisecond}
-use Rattle.run.specs.Passed.{alike, runBegan, goodQuality, isDown, isUp, wasUp, passed}
+use Rattle.run.specs.Passed.{alike, runBegan, goodQuality, wasUp, passed}
 use Rattle.run.specs.Run.{runOf, freshRun, isExpired, rawAt, momentAt, runStart, phase, lastGood, atMoment, upBefore, broughtTo, passedQuality}
 use Rattle.run.proofs.Laws.{byBool}
 
@@ -97,7 +98,8 @@ forecastOf framed holdoff wait quality expires =
     record { framed = framed; holdoff = holdoff; wait = wait; quality = quality; expires = expires }
 
 -- a timer that is judged each millisecond needs judging only at the last
-timer : (end time : ℕ) (x up : Bool) → cond (leb end (suc time)) x (cond (leb end time) x up) ≡ cond (leb end (suc time)) x up
+timer : (end time : ℕ) (x up : Bool)
+    → cond (leb end (suc time)) x (cond (leb end time) x up) ≡ cond (leb end (suc time)) x up
 timer end time x up =
     byBool (leb end (suc time))
     (λ e. rw e)
@@ -208,7 +210,8 @@ zero-any f h w q true s g false u time c =
     (λ e. rw e
     (ap (λ (b : Bool). runOf s g false b) (judged (leb (s + w) time) true u (λ k. c .waited refl (leb-true (s + w) time k)))))
 
-pub broughtTo-settled : (run : Run) (forecast : Forecast) (time : ℕ) → Settled forecast run time → broughtTo run forecast time ≡ run
+pub broughtTo-settled : (run : Run) (forecast : Forecast) (time : ℕ) → Settled forecast run time
+    → broughtTo run forecast time ≡ run
 broughtTo-settled run forecast time c =
     zero-any (forecast .framed) (forecast .holdoff) (forecast .wait) (forecast .quality) (forecast .expires) (run .start) (run .good)
     (run .failed)
@@ -220,7 +223,8 @@ good-raw : (test : Bool) (q : Quality) → isFailed (cond test failed q) ≡ fal
 good-raw true q e = absurd (true≢false e)
 good-raw false q e = refl
 
-rawAt-good : (forecast : Forecast) (time : ℕ) → isFailed (rawAt forecast time) ≡ false → rawAt forecast time ≡ forecast .quality
+rawAt-good : (forecast : Forecast) (time : ℕ) → isFailed (rawAt forecast time) ≡ false
+    → rawAt forecast time ≡ forecast .quality
 unfolding rawAt
 rawAt-good forecast time e = good-raw (isExpired forecast time) (forecast .quality) e
 
@@ -231,7 +235,8 @@ good-taken test good q e = rw e (good-raw test q e)
 heldOff-taken : (fails ended x up : Bool) → fails ≡ true → ended ≡ true → cond fails (cond ended false up) x ≡ false
 heldOff-taken fails ended x up e k = rw (e, k)
 
-waited-taken : (fails x clears ended up : Bool) → fails ≡ false → ended ≡ true → cond fails x (cond (clears || ended) true up) ≡ true
+waited-taken : (fails x clears ended up : Bool) → fails ≡ false → ended ≡ true
+    → cond fails x (cond (clears || ended) true up) ≡ true
 waited-taken fails x true ended up e k = rw e
 waited-taken fails x false ended up e k = rw (e, k)
 

@@ -1,9 +1,9 @@
 -- The definitions of `specs/Run`, a law for each way through the function that meets it. Assumes nothing.
 use Prim.Native.Nat.{ℕ, _+_, _-_, _≤_, _<_}
-use mathlib.Core.Bool.{Bool, true, false, _&&_, _||_, cond, false≢true}
-use mathlib.Core.Path.{_≡_, refl, sym, _∙_, ap}
+use mathlib.Core.Bool.{Bool, true, false, _&&_, false≢true}
+use mathlib.Core.Path.{_≡_, refl, sym, _∙_}
 use native.Mathlib.Omega.{arith}
-use lib.Dec.{leb, ltb}
+use lib.Dec.{leb}
 use mir.Val.{Fits}
 use mir.Syntax.{w64}
 use borrow.Author.Tests.{leb-true, leb-false, le-leb, lt-leb, lt-ltb, le-ltb}
@@ -138,11 +138,13 @@ pub ruleset isExpired-laws = (isExpired-frame, isExpired-never)
 pub ruleset rawAt-laws = (rawAt-expired, rawAt-counts)
 
 -- a frame that has expired did so at or before the time
-pub isExpired-end : (forecast : Forecast) (time : ℕ) → isExpired forecast time ≡ true → forecast .framed + frameLife ≤ time
+pub isExpired-end : (forecast : Forecast) (time : ℕ) → isExpired forecast time ≡ true
+    → forecast .framed + frameLife ≤ time
 unfolding isExpired
 isExpired-end forecast time e = leb-true _ _ (both (forecast .expires) e)
   where
-    both : (test : Bool) → (test && leb (forecast .framed + frameLife) time) ≡ true → leb (forecast .framed + frameLife) time ≡ true
+    both : (test : Bool) → (test && leb (forecast .framed + frameLife) time) ≡ true
+        → leb (forecast .framed + frameLife) time ≡ true
     both true x = x
     both false x = absurd (false≢true x)
 
@@ -160,7 +162,8 @@ module _ (run : Run) (forecast : Forecast) (time : ℕ) (up : Bool) where
   broughtTo-failed f q = rw (f, q)
 
   pub broughtTo-expired : (before expired : Bool) (end : ℕ) → run .failed ≡ false → expired ≡ isExpired forecast time
-      → expired ≡ true → end ≡ forecast .framed + frameLife → before ≡ upBefore (run .up) (run .start) (forecast .wait) end
+      → expired ≡ true → end ≡ forecast .framed + frameLife
+      → before ≡ upBefore (run .up) (run .start) (forecast .wait) end
       → up ≡ phase before true end forecast time false
       → runOf end (run .good) true up ≡ broughtTo run forecast time
   unfolding broughtTo

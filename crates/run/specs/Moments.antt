@@ -1,5 +1,5 @@
--- Document 01, "Passed quality", sentence by sentence, as statements about the moments of one input. Nothing here keeps a timer.
--- Assumes nothing.
+-- Document 01, "Passed quality", sentence by sentence, as statements about the moments of one input. Nothing here keeps
+-- a timer. Assumes nothing.
 use Prim.Native.Nat.{ℕ, zero, suc, _+_, _*_, _≤_, _<_}
 use mathlib.Core.Bool.{Bool, true, false, not}
 use mathlib.Core.List.{List, [], _∷_}
@@ -9,8 +9,8 @@ use Rattle.numbers.specs.declared.Quality.{Quality}
 use Rattle.numbers.specs.Quality.{failed, isFailed}
 use Rattle.numbers.specs.Inputs.{minute, freshHoldoff, freshWait}
 
--- what one input shows at one moment: the clock, its raw quality, the settings in force (in ms), and whether "the event of that
--- very moment is a clear-wait on it"
+-- what one input shows at one moment: the clock, its raw quality, the settings in force (in ms), and whether "the event
+-- of that very moment is a clear-wait on it"
 pub record Moment : Type 0 where
   pub time : ℕ
   pub raw : Quality
@@ -62,21 +62,23 @@ clearsAt (moment ∷ earlier) = moment .clears
 abbrev pub fails : Moments → Bool
 fails moments = isFailed (rawQuality moments)
 
--- "A run is the unbroken stretch for which raw quality has been failed (7), or has been not failed": the present run began
--- `count` moments ago, since all moments from there on are alike and the one before, if there is one, is not
+-- "A run is the unbroken stretch for which raw quality has been failed (7), or has been not failed": the present run
+-- began `count` moments ago, since all moments from there on are alike and the one before, if there is one, is not
 pub record Began (moments : Moments) (count : ℕ) : Type 0 where
   pub unbroken : (back : ℕ) → back ≤ count → fails (ago back moments) ≡ fails moments
   pub first : (isFresh (ago count moments) ≡ true) ⊎ (fails (ago (suc count) moments) ≡ not (fails moments))
 
 -- the present run began at least `length` ms ago
 abbrev pub BeganAtLeast : ℕ → Moments → Type 0
-BeganAtLeast length moments = (count : ℕ) × (Began moments count × (timeAt (ago count moments) + length ≤ timeAt moments))
+BeganAtLeast length moments =
+    (count : ℕ) × (Began moments count × (timeAt (ago count moments) + length ≤ timeAt moments))
 
 -- "A moment is down if the present run is failed and began at least the hold-off ago"; "Time 0, fresh, is down"
 abbrev pub Down : Moments → Type 0
 Down moments = (isFresh moments ≡ true) ⊎ ((fails moments ≡ true) × BeganAtLeast (holdoffAt moments) moments)
 
--- "up if the present run is not failed and either began at least the wait ago or the event of that very moment is a clear-wait"
+-- "up if the present run is not failed and either began at least the wait ago or the event of that very moment is a
+-- clear-wait"
 abbrev pub Up : Moments → Type 0
 Up moments = (fails moments ≡ false) × (BeganAtLeast (waitAt moments) moments ⊎ (clearsAt moments ≡ true))
 
@@ -95,10 +97,12 @@ LastUp moments = (count : ℕ) × (Up (ago count moments) × Neither moments cou
 -- "the last raw quality before that run"
 abbrev pub BeforeRun : Moments → Quality → Type 0
 BeforeRun moments quality =
-    (count : ℕ) × (Began moments count × (isFresh (ago count moments) ≡ false) × (quality ≡ rawQuality (ago (suc count) moments)))
+    (count : ℕ) × (Began moments count ×
+    (isFresh (ago count moments) ≡ false) ×
+    (quality ≡ rawQuality (ago (suc count) moments)))
 
--- "If the last down or up moment was down, the passed quality is 7. Otherwise it is the raw quality, or, in a failed run, the last
--- raw quality before that run."
+-- "If the last down or up moment was down, the passed quality is 7. Otherwise it is the raw quality, or, in a failed
+-- run, the last raw quality before that run."
 abbrev pub Passed : Moments → Quality → Type 0
 Passed moments quality =
     (LastDown moments × (quality ≡ failed)) ⊎

@@ -1,12 +1,12 @@
--- Document 01, "Passed quality", computed over the moments of one input. `proofs/Exact` shows that it is what `Moments` states.
--- Assumes nothing.
+-- Document 01, "Passed quality", computed over the moments of one input. `proofs/Exact` shows that it is what `Moments`
+-- states. Assumes nothing.
 use Prim.Native.Nat.{ℕ, _+_}
 use mathlib.Core.Bool.{Bool, true, false, not, _&&_, _||_, cond}
-use mathlib.Core.List.{List, [], _∷_}
+use mathlib.Core.List.{[], _∷_}
 use lib.Dec.{leb}
 use Rattle.numbers.specs.declared.Quality.{Quality}
 use Rattle.numbers.specs.Quality.{failed, isFailed}
-use Rattle.run.specs.Moments.{Moment, Moments, rawQuality, fails}
+use Rattle.run.specs.Moments.{Moments, rawQuality, fails}
 
 -- two tests give the same
 abbrev pub alike : Bool → Bool → Bool

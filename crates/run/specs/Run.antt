@@ -1,6 +1,5 @@
--- What the code keeps of the moments gone by, and how time and events change it. Cited by `src/lib.rt`; `proofs/Exact` and
--- `proofs/Kept` show that it passes what `Moments` states.
--- Assumes nothing.
+-- What the code keeps of the moments gone by, and how time and events change it. Cited by `src/lib.rt`; `proofs/Exact`
+-- and `proofs/Kept` show that it passes what `Moments` states. Assumes nothing.
 use Prim.Native.Nat.{ℕ, _+_}
 use mathlib.Core.Bool.{Bool, true, false, _&&_, _||_, cond}
 use lib.Dec.{leb, ltb}
@@ -30,7 +29,13 @@ rawAt forecast time = cond (isExpired forecast time) failed (forecast .quality)
 -- the moment at a time, as forecast; `clears` where its event is a clear-wait on the input
 abbrev pub momentAt : Forecast → Bool → ℕ → Moment
 momentAt forecast clears time =
-    record { time = time; raw = rawAt forecast time; holdoff = forecast .holdoff; wait = forecast .wait; clears = clears }
+    record {
+      time = time;
+      raw = rawAt forecast time;
+      holdoff = forecast .holdoff;
+      wait = forecast .wait;
+      clears = clears;
+    }
 
 -- the run goes on, or another begins at this moment
 unfoldable pub runStart : Bool → ℕ → Bool → ℕ → ℕ
@@ -61,11 +66,12 @@ upBefore up start wait end = cond (ltb (start + wait) end) true up
 -- the run after all milliseconds up to a time, in which no event comes
 unfoldable pub broughtTo : Run → Forecast → ℕ → Run
 broughtTo run forecast time =
+    let end = forecast .framed + frameLife in
+    let before = upBefore (run .up) (run .start) (forecast .wait) end in
     cond (run .failed)
     (runOf (run .start) (run .good) true (phase (run .up) true (run .start) forecast time false))
     (cond (isExpired forecast time)
-    (runOf (forecast .framed + frameLife) (run .good) true
-    (phase (upBefore (run .up) (run .start) (forecast .wait) (forecast .framed + frameLife)) true (forecast .framed + frameLife) forecast time false))
+    (runOf end (run .good) true (phase before true end forecast time false))
     (runOf (run .start) (run .good) false (phase (run .up) false (run .start) forecast time false)))
 
 -- what is passed on

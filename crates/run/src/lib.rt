@@ -1,8 +1,8 @@
 // One input's run and what is passed of its raw quality: document 01, "Passed quality".
 //
-// Nothing here keeps time or knows where raw quality comes from: each function is told the time, and a forecast
-// says how raw quality goes on if no event comes. No sum can wrap, for any time and any setting, and no public
-// function has a `requires`.
+// Nothing here keeps time or knows where raw quality comes from: each function is told the time,
+// and a forecast says how raw quality goes on if no event comes. No sum can wrap, for any time and
+// any setting, and no public function has a `requires`.
 use numbers::FAILED;
 use numbers::FRAME_LIFE;
 use numbers::Quality;
@@ -12,8 +12,8 @@ ghost use Prim.Native.Nat.{_+_};
 ghost use lib.Dec.{leb};
 ghost use Rattle.run.specs.Run.{freshRun, isExpired, rawAt, runStart, phase, lastGood, atMoment, upBefore, broughtTo, passedQuality};
 
-// Raw quality from here on, if no event comes, and the timers in force: `quality`, and failed from the frame's
-// 5,000th millisecond on where it `expires`. `holdoff` and `wait` are in ms.
+// Raw quality from here on, if no event comes, and the timers in force: `quality`, and failed from
+// the frame's 5,000th millisecond on where it `expires`. `holdoff` and `wait` are in ms.
 pub struct Forecast {
     pub framed: u64,
     pub holdoff: u64,
@@ -22,8 +22,8 @@ pub struct Forecast {
     pub expires: bool,
 }
 
-// The present run: since when, failed or not; the last raw quality that was not failed; and whether the last down
-// or up moment was up.
+// The present run: since when, failed or not; the last raw quality that was not failed; and whether
+// the last down or up moment was up.
 pub struct Run {
     pub start: u64,
     pub good: Quality,
@@ -42,7 +42,8 @@ fn has_elapsed(start: u64, length: u64, time: u64) -> bool
     }
 }
 
-// Whether the last down or up moment before `end` was up, where a run that is not failed lasts from `start` to `end`.
+// Whether the last down or up moment before `end` was up, where a run that is not failed lasts from
+// `start` to `end`.
 fn up_before(up: bool, start: u64, wait: u64, end: u64) -> bool
     ensures { λ answer. ⌜ answer ≡ upBefore up start wait end ⌝ }
 {
@@ -130,7 +131,8 @@ impl Run {
         }
     }
 
-    // The run once an event's own moment has been taken; `clears` where the event is a clear-wait on the input.
+    // The run once an event's own moment has been taken; `clears` where the event is a clear-wait
+    // on the input.
     pub fn at_moment(self, forecast: Forecast, time: u64, clears: bool) -> Run
         ensures { λ answer. ⌜ answer ≡ atMoment self forecast time clears ⌝ }
     {
@@ -148,8 +150,8 @@ impl Run {
         }
     }
 
-    // The run brought to a later time at which no event has come yet. A frame that expires on the way comes first in
-    // its millisecond, so a wait that would end just then has not ended.
+    // The run brought to a later time at which no event has come yet. A frame that expires on the
+    // way comes first in its millisecond, so a wait that would end just then has not ended.
     pub fn brought_to(self, forecast: Forecast, time: u64) -> Run
         ensures { λ answer. ⌜ answer ≡ broughtTo self forecast time ⌝ }
     {
@@ -183,8 +185,8 @@ impl Run {
         }
     }
 
-    // What is passed on: 7 if the last down or up moment was down; otherwise raw quality, or in a failed run the last
-    // raw quality before it. Both are the last one that was not failed.
+    // What is passed on: 7 if the last down or up moment was down; otherwise raw quality, or in a
+    // failed run the last raw quality before it. Both are the last one that was not failed.
     pub fn passed_quality(self) -> Quality
         ensures { λ answer. ⌜ answer ≡ passedQuality self ⌝ }
     {

@@ -1,7 +1,7 @@
--- A list whose first elements have been replaced by f of another's: what a loop that fills an array holds after some turns, for any
--- lists and any f. Assumes nothing.
+-- A list whose first elements have been replaced by f of another's: what a loop that fills an array holds after some
+-- turns, for any lists and any f. Assumes nothing.
 use Prim.Native.Nat.{ℕ, zero, suc, _<_, _≤_, _+_}
-use mathlib.Core.Path.{_≡_, refl, ap, sym, _∙_}
+use mathlib.Core.Path.{_≡_, refl, ap, _∙_}
 use mathlib.Core.List.{List, [], _∷_, map}
 use native.Mathlib.Omega.{arith}
 use native.Mathlib.Numerals.{add-one}
@@ -35,7 +35,8 @@ module _ {A B : Type 0} (f : A → B) where
       ap (λ (rest : List B). f x ∷ rest) (filled-all count from into (omega arith) (omega arith))
 
   -- a turn of the loop, and its end, in the form in which they are asked
-  pub filled-turn : (size count : ℕ) (from : List A) (into now : List B) (d : A) (result : B) → now ≡ filled count from into
+  pub filled-turn : (size count : ℕ) (from : List A) (into now : List B) (d : A) (result : B)
+      → now ≡ filled count from into
       → result ≡ f (getD from count d) → length from ≡ size → length into ≡ size → count < size
       → set now count result ≡ filled (count + 1) from into
   filled-turn size count from into now d result e q h k lt =
@@ -43,7 +44,8 @@ module _ {A B : Type 0} (f : A → B) where
       let b : count < length into = omega arith in
       rw (q, e, add-one) (filled-set count from into d a b)
 
-  pub filled-done : (size count : ℕ) (from : List A) (into now : List B) → now ≡ filled count from into → length from ≡ size
+  pub filled-done : (size count : ℕ) (from : List A) (into now : List B) → now ≡ filled count from into
+      → length from ≡ size
       → length into ≡ size → count ≤ size → size ≤ count → now ≡ map f from
   filled-done size count from into now e h k p q = e ∙ filled-all count from into (omega arith) (omega arith)
 

@@ -1,13 +1,12 @@
 -- The definitions of `specs/`, a law for each way through the function that meets it. Assumes nothing.
 use Prim.Native.Nat.{ℕ, zero, suc, _+_, _≤_, _<_}
-use mathlib.Core.Bool.{Bool, true, false, not, _||_, cond}
-use mathlib.Core.List.{List, [], _∷_, map}
+use mathlib.Core.Bool.{Bool, true, false}
+use mathlib.Core.List.{List, [], _∷_}
 use mathlib.Core.Path.{_≡_, refl, sym, _∙_, ap}
 use native.Mathlib.Omega.{arith}
 use lib.Dec.{eqb}
 use lib.ListN.{length, getD, set}
 use Rattle.numbers.specs.declared.InputNumber.{InputNumber}
-use Rattle.numbers.specs.declared.Quality.{Quality}
 use Rattle.numbers.specs.Quality.{notTold, sec, codeDnu}
 use Rattle.input.specs.declared.Input.{Input}
 use Rattle.input.specs.Record.{freshInput}
@@ -25,7 +24,8 @@ use Rattle.selector.specs.Answer.{noInput, freeRun, holdover, locked, ma
 -- ---- getD
 
 -- inside a list the default does not matter
-pub getD-any : {A : Type 0} (list : List A) (number : ℕ) (d other : A) → number < length list → getD list number d ≡ getD list number other
+pub getD-any : {A : Type 0} (list : List A) (number : ℕ) (d other : A) → number < length list
+    → getD list number d ≡ getD list number other
 getD-any [] number d other h = absurd (omega arith)
 getD-any (x ∷ list) zero d other h = refl
 getD-any (x ∷ list) (suc number) d other h = getD-any list number d other (omega arith)
@@ -37,10 +37,12 @@ getD-past (x ∷ list) zero d h = absurd (omega arith)
 getD-past (x ∷ list) (suc number) d h = getD-past list number d (omega arith)
 
 module _ (inputs : List Input) (number : ℕ) where
-  pub inputAt-inside : (zeroed : Input) → number < 16 → length inputs ≡ 16 → getD inputs number zeroed ≡ getD inputs number freshInput
+  pub inputAt-inside : (zeroed : Input) → number < 16 → length inputs ≡ 16
+      → getD inputs number zeroed ≡ getD inputs number freshInput
   inputAt-inside zeroed h k = let m : number < length inputs = omega arith in getD-any inputs number zeroed freshInput m
 
-  pub inputAt-past : (found : Input) → 16 ≤ number → length inputs ≡ 16 → found ≡ freshInput → found ≡ getD inputs number freshInput
+  pub inputAt-past : (found : Input) → 16 ≤ number → length inputs ≡ 16 → found ≡ freshInput
+      → found ≡ getD inputs number freshInput
   inputAt-past found h k e = let m : length inputs ≤ number = omega arith in e ∙ sym (getD-past inputs number freshInput m)
 
 pub ruleset inputAt-laws = (inputAt-inside, inputAt-past)
@@ -71,14 +73,18 @@ module _ (inputs : List Input) (mode : Bool) (switch : Switch) where
   unfolding switchFails
   switchFails-forced on s = rw s
 
-  pub switchFails-manual : (on : InputNumber) (input : Input) (candidate : Candidate) (able : Bool) → switch ≡ W.Manual on
-      → input ≡ getD inputs (on .0) freshInput → candidate ≡ candidateFor mode input → able ≡ isEligible candidate → able ≡ true
+  pub switchFails-manual : (on : InputNumber) (input : Input) (candidate : Candidate) (able : Bool)
+      → switch ≡ W.Manual on
+      → input ≡ getD inputs (on .0) freshInput → candidate ≡ candidateFor mode input → able ≡ isEligible candidate
+      → able ≡ true
       → false ≡ switchFails inputs mode switch
   unfolding switchFails
   switchFails-manual on input candidate able s i c a t = rw (s, ← i, ← c, ← a, t)
 
-  pub switchFails-ineligible : (on : InputNumber) (input : Input) (candidate : Candidate) (able : Bool) → switch ≡ W.Manual on
-      → input ≡ getD inputs (on .0) freshInput → candidate ≡ candidateFor mode input → able ≡ isEligible candidate → able ≡ false
+  pub switchFails-ineligible : (on : InputNumber) (input : Input) (candidate : Candidate) (able : Bool)
+      → switch ≡ W.Manual on
+      → input ≡ getD inputs (on .0) freshInput → candidate ≡ candidateFor mode input → able ≡ isEligible candidate
+      → able ≡ false
       → true ≡ switchFails inputs mode switch
   unfolding switchFails
   switchFails-ineligible on input candidate able s i c a t = rw (s, ← i, ← c, ← a, t)
@@ -96,11 +102,13 @@ module _ (fails isClockLocked held : Bool) where
   unfolding clockState
   clockState-locked f l = rw (f, l)
 
-  pub clockState-holdover : fails ≡ false → isClockLocked ≡ false → held ≡ true → holdover ≡ clockState fails isClockLocked held
+  pub clockState-holdover : fails ≡ false → isClockLocked ≡ false → held ≡ true
+      → holdover ≡ clockState fails isClockLocked held
   unfolding clockState
   clockState-holdover f l h = rw (f, l, h)
 
-  pub clockState-free : fails ≡ false → isClockLocked ≡ false → held ≡ false → freeRun ≡ clockState fails isClockLocked held
+  pub clockState-free : fails ≡ false → isClockLocked ≡ false → held ≡ false
+      → freeRun ≡ clockState fails isClockLocked held
   unfolding clockState
   clockState-free f l h = rw (f, l, h)
 
@@ -130,11 +138,13 @@ module _ (mode sending isSelected : Bool) (code : ℕ) where
   unfolding outgoingCode
   outgoingCode-silent m s = rw (m, s)
 
-  pub outgoingCode-selected : mode ≡ true → sending ≡ true → isSelected ≡ true → codeDnu ≡ outgoingCode mode sending isSelected code
+  pub outgoingCode-selected : mode ≡ true → sending ≡ true → isSelected ≡ true
+      → codeDnu ≡ outgoingCode mode sending isSelected code
   unfolding outgoingCode
   outgoingCode-selected m s i = rw (m, s, i)
 
-  pub outgoingCode-told : mode ≡ true → sending ≡ true → isSelected ≡ false → code ≡ outgoingCode mode sending isSelected code
+  pub outgoingCode-told : mode ≡ true → sending ≡ true → isSelected ≡ false
+      → code ≡ outgoingCode mode sending isSelected code
   unfolding outgoingCode
   outgoingCode-told m s i = rw (m, s, i)
 
@@ -146,7 +156,8 @@ pub selectedNumber-nothing : (selection : Selection) → selection ≡ S.Nothing
 unfolding selectedNumber
 selectedNumber-nothing selection s = rw s
 
-pub selectedNumber-at : (selection : Selection) (number : InputNumber) → selection ≡ S.At number → number .0 ≡ selectedNumber selection
+pub selectedNumber-at : (selection : Selection) (number : InputNumber) → selection ≡ S.At number
+    → number .0 ≡ selectedNumber selection
 unfolding selectedNumber
 selectedNumber-at selection number s = rw s
 
@@ -186,8 +197,10 @@ pub ruleset switchInput-laws = (switchInput-nothing, switchInput-forced, switchI
 -- a turn of the loop over the ports
 pub codeFor-turn : (inputs : List Input) (mode : Bool) (selected code port : ℕ) (into now : List ℕ) (told : ℕ) (zeroed : Input)
     → now ≡ filled (codeFor inputs mode selected code) port ports into
-    → told ≡ outgoingCode mode (getD inputs port zeroed .settings .sending) (eqb selected port) code → length inputs ≡ 16
-    → length into ≡ 16 → port < 16 → set now port told ≡ filled (codeFor inputs mode selected code) (port + 1) ports into
+    → told ≡ outgoingCode mode (getD inputs port zeroed .settings .sending) (eqb selected port) code
+    → length inputs ≡ 16
+    → length into ≡ 16 → port < 16
+    → set now port told ≡ filled (codeFor inputs mode selected code) (port + 1) ports into
 unfolding codeFor
 codeFor-turn inputs mode selected code port into now told zeroed e o h k lt =
     let m : port < length inputs = omega arith in

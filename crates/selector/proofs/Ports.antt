@@ -1,8 +1,8 @@
 -- The sixteen ports as a list of their own numbers. Assumes nothing.
-use Prim.Native.Nat.{ℕ, zero, suc, _+_, _≤_, _<_}
-use mathlib.Core.Bool.{Bool, true, false, cond}
+use Prim.Native.Nat.{ℕ, zero, suc, _+_, _<_}
+use mathlib.Core.Bool.{true, false, cond}
 use mathlib.Core.List.{List, [], _∷_, map}
-use mathlib.Core.Path.{_≡_, refl, sym, _∙_, ap}
+use mathlib.Core.Path.{_≡_, refl, _∙_, ap}
 use native.Mathlib.Omega.{arith}
 use lib.Dec.{eqb}
 use lib.ListN.{getD, set}
@@ -32,7 +32,8 @@ module _ {A : Type 0} (f : ℕ → A) (x : A) where
   abbrev pub butAt : ℕ → ℕ → A
   butAt place number = cond (eqb number place) x (f number)
 
-  map-later : (first count place : ℕ) → place < first → map f (numbersFrom first count) ≡ map (butAt place) (numbersFrom first count)
+  map-later : (first count place : ℕ) → place < first
+      → map f (numbersFrom first count) ≡ map (butAt place) (numbersFrom first count)
   unfolding numbersFrom
   map-later first zero place h = refl
   map-later first (suc count) place h =

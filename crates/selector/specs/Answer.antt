@@ -1,7 +1,7 @@
--- Document 01, "Choosing" on clock state, clock quality and outgoing code, and the answer line of "The event log". Cited by `src/lib.rt`.
--- Assumes nothing.
+-- Document 01, "Choosing" on clock state, clock quality and outgoing code, and the answer line of "The event log".
+-- Cited by `src/lib.rt`. Assumes nothing.
 use Prim.Native.Nat.{ℕ}
-use mathlib.Core.Bool.{Bool, true, false, not, _||_, cond}
+use mathlib.Core.Bool.{Bool, false, not, _||_, cond}
 use mathlib.Core.List.{List, [], _∷_, map}
 use lib.Dec.{eqb}
 use lib.ListN.{getD}
@@ -54,8 +54,8 @@ switchFails inputs mode W.Nothing = false
 switchFails inputs mode (W.Forced on) = false
 switchFails inputs mode (W.Manual on) = not (isEligible (candidateAt inputs mode (on .0)))
 
--- "03 .. should a manual switch be found standing on an ineligible input"; "02 locked if an input is selected and its passed
--- quality is usable ..; otherwise 01 holdover if it was locked after any earlier choice, 00 free run if not"
+-- "03 .. should a manual switch be found standing on an ineligible input"; "02 locked if an input is selected and its
+-- passed quality is usable ..; otherwise 01 holdover if it was locked after any earlier choice, 00 free run if not"
 unfoldable pub clockState : Bool → Bool → Bool → ℕ
 clockState fails isClockLocked held =
     cond fails manualIneligible
@@ -138,4 +138,6 @@ codeFor inputs mode selected code port =
 -- "Outgoing code, for each of the sixteen ports"
 unfoldable pub outgoingCodes : Selector → List ℕ
 outgoingCodes state =
-    map (codeFor (state .inputs) (state .mode) (selectedNumber (state .selection)) (codeOfQuality (qualityOf state))) ports
+    map
+    (codeFor (state .inputs) (state .mode) (selectedNumber (state .selection)) (codeOfQuality (qualityOf state)))
+    ports

@@ -1,8 +1,8 @@
--- Document 01, "The sixteen inputs" and "Choosing": the state, and what a choice and a tick make of it. Cited by `src/lib.rt`.
--- Assumes nothing.
+-- Document 01, "The sixteen inputs" and "Choosing": the state, and what a choice and a tick make of it. Cited by
+-- `src/lib.rt`. Assumes nothing.
 use Prim.Native.Nat.{ℕ}
 use mathlib.Core.Bool.{Bool, true, false}
-use mathlib.Core.List.{List, [], _∷_, map}
+use mathlib.Core.List.{List, map}
 use lib.ListN.{replicate}
 use Rattle.numbers.specs.Inputs.{inputCount}
 use Rattle.input.specs.declared.Input.{Input}
@@ -50,7 +50,8 @@ withDecision state decision =
 -- "the switch judged, the choice made"
 unfoldable pub decided : Selector → Selector
 decided state =
-    withDecision state (decide (candidatesOf (state .inputs) (state .mode)) (state .switch) (state .selection) (state .held))
+    withDecision state
+    (decide (candidatesOf (state .inputs) (state .mode)) (state .switch) (state .selection) (state .held))
 
 -- the state with all inputs brought to a time
 abbrev pub broughtTo : Selector → ℕ → Selector

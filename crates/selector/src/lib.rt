@@ -1,5 +1,5 @@
-// The selector's state, by value, what a tick makes of it, and what is answered of it. Document 01, "The sixteen
-// inputs", "Choosing" and the answer line of "The event log".
+// The selector's state, by value, what a tick makes of it, and what is answered of it. Document 01,
+// "The sixteen inputs", "Choosing" and the answer line of "The event log".
 //
 // No public function has a `requires`: a state with any numbers in it is answered for.
 use choice::Candidate;
@@ -44,8 +44,8 @@ pub const SWITCH_FORCED: u8 = 1;
 
 pub const SWITCH_MANUAL: u8 = 2;
 
-// The whole state: sixteen inputs beside time, switch and selection, the quality mode, and whether the clock has ever
-// been locked.
+// The whole state: sixteen inputs beside time, switch and selection, the quality mode, and whether
+// the clock has ever been locked.
 pub struct Selector {
     pub inputs: [Input; 16],
     pub time: u64,

@@ -7,27 +7,35 @@ use native.Mathlib.Omega.{arith}
 use native.Mathlib.Numerals.{add-one}
 use lib.Dec.{eqb, ltb}
 use lib.ListN.{length, getD, set}
-use borrow.Author.Tests.{eqb-true, eq-eqb, ne-eqb, le-leb, lt-leb, ltb-false, not-false}
+use lib.Seq.{set-getD}
+use borrow.Author.Tests.{eqb-true, eqb-false, eq-eqb, ne-eqb, le-leb, lt-leb, lt-ltb, ltb-true, ltb-false, not-false}
+use Rattle.numbers.specs.declared.Answer.{Answer}
 use Rattle.numbers.specs.declared.Event.{Event}
 use Rattle.numbers.specs.declared.Quality.{Quality}
-use Rattle.numbers.specs.Inputs.{frameLife}
+use Rattle.numbers.specs.Inputs.{frameLife, inputCount}
 use Rattle.numbers.specs.Kind.{kindOf, rowOf, isInputOut, kindForced, kindManual, kindClearSwitch, kindQualityMode, kindTick}
 use Rattle.numbers.specs.Refusal.{accepted}
 use Rattle.frame.specs.declared.FrameRead.{FrameRead}
 use Rattle.run.specs.declared.Forecast.{Forecast}
 use Rattle.run.specs.declared.Run.{Run}
+use Rattle.run.proofs.Laws.{byBool}
 use Rattle.input.specs.declared.Input.{Input}
 use Rattle.input.specs.Record.{freshInput, passedOf}
 use Rattle.selector.specs.declared.Selector.{Selector}
 use Rattle.selector.specs.State.{decided}
-use Rattle.selector.proofs.Laws.{getD-any, getD-past}
-use Rattle.events.specs.Refusals.{earlyRows, earlyRefusal, ethernetAt}
+use Rattle.selector.specs.Answer.{answerOf}
+use Rattle.selector.proofs.Laws.{getD-any}
+use Rattle.events.specs.Refusals.{firstThatApplies, earlyRows, earlyRefusal}
 use Rattle.events.specs.Step.{inputAfter, recordedArgument, earlyNumber}
 use Rattle.events.specs.Demand1.{NoneApplies}
 use Rattle.events.proofs.Refused.{early-none}
+use Rattle.watch.specs.declared.Left.{Left}
+use Rattle.watch.specs.declared.Left.the-variants.{Nothing, Choice, Service}
+use Rattle.watch.specs.declared.Own.{Own}
 use Rattle.watch.specs.declared.Watch.{Watch}
 use Rattle.watch.specs.Due.{never, lesser, sumOrNever, waitDue, expiryDue, runDue, dueOf, dueAmong, dueOfAll}
-use Rattle.watch.specs.Watch.{InputCount, watchOf, commands, isServed, ranksAlike, movedTo, ownBefore, ownAfter, ownTaken, quickState, quickDue, servedWatch, watchStep}
+use Rattle.watch.specs.Watch.{watchOf, numbered, commands, isServed, ranksAlike, movedTo, ownBefore, ownAfter, ownTaken, quickState, quickDue, quickAnswer, servedWatch, watchStep}
+use Rattle.watch.specs.Own.{OwnPlace, ownOf, ownTake, ownStep, completed}
 
 -- ---- lesser, sumOrNever
 
@@ -201,11 +209,21 @@ module _ (time : ℕ) (ethernet : Bool) (event : Event) (read : FrameRead)
       go true e = omega (arith, eqb-true (event .input) 0 (not-false _ e))
       go false e = omega (arith, ltb-false 15 (event .input) e)
 
+-- an event with no input of the sixteen is refused before its input's kind is looked at
+pub early-outside : (time : ℕ) (one other : Bool) (event : Event) (read : FrameRead) → inputCount ≤ event .input
+    → earlyRefusal time one event read ≡ earlyRefusal time other event read
+unfolding earlyRefusal firstThatApplies isInputOut
+early-outside time one other event read out = rw (out-of-range (rowOf (kindOf (event .kind)) .inputless))
+  where
+    out-of-range : (inputless : Bool) → cond inputless (not (eqb (event .input) 0)) (ltb 15 (event .input)) ≡ true
+    out-of-range true = rw (ne-eqb (event .input) 0 (λ zero. omega arith))
+    out-of-range false = lt-ltb 15 (event .input) (omega arith)
+
 -- ---- watchStep
 
 module _ (watch : Watch) (event : Event) (read : FrameRead) where
   pub watchStep-refused : (early : ℕ) → early ≡ earlyNumber (watch .state) event read → (early ≡ accepted → ⊥)
-      → watchOf (watch .state) (watch .due) early ≡ watchStep watch event read
+      → watchOf (watch .state) (watch .due) (numbered early (watch .answer)) ≡ watchStep watch event read
   unfolding watchStep
   watchStep-refused early e n = rw (← e, ne-eqb _ _ n)
 
@@ -217,99 +235,162 @@ module _ (watch : Watch) (event : Event) (read : FrameRead) where
 
   pub watchStep-quick : earlyNumber (watch .state) event read ≡ accepted
       → isServed (watch .due) (event .kind) (event .time) ≡ false
-      → watchOf (quickState (watch .state) event read) (quickDue (watch .state) (watch .due) event read) accepted ≡
+      → watchOf (quickState (watch .state) event read) (quickDue (watch .state) (watch .due) event read)
+      (quickAnswer (watch .state) (watch .answer) event read) ≡
       watchStep watch event read
   unfolding watchStep
   watchStep-quick e s = rw (e, s)
 
--- the same as the code asks it: the event's own input is read from an array, whose element past its end is not told
-module _ (watch : Watch) (event : Event) (read : FrameRead) where
-  pub step-outside : (count early : ℕ) → InputCount (watch .state .inputs) count → count ≤ event .input
-      → early ≡ earlyRefusal (watch .state .time) false event read
-      → watchOf (watch .state) (watch .due) early ≡ watchStep watch event read
-  step-outside count early counts out e =
-      let past : length (watch .state .inputs) ≤ event .input = omega arith in
-      let none : ethernetAt (watch .state .inputs) (event .input) ≡ false =
-      ap (λ (input : Input). input .settings .ethernet)
-      (getD-past (watch .state .inputs) (event .input) freshInput past)
-      in
-      watchStep-refused watch event read early
-      (e ∙ ap (λ (ethernet : Bool). earlyRefusal (watch .state .time) ethernet event read) (sym none))
-      (λ z. omega (arith, taken-input (watch .state .time) false event read (sym e ∙ z)))
+-- ---- ownTake
 
-  module _ (zeroed : Input) (count : ℕ) (counts : InputCount (watch .state .inputs) count)
-      (inside : event .input < count) where
-    own : getD (watch .state .inputs) (event .input) zeroed ≡ ownBefore (watch .state) event
-    own =
-        let m : event .input < length (watch .state .inputs) = omega arith in
-        getD-any (watch .state .inputs) (event .input) zeroed freshInput m
+module _ (before : Input) (mode : Bool) (due : ℕ) (event : Event) (read : FrameRead) (argument : ℕ) (after : Input)
+    (own next : ℕ) (ranks : Bool)
+    (g : argument ≡ recordedArgument (event .kind) (event .argument) read)
+    (a : after ≡ inputAfter before (event .kind) argument (event .time) mode)
+    (o : own ≡ dueOf after mode) (d : next ≡ lesser due own) (r : ranks ≡ ranksAlike before after) where
+  pub ownTake-alike : ranks ≡ true
+      → ownOf after (event .time) next accepted Nothing ≡ ownTake before mode due event read
+  unfolding ownTake
+  ownTake-alike t = rw (d, o, ← g, ← a, ← r, t)
 
-    module _ (early : ℕ)
-        (e : early ≡
-        earlyRefusal (watch .state .time) (getD (watch .state .inputs) (event .input) zeroed .settings .ethernet) event
-        read) where
-      own-early : early ≡ earlyNumber (watch .state) event read
-      own-early =
-          e ∙ ap (λ (input : Input). earlyRefusal (watch .state .time) (input .settings .ethernet) event read) own
+  pub ownTake-choice : ranks ≡ false
+      → ownOf after (event .time) next accepted Choice ≡ ownTake before mode due event read
+  unfolding ownTake
+  ownTake-choice t = rw (d, o, ← g, ← a, ← r, t)
 
-      pub step-refused : (early ≡ accepted → ⊥) → watchOf (watch .state) (watch .due) early ≡ watchStep watch event read
-      step-refused n = watchStep-refused watch event read early own-early n
+pub ruleset ownTake-laws = (ownTake-alike, ownTake-choice)
 
-      module _ (z : early ≡ accepted) (serves : Bool)
-          (s : serves ≡ isServed (watch .due) (event .kind) (event .time)) where
-        pub step-served : (after : Watch) → serves ≡ true → after ≡ servedWatch (watch .state) event read
-            → after ≡ watchStep watch event read
-        step-served after y a = a ∙ watchStep-served watch event read (sym own-early ∙ z) (sym s ∙ y)
+-- ---- ownStep
 
-        module _ (y : serves ≡ false) where
-          quick :
-              watchOf (quickState (watch .state) event read) (quickDue (watch .state) (watch .due) event read)
-              accepted ≡
-              watchStep watch event read
-          quick = watchStep-quick watch event read (sym own-early ∙ z) (sym s ∙ y)
+module _ (before : Input) (mode : Bool) (time due : ℕ) (event : Event) (read : FrameRead) (early : ℕ)
+    (e : early ≡ earlyRefusal time (before .settings .ethernet) event read) where
+  pub ownStep-refused : (early ≡ accepted → ⊥)
+      → ownOf before time due early Nothing ≡ ownStep before mode time due event read
+  unfolding ownStep
+  ownStep-refused n = rw (← e, ne-eqb _ _ n)
 
-          pub step-tick : event .kind ≡ kindTick
-              → watchOf (movedTo (watch .state) (watch .state .inputs) (event .time)) (watch .due) accepted ≡
-              watchStep watch event read
-          unfolding quickState quickDue
-          step-tick t =
-              let k : eqb (event .kind) kindTick ≡ true = eq-eqb (event .kind) kindTick t in
-              (rw k) ∙ quick
+  module _ (z : early ≡ accepted) (serves : Bool) (s : serves ≡ isServed due (event .kind) (event .time)) where
+    pub ownStep-served : serves ≡ true
+        → ownOf before time due accepted Service ≡ ownStep before mode time due event read
+    unfolding ownStep
+    ownStep-served y = rw (← e, z, ← s, y)
 
-          module _ (n : event .kind ≡ kindTick → ⊥) (argument : ℕ) (after : Input) (ownDue due : ℕ) (ranks : Bool)
-              (g : argument ≡ recordedArgument (event .kind) (event .argument) read)
-              (a : after ≡
-              inputAfter (getD (watch .state .inputs) (event .input) zeroed) (event .kind) argument (event .time)
-              (watch .state .mode))
-              (o : ownDue ≡ dueOf after (watch .state .mode)) (d : due ≡ lesser (watch .due) ownDue)
-              (r : ranks ≡ ranksAlike (getD (watch .state .inputs) (event .input) zeroed) after) where
-            after-own : after ≡ ownAfter (watch .state) event read
-            after-own = a ∙ (rw (own, g))
+    pub ownStep-tick : serves ≡ false → event .kind ≡ kindTick
+        → ownOf before (event .time) due accepted Nothing ≡ ownStep before mode time due event read
+    unfolding ownStep
+    ownStep-tick y t = rw (← e, z, ← s, y, eq-eqb _ _ t)
 
-            ranks-own : ranks ≡ ranksAlike (ownBefore (watch .state) event) (ownAfter (watch .state) event read)
-            ranks-own = r ∙ (rw (own, after-own))
+    pub ownStep-taken : (own : Own) → serves ≡ false → (event .kind ≡ kindTick → ⊥)
+        → own ≡ ownTake before mode due event read → own ≡ ownStep before mode time due event read
+    unfolding ownStep
+    ownStep-taken own y n h = h ∙ (rw (← e, z, ← s, y, ne-eqb _ _ n))
 
-            due-own : due ≡ quickDue (watch .state) (watch .due) event read
-            unfolding quickDue
-            due-own = rw (ne-eqb _ _ n, ← after-own, ← o) d
+pub ruleset ownStep-laws = (ownStep-refused, ownStep-served, ownStep-tick, ownStep-taken)
 
-            state-alike : ranks ≡ true → ownTaken (watch .state) event read ≡ quickState (watch .state) event read
-            unfolding quickState
-            state-alike t = rw (ne-eqb _ _ n, ← ranks-own, t)
+-- ---- completed
 
-            state-chosen : ranks ≡ false
-                → decided (ownTaken (watch .state) event read) ≡ quickState (watch .state) event read
-            unfolding quickState
-            state-chosen t = rw (ne-eqb _ _ n, ← ranks-own, t)
+module _ (state : Selector) (due : ℕ) (answer : Answer) (left : Left) (event : Event) (read : FrameRead) where
+  pub completed-nothing : left ≡ Nothing → watchOf state due answer ≡ completed state due answer left event read
+  unfolding completed
+  completed-nothing is = rw is
 
-            pub step-alike : ranks ≡ true
-                → watchOf (movedTo (watch .state) (set (watch .state .inputs) (event .input) after) (event .time)) due
-                accepted ≡
-                watchStep watch event read
-            step-alike t = (rw (after-own, state-alike t, due-own)) ∙ quick
+  pub completed-choice : (chosen : Selector) (told : Answer) → left ≡ Choice → chosen ≡ decided state
+      → told ≡ answerOf (answer .number) chosen → watchOf chosen due told ≡ completed state due answer left event read
+  unfolding completed
+  completed-choice chosen told is c t = rw (is, t, c)
 
-            pub step-chosen : (chosen : Selector) → ranks ≡ false
-                → chosen ≡
-                decided (movedTo (watch .state) (set (watch .state .inputs) (event .input) after) (event .time))
-                → watchOf chosen due accepted ≡ watchStep watch event read
-            step-chosen chosen t h = (rw (h, after-own, state-chosen t, due-own)) ∙ quick
+  pub completed-service : (after : Watch) → left ≡ Service → after ≡ servedWatch state event read
+      → after ≡ completed state due answer left event read
+  unfolding completed
+  completed-service after is s = s ∙ (rw is)
+
+pub ruleset completed-laws = (completed-nothing, completed-choice, completed-service)
+
+-- ---- the two parts together
+
+-- the state with an input in its place, and the rest of what an event made of it
+abbrev pub ownPut : Watch → ℕ → Own → Event → FrameRead → Watch
+ownPut watch place own event read =
+    completed (movedTo (watch .state) (set (watch .state .inputs) place (own .input)) (own .time)) (own .due)
+    (numbered (own .number) (watch .answer))
+    (own .left)
+    event
+    read
+
+-- the event's own input is read from an array, whose element past its end is not told
+module _ (watch : Watch) (event : Event) (read : FrameRead) (zeroed : Input) (place : ℕ)
+    (at : OwnPlace (watch .state .inputs) (event .input) place) where
+  abbrev before : Input
+  before = getD (watch .state .inputs) place zeroed
+
+  abbrev early : ℕ
+  early = earlyRefusal (watch .state .time) (before .settings .ethernet) event read
+
+  own : event .input < inputCount → before ≡ ownBefore (watch .state) event
+  own inside =
+      getD-any (watch .state .inputs) place zeroed freshInput (at .inside) ∙
+      ap (λ (n : ℕ). getD (watch .state .inputs) n freshInput) (at .own inside)
+
+  put-back : set (watch .state .inputs) place before ≡ watch .state .inputs
+  put-back = set-getD (watch .state .inputs) place zeroed
+
+  own-early : early ≡ earlyNumber (watch .state) event read
+  own-early =
+      byBool (ltb (event .input) inputCount)
+      (λ inside. ap (λ (input : Input). earlyRefusal (watch .state .time) (input .settings .ethernet) event read)
+      (own (ltb-true _ _ inside)))
+      (λ out. early-outside (watch .state .time) _ _ event read (ltb-false _ _ out))
+
+  put-refused : (early ≡ accepted → ⊥)
+      → ownPut watch place (ownOf before (watch .state .time) (watch .due) early Nothing) event read ≡
+      watchStep watch event read
+  unfolding completed
+  put-refused n = rw put-back (watchStep-refused watch event read early own-early n)
+
+  module _ (none : early ≡ accepted) where
+    here : before ≡ ownBefore (watch .state) event
+    here = own (taken-input (watch .state .time) (before .settings .ethernet) event read none)
+
+    there : place ≡ event .input
+    there = at .own (taken-input (watch .state .time) (before .settings .ethernet) event read none)
+
+    put-served : isServed (watch .due) (event .kind) (event .time) ≡ true
+        → ownPut watch place (ownOf before (watch .state .time) (watch .due) accepted Service) event read ≡
+        watchStep watch event read
+    unfolding completed
+    put-served y = rw put-back (watchStep-served watch event read (sym own-early ∙ none) y)
+
+    module _ (y : isServed (watch .due) (event .kind) (event .time) ≡ false) where
+      put-tick : eqb (event .kind) kindTick ≡ true
+          → ownPut watch place (ownOf before (event .time) (watch .due) accepted Nothing) event read ≡
+          watchStep watch event read
+      unfolding completed quickState quickDue quickAnswer
+      put-tick t = rw (put-back, ← watchStep-quick watch event read (sym own-early ∙ none) y, t)
+
+      put-taken : eqb (event .kind) kindTick ≡ false
+          → ownPut watch place (ownTake before (watch .state .mode) (watch .due) event read) event read ≡
+          watchStep watch event read
+      unfolding completed ownTake quickState quickDue quickAnswer
+      put-taken t =
+          rw (here, there, ← watchStep-quick watch event read (sym own-early ∙ none) y, t)
+          (byBool (ranksAlike (ownBefore (watch .state) event) (ownAfter (watch .state) event read))
+          (λ r. rw r)
+          (λ r. rw r))
+
+  put-own : ownPut watch place (ownStep before (watch .state .mode) (watch .state .time) (watch .due) event read) event read
+      ≡ watchStep watch event read
+  unfolding ownStep
+  put-own =
+      byBool (eqb early accepted)
+      (λ e. byBool (isServed (watch .due) (event .kind) (event .time))
+      (λ y. rw (e, y) (put-served (eqb-true _ _ e) y))
+      (λ y. byBool (eqb (event .kind) kindTick)
+      (λ t. rw (e, y, t) (put-tick (eqb-true _ _ e) y t))
+      (λ t. rw (e, y, t) (put-taken (eqb-true _ _ e) y t))))
+      (λ e. rw e (put-refused (eqb-false _ _ e)))
+
+  -- what the code makes of them is the definition
+  pub step-completed : (own : Own) (after : Watch)
+      → own ≡ ownStep before (watch .state .mode) (watch .state .time) (watch .due) event read
+      → after ≡ ownPut watch place own event read → after ≡ watchStep watch event read
+  step-completed own after o a = a ∙ ap (λ (x : Own). ownPut watch place x event read) o ∙ put-own

@@ -1,13 +1,14 @@
--- A watch has the state and the numbers of the plain step, after any sequence of events. Assumes nothing.
+-- A watch has the state and the answers of the plain step, after any sequence of events. Assumes nothing.
 use Prim.Native.Nat.{ℕ, _≤_, _<_}
 use mathlib.Core.Bool.{Bool, true, false, not, _&&_, _||_, true≢false, false≢true}
 use mathlib.Core.List.{List, [], _∷_}
 use mathlib.Core.Path.{_≡_, refl, sym, _∙_, ap, subst}
 use native.Mathlib.Omega.{arith}
 use lib.Dec.{eqb, leb}
-use lib.ListN.{length, getD, set, length-set, length-map}
+use lib.ListN.{length, getD, set, length-set, length-map, List·getD-map}
 use lib.Seq.{set-getD, map-set-same}
 use borrow.Author.Tests.{eqb-true, eqb-false, ne-eqb, leb-false}
+use Rattle.numbers.specs.declared.Answer.{Answer}
 use Rattle.numbers.specs.declared.Event.{Event}
 use Rattle.numbers.specs.Kind.{kindForced, kindManual, kindClearSwitch, kindQualityMode, kindTick}
 use Rattle.numbers.specs.Refusal.{accepted}
@@ -20,13 +21,18 @@ use Rattle.run.proofs.Kept.{settled-fresh}
 use Rattle.input.specs.declared.Input.{Input}
 use Rattle.input.specs.Record.{freshInput, passedOf, qualityNow, canExpire, forecast, settle, tick}
 use Rattle.choice.specs.declared.Candidate.{Candidate}
+use Rattle.choice.specs.declared.Selection.{Selection}
+use Rattle.choice.specs.declared.Selection.the-variants as S
 use Rattle.choice.specs.Candidate.{candidateOf, isEligible, isAdmitted, isUsable, rankedQuality}
 use Rattle.choice.specs.Choice.{seeded, offered, scanned, choose}
+use Rattle.decision.specs.declared.Switch.{Switch}
+use Rattle.decision.specs.declared.Switch.the-variants as W
 use Rattle.decision.specs.Decision.{judged, selectedBy, isClockLocked, isHeld, decide}
 use Rattle.decision.specs.Choices.{commanded}
 use Rattle.decision.proofs.Again.{decided-again}
 use Rattle.selector.specs.declared.Selector.{Selector}
 use Rattle.selector.specs.State.{freshSelector, candidateFor, candidatesOf, withDecision, decided, broughtTo, ticked}
+use Rattle.selector.specs.Answer.{candidateAt, selectedCandidate, switchFails, answerOf}
 use Rattle.events.specs.declared.Stepped.{Stepped}
 use Rattle.events.specs.Refusals.{ethernetAt}
 use Rattle.events.specs.Step.{inputAfter, inputsAfter, modeAfter, recordedArgument, recordedEvent, placed, stepped, earlyNumber, lateNumber, stepRead, step}
@@ -34,7 +40,7 @@ use Rattle.events.specs.Sequence.{Sequence, stateAfter, numberAfter}
 use Rattle.events.proofs.Laws.{lateRefusal-other}
 use Rattle.watch.specs.declared.Watch.{Watch}
 use Rattle.watch.specs.Due.{never, lesser, runDue, dueOf, dueOfAll}
-use Rattle.watch.specs.Watch.{freshWatch, commands, isServed, ranksAlike, movedTo, ownBefore, ownAfter, ownTaken, quickState, quickDue, servedWatch, watchStep}
+use Rattle.watch.specs.Watch.{numbered, freshWatch, commands, isServed, ranksAlike, movedTo, ownBefore, ownAfter, ownTaken, quickState, quickDue, quickAnswer, servedWatch, watchStep}
 use Rattle.watch.specs.Sequence.{watchAfter, WatchRight}
 use Rattle.watch.proofs.Every.{Every, every-at, every-from, every-set, every-replicate, every-same, every-as, every-map}
 use Rattle.watch.proofs.Quiet.{lesser-one, lesser-other, SettledAt, DueFrom, tick-quiet, settled-tick, settled-settle, settled-after, inputAfter-tick, dueAmong-least}
@@ -114,6 +120,15 @@ candidate-alike before after mode e =
     let r : before .settings .priority .0 ≡ after .settings .priority .0 = eqb-true _ _ (all .1) in
     let l : before .settings .locked ≡ after .settings .locked = alike-same _ _ (all .2) in
     sym (λ j. candidateOf (record { 0 = p j }) (record { 0 = r j }) (l j) mode)
+
+-- and so all inputs, where one is taken that ranks as it did
+candidates-alike : (state : Selector) (event : Event) (read : FrameRead)
+    → ranksAlike (ownBefore state event) (ownAfter state event read) ≡ true
+    → candidatesOf (set (state .inputs) (event .input) (ownAfter state event read)) (state .mode)
+    ≡ candidatesOf (state .inputs) (state .mode)
+candidates-alike state event read alike =
+    map-set-same (candidateFor (state .mode)) (state .inputs) (event .input) (ownAfter state event read) freshInput
+    (candidate-alike (ownBefore state event) (ownAfter state event read) (state .mode) alike)
 
 -- ---- what a state keeps
 
@@ -284,8 +299,7 @@ quick-decided state event read calm settled =
     keeps a =
         decided-moved state (set (state .inputs) (event .input) (ownAfter state event read)) (event .time)
         (calm .chosen)
-        (map-set-same (candidateFor (state .mode)) (state .inputs) (event .input) (ownAfter state event read) freshInput
-        (candidate-alike (ownBefore state event) (ownAfter state event read) (state .mode) a))
+        (candidates-alike state event read a)
 
 -- what is due after it is due of no input earlier
 quick-dues : (state : Selector) (due : ℕ) (event : Event) (read : FrameRead)
@@ -314,17 +328,71 @@ quick-dues state due event read dues =
         (λ input from. omega (arith, lesser-one due (dueOf (ownAfter state event read) (state .mode)))))
         (lesser-other due (dueOf (ownAfter state event read) (state .mode)))
 
+-- ---- what is answered
+
+numbered-answer : (number other : ℕ) (state : Selector) → numbered number (answerOf other state) ≡ answerOf number state
+unfolding answerOf
+numbered-answer number other state = refl
+
+-- inputs that a choice sees alike are answered alike
+module _ (inputs others : List Input) (mode : Bool) (same : candidatesOf inputs mode ≡ candidatesOf others mode) where
+  candidate-same : (number : ℕ) → candidateAt inputs mode number ≡ candidateAt others mode number
+  candidate-same number =
+      sym (List·getD-map (candidateFor mode) inputs number freshInput) ∙
+      ap (λ (candidates : List Candidate). getD candidates number (candidateFor mode freshInput)) same ∙
+      List·getD-map (candidateFor mode) others number freshInput
+
+  selected-same : (selection : Selection)
+      → selectedCandidate inputs mode selection ≡ selectedCandidate others mode selection
+  unfolding selectedCandidate
+  selected-same S.Nothing = refl
+  selected-same (S.At number) = candidate-same (number .0)
+
+  fails-same : (switch : Switch) → switchFails inputs mode switch ≡ switchFails others mode switch
+  unfolding switchFails
+  fails-same W.Nothing = refl
+  fails-same (W.Forced on) = refl
+  fails-same (W.Manual on) = ap (λ (candidate : Candidate). not (isEligible candidate)) (candidate-same (on .0))
+
+answer-moved : (number : ℕ) (state : Selector) (inputs : List Input) (time : ℕ)
+    → candidatesOf inputs (state .mode) ≡ candidatesOf (state .inputs) (state .mode)
+    → answerOf number (movedTo state inputs time) ≡ answerOf number state
+unfolding answerOf
+answer-moved number state inputs time same =
+    rw (
+      selected-same inputs (state .inputs) (state .mode) same (state .selection),
+      fails-same inputs (state .inputs) (state .mode) same (state .switch),
+    )
+
+-- what is answered after an event before anything is due is what the state after it answers
+quick-answer : (state : Selector) (answer : Answer) (event : Event) (read : FrameRead)
+    → numbered accepted answer ≡ answerOf accepted state
+    → quickAnswer state answer event read ≡ answerOf accepted (quickState state event read)
+unfolding quickAnswer quickState
+quick-answer state answer event read kept =
+    byBool (eqb (event .kind) kindTick)
+    (λ e. rw e (kept ∙ sym (answer-moved accepted state (state .inputs) (event .time) refl)))
+    (λ e. byBool (ranksAlike (ownBefore state event) (ownAfter state event read))
+    (λ a. rw (e, a)
+    (kept ∙
+    sym
+    (answer-moved accepted state (set (state .inputs) (event .input) (ownAfter state event read)) (event .time)
+    (candidates-alike state event read a))))
+    (λ a. rw (e, a)))
+
 -- ---- a watch
 
--- its state leaves nothing to be done, and nothing is due of any input before its time
+-- its state leaves nothing to be done, nothing is due of any input before its time, and its answer, but for the number,
+-- is the state's
 pub record Kept (watch : Watch) : Type 0 where
   pub calm : Calm (watch .state)
   pub dues : Every (DueFrom (watch .state .mode) (watch .due)) (watch .state .inputs)
+  pub told : (number : ℕ) → numbered number (watch .answer) ≡ answerOf number (watch .state)
 
--- it has the state and the number of a plain step, and keeps what it kept
+-- it has the state and the answer of a plain step, and keeps what it kept
 pub record Right (plain : Stepped) (watch : Watch) : Type 0 where
   pub state : watch .state ≡ plain .state
-  pub number : watch .number ≡ plain .number
+  pub answer : watch .answer ≡ answerOf (plain .number) (plain .state)
   pub kept : Kept watch
 
 module _ (watch : Watch) (event : Event) (read : FrameRead) (kept : Kept watch) where
@@ -339,8 +407,10 @@ module _ (watch : Watch) (event : Event) (read : FrameRead) (kept : Kept watch) 
       (watchStep-refused watch event read (earlyNumber (watch .state) event read) refl given)
       (record {
         state = sym (ap (λ (after : Stepped). after .state) s);
-        number = sym (ap (λ (after : Stepped). after .number) s);
-        kept = record { calm = kept .calm; dues = kept .dues };
+        answer =
+            kept .told (earlyNumber (watch .state) event read) ∙
+            sym (ap (λ (after : Stepped). answerOf (after .number) (after .state)) s);
+        kept = record { calm = kept .calm; dues = kept .dues; told = kept .told };
       })
 
   -- served
@@ -355,7 +425,7 @@ module _ (watch : Watch) (event : Event) (read : FrameRead) (kept : Kept watch) 
       subst (Right (stepRead (watch .state) event read)) (watchStep-served watch event read none served)
       (record {
         state = refl;
-        number = refl;
+        answer = refl;
         kept =
             record {
               calm = calm;
@@ -363,6 +433,7 @@ module _ (watch : Watch) (event : Event) (read : FrameRead) (kept : Kept watch) 
                   due-anew (stepRead (watch .state) event read .state .inputs)
                   (stepRead (watch .state) event read .state .mode)
                   (calm .count);
+              told = λ number. numbered-answer number _ _;
             };
       })
 
@@ -375,14 +446,19 @@ module _ (watch : Watch) (event : Event) (read : FrameRead) (kept : Kept watch) 
       subst (Right (stepRead (watch .state) event read)) (watchStep-quick watch event read none quick)
       (record {
         state = same;
-        number = sym (ap (λ (after : Stepped). after .number) step-taken);
+        answer = told ∙ (λ j. answerOf (taken-number j) (same j));
         kept =
             record {
               calm = subst Calm (sym same) (calm-stepRead (watch .state) event read (kept .calm) none);
               dues = quick-dues (watch .state) (watch .due) event read (kept .dues);
+              told = λ number. ap (numbered number) told ∙ numbered-answer number accepted _;
             };
       })
     where
+      told : quickAnswer (watch .state) (watch .answer) event read
+          ≡ answerOf accepted (quickState (watch .state) event read)
+      told = quick-answer (watch .state) (watch .answer) event read (kept .told accepted)
+
       before : event .time < watch .due
       before =
           leb-false (watch .due) (event .time)
@@ -404,6 +480,9 @@ module _ (watch : Watch) (event : Event) (read : FrameRead) (kept : Kept watch) 
       step-taken : stepRead (watch .state) event read ≡
           stepped accepted (placed (ticked (watch .state) (event .time)) (recordedEvent event read))
       step-taken = stepRead-taken (watch .state) event read none later
+
+      taken-number : accepted ≡ stepRead (watch .state) event read .number
+      taken-number = sym (ap (λ (after : Stepped). after .number) step-taken)
 
       calm-brought : Calm (movedTo (watch .state) (watch .state .inputs) (event .time))
       calm-brought =
@@ -462,6 +541,7 @@ fresh-kept =
             settled = every-replicate (SettledAt true 0) 16 freshInput fresh-input;
           };
       dues = every-replicate (DueFrom true never) 16 freshInput fresh-due;
+      told = λ number. numbered-answer number accepted freshSelector;
     }
 
 -- ---- any sequence of events
@@ -477,15 +557,19 @@ sequence-right (given ∷ earlier) =
       right .kept,
     )
 
--- after any sequence of events from a fresh start, refused ones included, a watch has the state and the number of the
+-- after any sequence of events from a fresh start, refused ones included, a watch has the state and the answer of the
 -- plain step
 pub watch-right : (sequence : Sequence) → WatchRight sequence
-unfolding watchAfter numberAfter step
+unfolding watchAfter stateAfter numberAfter step
 watch-right sequence =
     let before = sequence-right sequence in
     record {
       state = before .0;
-      number = λ given.
-          watchStep-right (watchAfter sequence) (given .event) (readFrame (given .frame)) (before .1) .number ∙
-          ap (λ (state : Selector). stepRead state (given .event) (readFrame (given .frame)) .number) (before .0);
+      answer = λ given.
+          watchStep-right (watchAfter sequence) (given .event) (readFrame (given .frame)) (before .1) .answer ∙
+          ap
+          (λ (state : Selector).
+          let after = stepRead state (given .event) (readFrame (given .frame)) in
+          answerOf (after .number) (after .state))
+          (before .0);
     }

@@ -1,9 +1,10 @@
--- A watch after any sequence of events from a fresh start, refused ones included; and that its state and its numbers
+-- A watch after any sequence of events from a fresh start, refused ones included; and that its state and its answers
 -- are those of the plain step.
 -- Assumes nothing.
 use mathlib.Core.List.{[], _∷_}
 use mathlib.Core.Path.{_≡_}
 use Rattle.frame.specs.Read.{readFrame}
+use Rattle.selector.specs.Answer.{answerOf}
 use Rattle.events.specs.Sequence.{Given, Sequence, stateAfter, numberAfter}
 use Rattle.watch.specs.declared.Watch.{Watch}
 use Rattle.watch.specs.Watch.{freshWatch, watchStep}
@@ -13,7 +14,8 @@ unfoldable pub watchAfter : Sequence → Watch
 watchAfter [] = freshWatch
 watchAfter (given ∷ earlier) = watchStep (watchAfter earlier) (given .event) (readFrame (given .frame))
 
--- after a sequence of events, and at any event after it, the watch has the state and the number of the plain step
+-- after a sequence of events, and at any event after it, the watch has the state and the answer of the plain step
 pub record WatchRight (sequence : Sequence) : Type 0 where
   pub state : watchAfter sequence .state ≡ stateAfter sequence
-  pub number : (given : Given) → watchAfter (given ∷ sequence) .number ≡ numberAfter given sequence
+  pub answer : (given : Given)
+      → watchAfter (given ∷ sequence) .answer ≡ answerOf (numberAfter given sequence) (stateAfter (given ∷ sequence))

@@ -4,11 +4,10 @@
 use Prim.Native.Nat.{ℕ}
 use mathlib.Core.Bool.{Bool, not, _&&_, _||_, cond}
 use mathlib.Core.List.{List}
-use mathlib.Core.Path.{_≡_}
 use lib.Dec.{eqb, leb}
-use lib.ListN.{length, getD, set}
+use lib.ListN.{getD, set}
+use Rattle.numbers.specs.declared.Answer.{Answer}
 use Rattle.numbers.specs.declared.Event.{Event}
-use Rattle.numbers.specs.Inputs.{inputCount}
 use Rattle.numbers.specs.Kind.{kindForced, kindManual, kindClearSwitch, kindQualityMode, kindTick}
 use Rattle.numbers.specs.Refusal.{accepted}
 use Rattle.frame.specs.declared.FrameRead.{FrameRead}
@@ -17,22 +16,30 @@ use Rattle.input.specs.declared.Input.{Input}
 use Rattle.input.specs.Record.{freshInput, passedOf}
 use Rattle.selector.specs.declared.Selector.{Selector}
 use Rattle.selector.specs.State.{freshSelector, decided}
+use Rattle.selector.specs.Answer.{answerOf}
 use Rattle.events.specs.Step.{inputAfter, recordedArgument, earlyNumber, stepRead}
 use Rattle.watch.specs.declared.Watch.{Watch}
 use Rattle.watch.specs.Due.{never, lesser, dueOf, dueOfAll}
 
--- how many inputs there are
-pub record InputCount (inputs : List Input) (answer : ℕ) : Type 0 where
-  pub sixteen : answer ≡ inputCount
-  pub whole : answer ≡ length inputs
-
 -- a watch by its parts
-abbrev pub watchOf : Selector → ℕ → ℕ → Watch
-watchOf state due number = record { state = state; due = due; number = number }
+abbrev pub watchOf : Selector → ℕ → Answer → Watch
+watchOf state due answer = record { state = state; due = due; answer = answer }
+
+-- an answer with another number
+abbrev pub numbered : ℕ → Answer → Answer
+numbered number answer =
+    record {
+      number = number;
+      selected = answer .selected;
+      state = answer .state;
+      quality = answer .quality;
+      switch = answer .switch;
+      on = answer .on;
+    }
 
 -- a fresh state: signals fail and all inputs are down, so nothing is due
 abbrev pub freshWatch : Watch
-freshWatch = watchOf freshSelector never accepted
+freshWatch = watchOf freshSelector never (answerOf accepted freshSelector)
 
 -- the event touches more than its own input: the switch or the quality mode
 unfoldable pub commands : ℕ → Bool
@@ -89,16 +96,24 @@ unfoldable pub quickDue : Selector → ℕ → Event → FrameRead → ℕ
 quickDue state due event read =
     cond (eqb (event .kind) kindTick) due (lesser due (dueOf (ownAfter state event read) (state .mode)))
 
+-- what is answered after it: the answer before, unless a choice was made
+unfoldable pub quickAnswer : Selector → Answer → Event → FrameRead → Answer
+quickAnswer state answer event read =
+    cond (eqb (event .kind) kindTick) (numbered accepted answer)
+    (cond (ranksAlike (ownBefore state event) (ownAfter state event read)) (numbered accepted answer)
+    (answerOf accepted (decided (ownTaken state event read))))
+
 -- the plain step, and what is next due made anew
 unfoldable pub servedWatch : Selector → Event → FrameRead → Watch
 servedWatch state event read =
     let after = stepRead state event read in
-    watchOf (after .state) (dueOfAll (after .state .inputs) (after .state .mode)) (after .number)
+    watchOf (after .state) (dueOfAll (after .state .inputs) (after .state .mode)) (answerOf (after .number) (after .state))
 
 -- one event: refused at once; or served, where something is due or the event commands; or quick
 unfoldable pub watchStep : Watch → Event → FrameRead → Watch
 watchStep watch event read =
     let early = earlyNumber (watch .state) event read in
-    cond (not (eqb early accepted)) (watchOf (watch .state) (watch .due) early)
+    cond (not (eqb early accepted)) (watchOf (watch .state) (watch .due) (numbered early (watch .answer)))
     (cond (isServed (watch .due) (event .kind) (event .time)) (servedWatch (watch .state) event read)
-    (watchOf (quickState (watch .state) event read) (quickDue (watch .state) (watch .due) event read) accepted))
+    (watchOf (quickState (watch .state) event read) (quickDue (watch .state) (watch .due) event read)
+    (quickAnswer (watch .state) (watch .answer) event read)))

@@ -10,6 +10,7 @@ use events::step_read;
 use frame::FrameRead;
 use input::Input;
 use numbers::ACCEPTED;
+use numbers::Answer;
 use numbers::Event;
 use numbers::FRAME_LIFE;
 use numbers::INPUT_COUNT;
@@ -23,17 +24,36 @@ use run::Run;
 use selector::Selector;
 ghost use mathlib.Core.Path.{_≡_};
 ghost use Rattle.watch.specs.Due.{sumOrNever, lesser, waitDue, expiryDue, runDue, dueOf, dueOfAll};
-ghost use Rattle.watch.specs.Watch.{InputCount, freshWatch, commands, isServed, ranksAlike, servedWatch, watchStep};
+ghost use Rattle.watch.specs.Watch.{freshWatch, commands, isServed, ranksAlike, servedWatch, watchStep};
+ghost use Rattle.watch.specs.Own.{OwnPlace, ownTake, ownStep, completed};
 
 // Stands for a time that never comes.
 const NEVER: u64 = 18_446_744_073_709_551_615;
 
-// The state; the time before which nothing is due; and the number that the last event was
-// answered with.
+// The state; the time before which nothing is due; and the answer to the last event, which but for
+// its number changes only where a choice is made.
 pub struct Watch {
     pub state: Selector,
     pub due: u64,
+    pub answer: Answer,
+}
+
+// What is left to do once an event's own input has taken it: nothing; a choice; or all of the plain
+// step, where something is due or the event commands.
+pub enum Left {
+    Nothing,
+    Choice,
+    Service,
+}
+
+// What an event makes of its own input, of the time and of what is next due; the number that it is
+// answered with, where nothing is left or a choice; and what is left to do.
+pub struct Own {
+    pub input: Input,
+    pub time: u64,
+    pub due: u64,
     pub number: u8,
+    pub left: Left,
 }
 
 // When a time of `length` ms from `start` is over, never where no time holds it.
@@ -157,13 +177,6 @@ fn ranks_alike(before: Input, after: Input) -> bool
     false
 }
 
-// How many inputs there are.
-fn input_count(inputs: [Input; 16]) -> u8
-    ensures { λ answer. ⌜ InputCount inputs answer ⌝ }
-{
-    INPUT_COUNT
-}
-
 // The plain step, and then what is next due made anew.
 fn served(state: Selector, event: Event, read: FrameRead) -> Watch
     ensures { λ answer. ⌜ answer ≡ servedWatch state event read ⌝ }
@@ -172,10 +185,109 @@ fn served(state: Selector, event: Event, read: FrameRead) -> Watch
     let after = stepped.state;
     let inputs = after.inputs;
     let due = due_of_all(inputs, after.mode);
+    let answer = after.answer(stepped.number);
     Watch {
         state: after,
         due,
-        number: stepped.number,
+        answer,
+    }
+}
+
+// Where an input stands among the sixteen; some place where there is no such input.
+pub fn own_place(inputs: [Input; 16], number: u8) -> usize
+    ensures { λ place. ⌜ OwnPlace inputs number place ⌝ }
+{
+    (number % INPUT_COUNT) as usize
+}
+
+// An event taken by its own input, with a choice left where that ranks otherwise than before.
+fn own_take(before: Input, mode: bool, due: u64, event: Event, read: FrameRead) -> Own
+    ensures { λ answer. ⌜ answer ≡ ownTake before mode due event read ⌝ }
+{
+    let argument = recorded_argument(event.kind, event.argument, read);
+    let input = input_after(before, event.kind, argument, event.time, mode);
+    let own = due_of(input, mode);
+    let next = lesser(due, own);
+    let mut left = Left::Choice;
+    if ranks_alike(before, input) {
+        left = Left::Nothing;
+    }
+    Own {
+        input,
+        time: event.time,
+        due: next,
+        number: ACCEPTED,
+        left,
+    }
+}
+
+// One event, as far as its own input goes. One that is refused or left to be served takes nothing
+// yet. One with no input of the sixteen is refused, whatever input is given for it.
+pub fn own_step(
+    before: Input,
+    mode: bool,
+    time: u64,
+    due: u64,
+    event: Event,
+    read: FrameRead,
+) -> Own
+    ensures { λ answer. ⌜ answer ≡ ownStep before mode time due event read ⌝ }
+{
+    let settings = before.settings;
+    let early = early_refusal(time, settings.ethernet, event, read);
+    if early != ACCEPTED {
+        return Own {
+            input: before,
+            time,
+            due,
+            number: early,
+            left: Left::Nothing,
+        };
+    }
+    if is_served(due, event.kind, event.time) {
+        return Own {
+            input: before,
+            time,
+            due,
+            number: ACCEPTED,
+            left: Left::Service,
+        };
+    }
+    if event.kind == KIND_TICK {
+        return Own {
+            input: before,
+            time: event.time,
+            due,
+            number: ACCEPTED,
+            left: Left::Nothing,
+        };
+    }
+    own_take(before, mode, due, event, read)
+}
+
+// What is left to do, on the state with the event's own input in it.
+pub fn completed(
+    state: Selector,
+    due: u64,
+    answer: Answer,
+    left: Left,
+    event: Event,
+    read: FrameRead,
+) -> Watch
+    ensures { λ after. ⌜ after ≡ completed state due answer left event read ⌝ }
+{
+    match left {
+        Left::Nothing => Watch { state, due, answer },
+        Left::Choice => {
+            let chosen = state.decided();
+            let told = chosen.answer(answer.number);
+            Watch {
+                state: chosen,
+                due,
+                answer: told,
+            }
+        }
+        Left::Service => served(state, event, read),
     }
 }
 
@@ -185,10 +297,11 @@ impl Watch {
         ensures { λ answer. ⌜ answer ≡ freshWatch ⌝ }
     {
         let state = Selector::fresh();
+        let answer = state.answer(ACCEPTED);
         Watch {
             state,
             due: NEVER,
-            number: ACCEPTED,
+            answer,
         }
     }
 
@@ -196,59 +309,19 @@ impl Watch {
     // switch or the mode is taken by its own input alone, and a choice is made only where that
     // input ranks otherwise than before.
     pub fn step(self, event: Event, read: FrameRead) -> Watch
-        ensures { λ answer. ⌜ answer ≡ watchStep self event read ⌝ }
+        ensures { λ after. ⌜ after ≡ watchStep self event read ⌝ }
     {
         let mut state = self.state;
+        let mut answer = self.answer;
         let inputs = state.inputs;
-        let count = input_count(inputs);
-        if count <= event.input {
-            let outside = early_refusal(state.time, false, event, read);
-            return Watch {
-                state,
-                due: self.due,
-                number: outside,
-            };
-        }
-        let at = event.input as usize;
-        let before = state.inputs[at];
-        let settings = before.settings;
-        let early = early_refusal(state.time, settings.ethernet, event, read);
-        if early != ACCEPTED {
-            return Watch {
-                state,
-                due: self.due,
-                number: early,
-            };
-        }
-        if is_served(self.due, event.kind, event.time) {
-            return served(state, event, read);
-        }
-        if event.kind == KIND_TICK {
-            state.time = event.time;
-            return Watch {
-                state,
-                due: self.due,
-                number: ACCEPTED,
-            };
-        }
-        let argument = recorded_argument(event.kind, event.argument, read);
-        let after = input_after(before, event.kind, argument, event.time, state.mode);
-        let own = due_of(after, state.mode);
-        let due = lesser(self.due, own);
-        state.inputs[at] = after;
-        state.time = event.time;
-        if ranks_alike(before, after) {
-            return Watch {
-                state,
-                due,
-                number: ACCEPTED,
-            };
-        }
-        let chosen = state.decided();
-        Watch {
-            state: chosen,
-            due,
-            number: ACCEPTED,
-        }
+        let place = own_place(inputs, event.input);
+        let before = state.inputs[place];
+        let own = own_step(before, state.mode, state.time, self.due, event, read);
+        let input = own.input;
+        let left = own.left;
+        state.inputs[place] = input;
+        state.time = own.time;
+        answer.number = own.number;
+        completed(state, own.due, answer, left, event, read)
     }
 }

@@ -1,9 +1,8 @@
 -- `selector::candidates_of` meets its contract: a turn of the loop fills one place.
 -- Assumes nothing.
-use Prim.Native.Nat.{ℕ, _≤_, _-_}
+use Prim.Native.Nat.{_≤_, _-_}
 use mathlib.Core.Path.{_≡_}
 use lib.ListN.{length}
-use Rattle.input.specs.declared.Input.{Input}
 use borrow.Author.Needs.{needs}
 use Rattle.selector.specs.State.{candidateFor}
 use Rattle.selector.proofs.Filled.{filled, filled-turn, filled-done}

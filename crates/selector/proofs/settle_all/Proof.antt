@@ -1,6 +1,6 @@
 -- `selector::settle_all` meets its contract: a turn of the loop takes one input's moment.
 -- Assumes nothing.
-use Prim.Native.Nat.{ℕ, _≤_, _-_}
+use Prim.Native.Nat.{_≤_, _-_}
 use mathlib.Core.Path.{_≡_}
 use lib.ListN.{length}
 use Rattle.input.specs.declared.Input.{Input}

@@ -1,6 +1,6 @@
 -- `selector::tick_all` meets its contract: a turn of the loop brings one input to the time.
 -- Assumes nothing.
-use Prim.Native.Nat.{ℕ, _≤_, _-_}
+use Prim.Native.Nat.{_≤_, _-_}
 use mathlib.Core.Path.{_≡_}
 use lib.ListN.{length}
 use Rattle.input.specs.declared.Input.{Input}

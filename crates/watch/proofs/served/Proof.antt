@@ -11,9 +11,12 @@ step-read-requires c κs = search needs
 due-of-all-requires : tie.Need-due-of-all-requires
 due-of-all-requires c κs = search needs
 
+answer-requires : tie.Need-answer-requires
+answer-requires c κs = search needs
+
 returns : tie.Need-returns
 unfolding servedWatch
 returns c = cc
 
 pub served-spec : {M : Type 1} → statement M
-served-spec = tie.close (tie.spec step-read-requires due-of-all-requires returns)
+served-spec = tie.close (tie.spec step-read-requires due-of-all-requires answer-requires returns)

@@ -2,7 +2,6 @@
 -- Assumes nothing.
 use Rattle.input.proofs.Laws.{afterEvent-sending}
 use mathlib.Core.Path.{_∙_}
-use Rattle.input.specs.Record.{afterEvent, heardAfter, settingsAfter}
 use borrow.Author.Needs.{needs}
 use Rattle.input.proofs.Input.sending.Statement.{statement}
 use Rattle.input.proofs.Input.sending.Tie as tie

@@ -7,8 +7,11 @@ use Rattle.watch.proofs.Watch.fresh.Tie as tie
 fresh-requires : tie.Need-fresh-requires
 fresh-requires c κs = search needs
 
+answer-requires : tie.Need-answer-requires
+answer-requires c κs = search needs
+
 returns : tie.Need-returns
 returns c = cc
 
 pub fresh-spec : {M : Type 1} → statement M
-fresh-spec = tie.close (tie.spec fresh-requires returns)
+fresh-spec = tie.close (tie.spec fresh-requires answer-requires returns)

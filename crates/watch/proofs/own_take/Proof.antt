@@ -1,0 +1,39 @@
+-- `watch::own_take` meets its contract: each way is a law.
+-- Assumes nothing.
+use Rattle.watch.proofs.Laws.{ownTake-laws}
+use borrow.Author.Needs.{needs}
+use Rattle.watch.proofs.own_take.Statement.{statement}
+use Rattle.watch.proofs.own_take.Tie as tie
+
+recorded-argument-requires : tie.Need-recorded-argument-requires
+recorded-argument-requires c κs = search needs
+
+input-after-requires : tie.Need-input-after-requires
+input-after-requires c κs = search needs
+
+due-of-requires : tie.Need-due-of-requires
+due-of-requires c κs = search needs
+
+lesser-requires : tie.Need-lesser-requires
+lesser-requires c κs = search needs
+
+ranks-alike-requires : tie.Need-ranks-alike-requires
+ranks-alike-requires c κs = search needs
+
+returns : tie.Need-returns
+returns c = search ownTake-laws
+
+returns-2 : tie.Need-returns-2
+returns-2 c = search ownTake-laws
+
+pub own-take-spec : {M : Type 1} → statement M
+own-take-spec =
+    tie.close
+    (tie.spec
+    recorded-argument-requires
+    input-after-requires
+    due-of-requires
+    lesser-requires
+    ranks-alike-requires
+    returns
+    returns-2)

@@ -1,0 +1,60 @@
+-- The same in two parts, so that the code need not carry sixteen inputs to an event that touches one: what an event makes
+-- of its own input, and what is left to do. Cited by `src/lib.rt`; `proofs/Laws` puts the parts together.
+-- Assumes nothing.
+use Prim.Native.Nat.{ℕ, _<_}
+use mathlib.Core.Bool.{Bool, not, cond}
+use mathlib.Core.List.{List}
+use mathlib.Core.Path.{_≡_}
+use lib.Dec.{eqb}
+use lib.ListN.{length}
+use Rattle.numbers.specs.declared.Answer.{Answer}
+use Rattle.numbers.specs.declared.Event.{Event}
+use Rattle.numbers.specs.Inputs.{inputCount}
+use Rattle.numbers.specs.Kind.{kindTick}
+use Rattle.numbers.specs.Refusal.{accepted}
+use Rattle.frame.specs.declared.FrameRead.{FrameRead}
+use Rattle.input.specs.declared.Input.{Input}
+use Rattle.selector.specs.declared.Selector.{Selector}
+use Rattle.selector.specs.State.{decided}
+use Rattle.selector.specs.Answer.{answerOf}
+use Rattle.events.specs.Refusals.{earlyRefusal}
+use Rattle.events.specs.Step.{inputAfter, recordedArgument}
+use Rattle.watch.specs.declared.Left.{Left}
+use Rattle.watch.specs.declared.Left.the-variants.{Nothing, Choice, Service}
+use Rattle.watch.specs.declared.Own.{Own}
+use Rattle.watch.specs.declared.Watch.{Watch}
+use Rattle.watch.specs.Due.{lesser, dueOf}
+use Rattle.watch.specs.Watch.{watchOf, isServed, ranksAlike, servedWatch}
+
+-- where an input stands; some place where there is no such input
+pub record OwnPlace (inputs : List Input) (number place : ℕ) : Type 0 where
+  pub own : number < inputCount → place ≡ number
+  pub low : place < inputCount
+  pub inside : place < length inputs
+
+-- what an event makes of its own input, by its parts
+abbrev pub ownOf : Input → ℕ → ℕ → ℕ → Left → Own
+ownOf input time due number left = record { input = input; time = time; due = due; number = number; left = left }
+
+-- the input takes the event, and a choice is left where it would see the input otherwise than before
+unfoldable pub ownTake : Input → Bool → ℕ → Event → FrameRead → Own
+ownTake before mode due event read =
+    let after =
+    inputAfter before (event .kind) (recordedArgument (event .kind) (event .argument) read) (event .time) mode
+    in
+    ownOf after (event .time) (lesser due (dueOf after mode)) accepted (cond (ranksAlike before after) Nothing Choice)
+
+-- one event: refused at once; or left to be served; or a tick, which moves the time alone; or taken
+unfoldable pub ownStep : Input → Bool → ℕ → ℕ → Event → FrameRead → Own
+ownStep before mode time due event read =
+    let early = earlyRefusal time (before .settings .ethernet) event read in
+    cond (not (eqb early accepted)) (ownOf before time due early Nothing)
+    (cond (isServed due (event .kind) (event .time)) (ownOf before time due accepted Service)
+    (cond (eqb (event .kind) kindTick) (ownOf before (event .time) due accepted Nothing)
+    (ownTake before mode due event read)))
+
+-- what is left to do, on the state with the event's own input in it
+unfoldable pub completed : Selector → ℕ → Answer → Left → Event → FrameRead → Watch
+completed state due answer Nothing event read = watchOf state due answer
+completed state due answer Choice event read = watchOf (decided state) due (answerOf (answer .number) (decided state))
+completed state due answer Service event read = servedWatch state event read
