@@ -1,7 +1,7 @@
 -- The same in two parts, so that the code need not carry sixteen inputs to an event that touches one: what an event makes
 -- of its own input, and what is left to do. Cited by `src/lib.rt`; `proofs/Laws` puts the parts together.
 -- Assumes nothing.
-use Prim.Native.Nat.{ℕ, _<_}
+use Prim.Native.Nat.{ℕ, _%_, _<_}
 use mathlib.Core.Bool.{Bool, not, cond}
 use mathlib.Core.List.{List}
 use mathlib.Core.Path.{_≡_}
@@ -28,6 +28,7 @@ use Rattle.watch.specs.Watch.{watchOf, isServed, ranksAlike, servedWatch
 
 -- where an input stands; some place where there is no such input
 pub record OwnPlace (inputs : List Input) (number place : ℕ) : Type 0 where
+  pub one : place ≡ number % inputCount
   pub own : number < inputCount → place ≡ number
   pub low : place < inputCount
   pub inside : place < length inputs
