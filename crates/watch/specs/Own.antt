@@ -26,9 +26,9 @@ use Rattle.watch.specs.declared.Watch.{Watch}
 use Rattle.watch.specs.Due.{lesser, dueOf}
 use Rattle.watch.specs.Watch.{watchOf, isServed, ranksAlike, servedWatch}
 
--- where an input stands; some place where there is no such input
+-- where an input stands; where there is no such input, what the sixteens leave of its number
 pub record OwnPlace (inputs : List Input) (number place : ℕ) : Type 0 where
-  pub one : place ≡ number % inputCount
+  pub answered : place ≡ number % inputCount
   pub own : number < inputCount → place ≡ number
   pub low : place < inputCount
   pub inside : place < length inputs
