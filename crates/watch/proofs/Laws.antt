@@ -390,8 +390,9 @@ module _ (watch : Watch) (event : Event) (read : FrameRead) (zeroed : Input) (pl
           (λ r. rw r)
           (λ r. rw r))
 
-  put-own : ownPut watch place (ownStep before (watch .state .mode) (watch .state .time) (watch .due) event read) event read
-      ≡ dueStep watch event read
+  put-own :
+      ownPut watch place (ownStep before (watch .state .mode) (watch .state .time) (watch .due) event read) event read ≡
+      dueStep watch event read
   unfolding ownStep
   put-own =
       byBool (eqb early accepted)

@@ -107,7 +107,8 @@ quickAnswer state answer event read =
 unfoldable pub servedWatch : Selector → Event → FrameRead → Watch
 servedWatch state event read =
     let after = stepRead state event read in
-    watchOf (after .state) (dueOfAll (after .state .inputs) (after .state .mode)) (answerOf (after .number) (after .state))
+    watchOf (after .state) (dueOfAll (after .state .inputs) (after .state .mode))
+    (answerOf (after .number) (after .state))
 
 -- one event: refused at once; or served, where something is due or the event commands; or quick
 unfoldable pub dueStep : Watch → Event → FrameRead → Watch
