@@ -1,4 +1,4 @@
--- The same in two parts, so that the code need not carry sixteen inputs to an event that touches one: what an event makes
+-- The step of `Watch` in two parts, so that an event that touches one input need not carry sixteen: what an event makes
 -- of its own input, and what is left to do. Cited by `src/lib.rt`; `proofs/Laws` puts the parts together.
 -- Assumes nothing.
 use Prim.Native.Nat.{ℕ, _<_}
