@@ -34,7 +34,7 @@ use Rattle.watch.specs.declared.Left.the-variants.{Nothing, Choice, Serv
 use Rattle.watch.specs.declared.Own.{Own}
 use Rattle.watch.specs.declared.Watch.{Watch}
 use Rattle.watch.specs.Due.{never, lesser, sumOrNever, waitDue, expiryDue, runDue, dueOf, dueAmong, dueOfAll, dueAnew}
-use Rattle.watch.specs.Watch.{watchOf, numbered, commands, isServed, ranksAlike, movedTo, ownBefore, ownAfter, ownTaken, quickState, quickDue, quickAnswer, servedWatch, dueStep, renewed, watchStep}
+use Rattle.watch.specs.Watch.{watchOf, numbered, commands, isServed, ranksAlike, movedTo, ownBefore, ownAfter, quickState, quickDue, quickAnswer, servedWatch, dueStep, renewed, watchStep}
 use Rattle.watch.specs.Own.{OwnPlace, ownOf, ownTake, ownStep, completed}
 
 -- ---- lesser, sumOrNever

@@ -34,8 +34,7 @@ use Rattle.selector.specs.declared.Selector.{Selector}
 use Rattle.selector.specs.State.{freshSelector, candidateFor, candidatesOf, withDecision, decided, broughtTo, ticked}
 use Rattle.selector.specs.Answer.{candidateAt, selectedCandidate, switchFails, answerOf}
 use Rattle.events.specs.declared.Stepped.{Stepped}
-use Rattle.events.specs.Refusals.{ethernetAt}
-use Rattle.events.specs.Step.{inputAfter, inputsAfter, modeAfter, recordedArgument, recordedEvent, placed, stepped, earlyNumber, lateNumber, stepRead, step}
+use Rattle.events.specs.Step.{ethernetAt, inputAfter, inputsAfter, modeAfter, recordedArgument, recordedEvent, placed, stepped, earlyNumber, lateNumber, stepRead, step}
 use Rattle.events.specs.Sequence.{Sequence, stateAfter, numberAfter}
 use Rattle.events.proofs.Laws.{lateRefusal-other}
 use Rattle.watch.specs.declared.Watch.{Watch}
