@@ -4,6 +4,7 @@ use mathlib.Core.Bool.{Bool, true, false, not, cond}
 use mathlib.Core.List.{List}
 use mathlib.Core.Path.{_≡_, refl, sym, _∙_, ap}
 use native.Mathlib.Omega.{arith}
+use native.Mathlib.Nat.{mod-eq-of-lt}
 use native.Mathlib.Numerals.{add-one}
 use lib.Dec.{eqb, ltb}
 use lib.ListN.{length, getD, set}
@@ -330,6 +331,10 @@ ownPut watch place own event read =
     event
     read
 
+-- one of the sixteen stands at its own number
+own-place : {inputs : List Input} {number place : ℕ} → OwnPlace inputs number place → number < inputCount → place ≡ number
+own-place at inside = at .own ∙ mod-eq-of-lt inside
+
 -- the event's own input is read from an array, whose element past its end is not told
 module _ (watch : Watch) (event : Event) (read : FrameRead) (zeroed : Input) (place : ℕ)
     (at : OwnPlace (watch .state .inputs) (event .input) place) where
@@ -342,7 +347,7 @@ module _ (watch : Watch) (event : Event) (read : FrameRead) (zeroed : Input) (pl
   own : event .input < inputCount → before ≡ ownBefore (watch .state) event
   own inside =
       getD-any (watch .state .inputs) place zeroed freshInput (at .inside) ∙
-      ap (λ (n : ℕ). getD (watch .state .inputs) n freshInput) (at .own inside)
+      ap (λ (n : ℕ). getD (watch .state .inputs) n freshInput) (own-place at inside)
 
   put-back : set (watch .state .inputs) place before ≡ watch .state .inputs
   put-back = set-getD (watch .state .inputs) place zeroed
@@ -365,7 +370,7 @@ module _ (watch : Watch) (event : Event) (read : FrameRead) (zeroed : Input) (pl
     here = own (taken-input (watch .state .time) (before .settings .ethernet) event read none)
 
     there : place ≡ event .input
-    there = at .own (taken-input (watch .state .time) (before .settings .ethernet) event read none)
+    there = own-place at (taken-input (watch .state .time) (before .settings .ethernet) event read none)
 
     put-served : isServed (watch .due) (event .kind) (event .time) ≡ true
         → ownPut watch place (ownOf before (watch .state .time) (watch .due) accepted Service) event read ≡

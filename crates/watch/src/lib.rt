@@ -203,7 +203,7 @@ fn served(state: Selector, event: Event, read: FrameRead) -> Watch
     }
 }
 
-// Where an input stands among the sixteen; some place where there is no such input.
+// Where an input stands among the sixteen; where there is no such input, its number taken round.
 pub fn own_place(inputs: [Input; 16], number: u8) -> usize
     ensures { λ place. ⌜ OwnPlace inputs number place ⌝ }
 {
