@@ -28,7 +28,7 @@ ghost use Rattle.watch.specs.Watch.{freshWatch, commands, isServed, rank
 ghost use Rattle.watch.specs.Own.{OwnPlace, ownTake, ownStep, completed};
 
 // Stands for a time that never comes.
-const NEVER: u64 = 18_446_744_073_709_551_615;
+const NEVER: u64 = u64::MAX;
 
 // The state; the time before which nothing is due; and the answer to the last event, which but for
 // its number changes only where a choice is made.
