@@ -28,8 +28,8 @@ use Rattle.selector.specs.State.{candidateFor, candidatesOf, withDecision, deci
 use Rattle.selector.specs.Answer.{ports}
 use Rattle.selector.proofs.Ports.{butAt, set-ports, getD-ports}
 use Rattle.events.specs.declared.Stepped.{Stepped}
-use Rattle.events.specs.Refusals.{earlyRefusal, lateRefusal, ethernetAt}
-use Rattle.events.specs.Step.{heldArgument, inputAfter, inputsAfter, modeAfter, recordedEvent, placed, stepped, earlyNumber, lateNumber, stepRead, step}
+use Rattle.events.specs.Refusals.{earlyRefusal, lateRefusal}
+use Rattle.events.specs.Step.{ethernetAt, heldArgument, inputAfter, inputsAfter, modeAfter, recordedEvent, placed, stepped, earlyNumber, lateNumber, stepRead, step}
 use Rattle.events.specs.Sequence.{Given, Sequence, stateAfter, numberAfter}
 use Rattle.events.specs.Past.{Past, asRecorded, candidateBy, candidatesBy, tickChoice, eventChoice, earlyBy, lateBy, numberBy, withTick, withEvent, pastOf, recorded, choicesOf}
 use Rattle.events.specs.Demand3.{MadeAt}

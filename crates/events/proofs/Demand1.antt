@@ -9,8 +9,8 @@ use Rattle.numbers.specs.Refusal.{accepted}
 use Rattle.frame.specs.Read.{readFrame}
 use Rattle.selector.specs.declared.Selector.{Selector}
 use Rattle.selector.specs.State.{ticked}
-use Rattle.events.specs.Refusals.{earlyRefusal, ethernetAt, lateRefusal}
-use Rattle.events.specs.Step.{stepped, earlyNumber, lateNumber}
+use Rattle.events.specs.Refusals.{earlyRefusal, lateRefusal}
+use Rattle.events.specs.Step.{ethernetAt, stepped, earlyNumber, lateNumber}
 use Rattle.events.specs.Demand1.{NoneApplies, Smallest, rowsBefore, rowsAfter, Demand1}
 use Rattle.events.proofs.Refused.{Rising, none-given, smallest-given, smallest-or-none, applies-numbered, early-numbered, late-numbered, early-rising, late-rising, frameRefusal-within}
 use Rattle.events.proofs.Agrees.{step-early, step-late, step-accepted}

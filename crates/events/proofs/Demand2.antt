@@ -29,12 +29,13 @@ use Rattle.decision.proofs.Standing.{switch-right}
 use Rattle.decision.proofs.Selecting.{manualMayStand-eligible, eligible-admitted, selected-admitted}
 use Rattle.selector.specs.declared.Selector.{Selector}
 use Rattle.selector.specs.State.{candidateFor}
-use Rattle.selector.specs.Answer.{switchFails, clockQuality, outgoingCode, selectedNumber, selectedCandidate, candidateAt, qualityOf, codeFor, outgoingCodes}
+use Rattle.selector.specs.Answer.{switchFails, clockState, clockQuality, outgoingCode, selectedNumber, switchNumber, switchInput, selectedCandidate, candidateAt, qualityOf, answerOf, codeFor, outgoingCodes}
 use Rattle.selector.proofs.Laws.{getD-past}
-use Rattle.selector.proofs.Ports.{getD-ports}
+use Rattle.selector.proofs.Ports.{getD-ports, ports-same}
 use Rattle.events.specs.Sequence.{Sequence, stateAfter}
-use Rattle.events.specs.Past.{candidateBy, candidatesBy, recorded, choicesOf}
-use Rattle.events.specs.Demand2.{shown, Demand2}
+use Rattle.events.specs.Past.{candidateBy, candidatesBy, pastOf, recorded, choicesOf}
+use Rattle.events.specs.Told.{shown, selectedBy, qualityBy, answerBy, codeBy, codesBy}
+use Rattle.events.specs.Demand2.{Demand2}
 use Rattle.events.specs.Demand3.{MadeAt}
 use Rattle.events.proofs.Agrees.{Agrees, sequence-agrees, settings-at, candidate-recorded}
 
@@ -104,50 +105,71 @@ module _ (state : Selector) (history : History) (choices : Choices) (agrees : Ag
       go (W.Forced on) x = refl
       go (W.Manual on) x = ap not (manual-eligible on x)
 
-selected-shown : (sequence : Sequence) (selection : Selection) → stateAfter sequence .selection ≡ selection
-    → selectedCandidate (stateAfter sequence .inputs) (stateAfter sequence .mode) selection ≡ shown sequence selection
-unfolding selectedCandidate
-selected-shown sequence S.Nothing x = refl
-selected-shown sequence (S.At number) x =
-    let agrees = sequence-agrees sequence in
-    candidate-at (stateAfter sequence) (recorded sequence) (choicesOf sequence) agrees (number .0)
-    (selected-inside (stateAfter sequence) (recorded sequence) (choicesOf sequence) agrees number x)
+-- ---- after a sequence
 
-sending-at : (sequence : Sequence) (port : ℕ) → port < inputCount
-    → getD (stateAfter sequence .inputs) port freshInput .settings .sending ≡ isSending port (recorded sequence)
-unfolding settingsBy
-sending-at sequence port inside =
-    ap (λ (settings : Settings). settings .sending)
-    (settings-at (stateAfter sequence .inputs) (recorded sequence) port (sequence-agrees sequence .inputs) inside)
+module _ (sequence : Sequence) where
+  abbrev after : Selector
+  after = stateAfter sequence
+
+  agreed : Agrees after (recorded sequence) (choicesOf sequence)
+  agreed = sequence-agrees sequence
+
+  selected-shown : (selection : Selection) → after .selection ≡ selection
+      → selectedCandidate (after .inputs) (after .mode) selection ≡ shown (pastOf sequence) selection
+  unfolding selectedCandidate
+  selected-shown S.Nothing x = refl
+  selected-shown (S.At number) x =
+      candidate-at after (recorded sequence) (choicesOf sequence) agreed (number .0)
+      (selected-inside after (recorded sequence) (choicesOf sequence) agreed number x) ∙
+      ap (λ (time : ℕ). candidateBy (recorded sequence) time (number .0)) (agreed .time)
+
+  selected-by : selectedCandidate (after .inputs) (after .mode) (after .selection) ≡ selectedBy (pastOf sequence)
+  selected-by = selected-shown (after .selection) refl ∙ ap (shown (pastOf sequence)) (agreed .selection)
+
+  never-03 : switchFails (after .inputs) (after .mode) (after .switch) ≡ false
+  never-03 = never-fails after (recorded sequence) (choicesOf sequence) agreed
+
+  quality-by : qualityOf after ≡ qualityBy (pastOf sequence)
+  quality-by =
+      ap (λ (mode : Bool). clockQuality mode (selectedCandidate (after .inputs) (after .mode) (after .selection))) (agreed .mode) ∙
+      ap (clockQuality (modeOn (recorded sequence))) selected-by
+
+  answer-by : (number : ℕ) → answerOf number after ≡ answerBy number (pastOf sequence)
+  unfolding answerOf
+  answer-by number = λ j. record {
+    number = number;
+    selected = selectedNumber (agreed .selection j);
+    state = clockState (never-03 j) (selected-by j .usable) (agreed .held j);
+    quality = quality-by j .0;
+    switch = switchNumber (agreed .switch j);
+    on = switchInput (agreed .switch j);
+  }
+
+  sending-at : (port : ℕ) → port < inputCount
+      → getD (after .inputs) port freshInput .settings .sending ≡ isSending port (recorded sequence)
+  unfolding settingsBy
+  sending-at port inside =
+      ap (λ (settings : Settings). settings .sending)
+      (settings-at (after .inputs) (recorded sequence) port (agreed .inputs) inside)
+
+  -- the code of a port
+  code-by : (port : ℕ) → port < inputCount
+      → codeFor (after .inputs) (after .mode) (selectedNumber (after .selection)) (codeOfQuality (qualityOf after)) port ≡
+      codeBy (pastOf sequence) port
+  unfolding codeFor codeBy
+  code-by port inside = λ j.
+      outgoingCode (agreed .mode j) (sending-at port inside j) (eqb (selectedNumber (agreed .selection j)) port)
+      (codeOfQuality (quality-by j))
 
 -- DEMAND 2, for every sequence of events.
 pub demand-2-answers : (sequence : Sequence) → Demand2 sequence
-unfolding outgoingCodes codeFor
+unfolding outgoingCodes
 demand-2-answers sequence =
-    let after = stateAfter sequence in
-    let agrees = sequence-agrees sequence in
-    let fails = never-fails after (recorded sequence) (choicesOf sequence) agrees in
-    let selected = selected-shown sequence (after .selection) refl in
     record {
-      mode = agrees .mode;
-      never03 = fails;
-      state = rw (fails, selected) refl;
-      quality =
-          ap (clockQuality (after .mode)) selected ∙
-          ap (λ (mode : Bool). clockQuality mode (shown sequence (after .selection))) (agrees .mode);
-      outgoing = λ port inside.
-          getD-ports
-          (codeFor (after .inputs) (after .mode) (selectedNumber (after .selection)) (codeOfQuality (qualityOf after)))
-          0
-          port
-          inside ∙
-          ap
-          (λ (mode : Bool). outgoingCode mode (getD (after .inputs) port freshInput .settings .sending)
-          (eqb (selectedNumber (after .selection)) port)
-          (codeOfQuality (qualityOf after)))
-          (agrees .mode) ∙
-          ap
-          (λ (sending : Bool). outgoingCode (modeOn (recorded sequence)) sending (eqb (selectedNumber (after .selection)) port)
-          (codeOfQuality (qualityOf after)))
-          (sending-at sequence port inside);
+      answer = answer-by sequence;
+      outgoing = ports-same (codeFor (stateAfter sequence .inputs) (stateAfter sequence .mode) (selectedNumber (stateAfter sequence .selection))
+          (codeOfQuality (qualityOf (stateAfter sequence))))
+          (codeBy (pastOf sequence))
+          (code-by sequence);
+      never03 = never-03 sequence;
     }

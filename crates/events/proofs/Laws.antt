@@ -26,8 +26,8 @@ use Rattle.decision.specs.Choices.{commanded}
 use Rattle.selector.specs.declared.Selector.{Selector}
 use Rattle.selector.specs.State.{candidatesOf, ticked}
 use Rattle.run.proofs.Laws.{byBool}
-use Rattle.events.specs.Refusals.{firstThatApplies, isWrongKind, frameRefusal, earlyRefusal, ethernetAt, isForcedSwitch, lateRefusal}
-use Rattle.events.specs.Step.{lowByte, heldArgument, inputAfter, inputsAfter, modeAfter, recordedArgument, placed, stepped, stepRead}
+use Rattle.events.specs.Refusals.{firstThatApplies, isWrongKind, frameRefusal, earlyRefusal, isForcedSwitch, lateRefusal}
+use Rattle.events.specs.Step.{ethernetAt, lowByte, heldArgument, inputAfter, inputsAfter, modeAfter, recordedArgument, placed, stepped, stepRead}
 
 -- ---- isWrongKind
 

@@ -10,8 +10,8 @@ use Rattle.numbers.specs.Refusal.{accepted, frameLength, frameTlv}
 use Rattle.frame.specs.Read.{readFrame}
 use Rattle.selector.specs.declared.Selector.{Selector}
 use Rattle.selector.specs.State.{candidatesOf, ticked}
-use Rattle.events.specs.Refusals.{Refusal, frameRefusal, earlyRows, ethernetAt, lateRows}
-use Rattle.events.specs.Step.{recordedEvent, placed, stepped, step}
+use Rattle.events.specs.Refusals.{Refusal, frameRefusal, earlyRows, lateRows}
+use Rattle.events.specs.Step.{ethernetAt, recordedEvent, placed, stepped, step}
 
 -- no row of the table applies
 abbrev pub NoneApplies : List Refusal → Type 0

@@ -11,8 +11,6 @@ use Rattle.numbers.specs.Kind.{kindOf, isKnown, isInputOut, isArgumentOut, kind
 use Rattle.numbers.specs.Refusal.{accepted, kindUnknown, timeTooLarge, timeBeforeState, inputOutOfRange, argumentOutOfRange, wrongInputKind, forcedBarred, manualForcedStands, manualNotEligible, manualLowerQuality}
 use Rattle.frame.specs.declared.FrameRead.{FrameRead}
 use Rattle.frame.specs.Read.{numberOfRead}
-use Rattle.input.specs.declared.Input.{Input}
-use Rattle.input.specs.Record.{freshInput}
 use Rattle.choice.specs.declared.Candidate.{Candidate}
 use Rattle.choice.specs.Candidate.{nobody, eligibleAmong, anyLower}
 use Rattle.decision.specs.declared.Switch.{Switch}
@@ -59,10 +57,6 @@ earlyRows time ethernet event read =
 -- the number of an event that is refused before the tick
 unfoldable pub earlyRefusal : ℕ → Bool → Event → FrameRead → ℕ
 earlyRefusal time ethernet event read = firstThatApplies (earlyRows time ethernet event read)
-
--- an input is of the Ethernet kind
-abbrev pub ethernetAt : List Input → ℕ → Bool
-ethernetAt inputs number = getD inputs number freshInput .settings .ethernet
 
 -- "a forced switch stands"
 unfoldable pub isForcedSwitch : Switch → Bool

@@ -16,7 +16,7 @@ use Rattle.decision.specs.Choices.{commanded}
 use Rattle.selector.specs.declared.Selector.{Selector}
 use Rattle.selector.specs.State.{candidatesOf, decided, ticked}
 use Rattle.events.specs.declared.Stepped.{Stepped}
-use Rattle.events.specs.Refusals.{ethernetAt, earlyRefusal, lateRefusal}
+use Rattle.events.specs.Refusals.{earlyRefusal, lateRefusal}
 
 -- the low byte of an argument; an accepted argument but the hold-off's is its own
 abbrev pub lowByte : ℕ → ℕ
@@ -72,6 +72,10 @@ placed state event =
 -- a number and the state that goes with it
 abbrev pub stepped : ℕ → Selector → Stepped
 stepped number state = record { number = number; state = state }
+
+-- an input is of the Ethernet kind
+abbrev pub ethernetAt : List Input → ℕ → Bool
+ethernetAt inputs number = getD inputs number freshInput .settings .ethernet
 
 -- the number that refuses an event before its tick
 abbrev pub earlyNumber : Selector → Event → FrameRead → ℕ

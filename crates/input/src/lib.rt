@@ -14,7 +14,7 @@ use run::Run;
 ghost use mathlib.Core.Path.{_≡_};
 ghost use Prim.Native.Nat.{_*_};
 ghost use Rattle.numbers.specs.Inputs.{minute};
-ghost use Rattle.numbers.specs.Kind.{flag, kindSignal, kindFrame, kindLineCode, kindPriority, kindLockout, kindHoldoff, kindWait, kindFixedQuality, kindClearWait, kindQualityMode, kindSending, kindInputKind};
+ghost use Rattle.numbers.specs.Kind.{flag, kindSignal, kindFrame, kindLineCode, kindPriority, kindLockout, kindHoldoff, kindWait, kindFixedQuality, kindClearWait, kindSending, kindInputKind};
 ghost use Rattle.input.specs.Record.{freshInput, countAfter, lineAfter, forgotten, heardAfter, settingsAfter, qualityNow, canExpire, forecast, settle, tick, afterEvent, passedOf};
 
 // How many equal codes in a row settle a line's quality.
@@ -174,8 +174,8 @@ fn can_expire(heard: Heard, settings: Settings, mode: bool) -> bool
     false
 }
 
-// A time in ms, of a setting.
-fn in_ms(holdoff: u16) -> u64
+// The hold-off, as wide as a time.
+fn holdoff_in_ms(holdoff: u16) -> u64
     ensures { λ answer. ⌜ answer ≡ holdoff ⌝ }
 {
     holdoff as u64
@@ -215,7 +215,7 @@ impl Input {
     {
         let heard = self.heard;
         let settings = self.settings;
-        let holdoff = in_ms(settings.holdoff);
+        let holdoff = holdoff_in_ms(settings.holdoff);
         let wait = minutes_in_ms(settings.wait);
         let quality = quality_now(heard, settings, mode);
         let expires = can_expire(heard, settings, mode);
@@ -348,13 +348,6 @@ impl Input {
         settings.ethernet = ethernet;
         self.heard = heard;
         self.settings = settings;
-        self.settle(time, mode, false)
-    }
-
-    // The quality mode changed to `mode`.
-    pub fn quality_mode(self, time: u64, mode: bool) -> Input
-        ensures { λ answer. ⌜ answer ≡ afterEvent self kindQualityMode (flag mode) time mode ⌝ }
-    {
         self.settle(time, mode, false)
     }
 

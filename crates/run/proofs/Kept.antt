@@ -15,7 +15,7 @@ use Rattle.run.specs.declared.Forecast.{Forecast}
 use Rattle.run.specs.declared.Run.{Run}
 use Rattle.run.specs.Moments.{Moment, Moments, rawQuality, fails, eachMillisecond}
 use Rattle.run.specs.Passed.{alike, runBegan, goodQuality, wasUp, passed}
-use Rattle.run.specs.Run.{runOf, freshRun, isExpired, rawAt, momentAt, runStart, phase, lastGood, atMoment, upBefore, broughtTo, passedQuality}
+use Rattle.run.specs.Run.{runOf, freshRun, isExpired, rawAt, momentAt, runStart, isUpAfter, lastGood, atMoment, upBefore, broughtTo, passedQuality}
 use Rattle.run.proofs.Laws.{byBool}
 
 -- ---- the run kept of any moments
@@ -46,15 +46,15 @@ start-alike true false start time = refl
 start-alike false true start time = refl
 start-alike false false start time = refl
 
-phase-defined : (fails down wait clears up : Bool)
+isUpAfter-defined : (fails down wait clears up : Bool)
     → cond fails (cond down false up) (cond (clears || wait) true up) ≡
     cond (fails && down) false (cond (not fails && (wait || clears)) true up)
-phase-defined true true wait clears up = refl
-phase-defined true false wait clears up = refl
-phase-defined false down true true up = refl
-phase-defined false down true false up = refl
-phase-defined false down false true up = refl
-phase-defined false down false false up = refl
+isUpAfter-defined true true wait clears up = refl
+isUpAfter-defined true false wait clears up = refl
+isUpAfter-defined false down true true up = refl
+isUpAfter-defined false down true false up = refl
+isUpAfter-defined false down false true up = refl
+isUpAfter-defined false down false false up = refl
 
 kept-step : (moment : Moment) (earlier : Moments) → taken moment (defined earlier) ≡ defined (moment ∷ earlier)
 unfolding taken defined lastGood
@@ -66,7 +66,7 @@ kept-step moment earlier =
     (goodQuality (moment ∷ earlier))
     (isFailed (moment .raw))
     up)
-    (phase-defined (isFailed (moment .raw)) _ _ (moment .clears) (wasUp earlier)))
+    (isUpAfter-defined (isFailed (moment .raw)) _ _ (moment .clears) (wasUp earlier)))
 
 pub kept-defined : (moments : Moments) → kept moments ≡ defined moments
 unfolding kept defined
@@ -88,7 +88,7 @@ passed-defined moments = rw (kept-defined moments) (ap (λ (quality : Quality). 
 -- an event's own moment
 pub atMoment-taken : (run : Run) (forecast : Forecast) (time : ℕ) (clears : Bool)
     → atMoment run forecast time clears ≡ taken (momentAt forecast clears time) run
-unfolding atMoment taken phase
+unfolding atMoment taken isUpAfter
 atMoment-taken run forecast time clears = refl
 
 -- ---- one millisecond more
@@ -114,26 +114,26 @@ module _ (f h w : ℕ) (q : Quality) (s : ℕ) (g : Quality) (time : ℕ) (u : B
   more-failed : (x : Bool) → isFailed (rawAt (forecastOf f h w q x) (suc time)) ≡ true
       → atMoment (broughtTo (runOf s g true u) (forecastOf f h w q x) time) (forecastOf f h w q x) (suc time) false ≡
       broughtTo (runOf s g true u) (forecastOf f h w q x) (suc time)
-  unfolding atMoment broughtTo runStart lastGood phase
+  unfolding atMoment broughtTo runStart lastGood isUpAfter
   more-failed x e = rw e (ap (λ (b : Bool). runOf s g true b) (timer (s + h) time false u))
 
   more-counts : (x : Bool) → isFailed q ≡ false → g ≡ q → (x && leb (f + frameLife) time) ≡ false
       → (x && leb (f + frameLife) (suc time)) ≡ false
       → atMoment (broughtTo (runOf s g false u) (forecastOf f h w q x) time) (forecastOf f h w q x) (suc time) false ≡
       broughtTo (runOf s g false u) (forecastOf f h w q x) (suc time)
-  unfolding atMoment broughtTo runStart lastGood phase isExpired rawAt
+  unfolding atMoment broughtTo runStart lastGood isUpAfter isExpired rawAt
   more-counts x e k a b = rw (a, b, e, k) (ap (λ (b : Bool). runOf s q false b) (timer (s + w) time true u))
 
   more-gone : leb (f + frameLife) time ≡ true → leb (f + frameLife) (suc time) ≡ true
       → atMoment (broughtTo (runOf s g false u) (forecastOf f h w q true) time) (forecastOf f h w q true) (suc time) false ≡
       broughtTo (runOf s g false u) (forecastOf f h w q true) (suc time)
-  unfolding atMoment broughtTo runStart lastGood phase isExpired rawAt
+  unfolding atMoment broughtTo runStart lastGood isUpAfter isExpired rawAt
   more-gone a b = rw (a, b) (ap (λ (b : Bool). runOf (f + frameLife) g true b) (timer (f + frameLife + h) time false _))
 
   more-expires : leb (f + frameLife) time ≡ false → leb (f + frameLife) (suc time) ≡ true
       → atMoment (broughtTo (runOf s g false u) (forecastOf f h w q true) time) (forecastOf f h w q true) (suc time) false ≡
       broughtTo (runOf s g false u) (forecastOf f h w q true) (suc time)
-  unfolding atMoment broughtTo runStart lastGood phase isExpired rawAt upBefore
+  unfolding atMoment broughtTo runStart lastGood isUpAfter isExpired rawAt upBefore
   more-expires a b =
       let i : f + frameLife ≡ suc time = omega (arith, leb-true (f + frameLife) (suc time) b, leb-false (f + frameLife) time a) in
       rw (a, b, i, leb·suc-suc (s + w) time) refl
@@ -199,7 +199,7 @@ judged false x up f = refl
 zero-any : (f h w : ℕ) (q : Quality) (x : Bool) (s : ℕ) (g : Quality) (b u : Bool) (time : ℕ)
     → Settled (forecastOf f h w q x) (runOf s g b u) time
     → broughtTo (runOf s g b u) (forecastOf f h w q x) time ≡ runOf s g b u
-unfolding broughtTo phase isExpired rawAt
+unfolding broughtTo isUpAfter isExpired rawAt
 zero-any f h w q x s g true u time c =
     ap (λ (b : Bool). runOf s g true b) (judged (leb (s + h) time) false u (λ e. c .heldOff refl (leb-true (s + h) time e)))
 zero-any f h w q false s g false u time c =
@@ -243,7 +243,7 @@ waited-taken fails x false ended up e k = rw (e, k)
 -- any moment leaves nothing due at its time
 pub settled-atMoment : (run : Run) (forecast : Forecast) (time : ℕ) (clears : Bool)
     → Settled forecast (atMoment run forecast time clears) time
-unfolding atMoment lastGood phase rawAt
+unfolding atMoment lastGood isUpAfter rawAt
 settled-atMoment run forecast time clears =
     record {
       fits = record { fails = refl; good = λ e. good-taken (isExpired forecast time) (run .good) (forecast .quality) e };
@@ -254,7 +254,7 @@ settled-atMoment run forecast time clears =
 again-any : (f h w : ℕ) (q : Quality) (x : Bool) (s : ℕ) (g : Quality) (b u : Bool) (time : ℕ)
     → Settled (forecastOf f h w q x) (runOf s g b u) time
     → atMoment (runOf s g b u) (forecastOf f h w q x) time false ≡ runOf s g b u
-unfolding atMoment runStart lastGood phase
+unfolding atMoment runStart lastGood isUpAfter
 again-any f h w q x s g true u time c =
     rw (← c .fits .fails)
     (ap (λ (b : Bool). runOf s g true b) (judged (leb (s + h) time) false u (λ e. c .heldOff refl (leb-true (s + h) time e))))

@@ -12,7 +12,7 @@ use Rattle.numbers.specs.Quality.{failed, isFailed}
 use Rattle.numbers.specs.Inputs.{frameLife}
 use Rattle.run.specs.declared.Forecast.{Forecast}
 use Rattle.run.specs.declared.Run.{Run}
-use Rattle.run.specs.Run.{runOf, isExpired, rawAt, runStart, phase, lastGood, upBefore, broughtTo, passedQuality}
+use Rattle.run.specs.Run.{runOf, isExpired, rawAt, runStart, isUpAfter, lastGood, upBefore, broughtTo, passedQuality}
 
 -- both cases of a test, with the equation
 pub byBool : {C : Type 0} (test : Bool) → (test ≡ true → C) → (test ≡ false → C) → C
@@ -70,35 +70,35 @@ module _ (was isFailing : Bool) (start time : ℕ) where
 
 pub ruleset runStart-laws = (runStart-stays-failed, runStart-recovers, runStart-fails, runStart-stays-good)
 
--- ---- phase
+-- ---- isUpAfter
 
 module _ (up isFailing : Bool) (start : ℕ) (forecast : Forecast) (time : ℕ) (clears ended : Bool) where
-  pub phase-down : isFailing ≡ true → ended ≡ leb (start + forecast .holdoff) time → ended ≡ true
-      → false ≡ phase up isFailing start forecast time clears
-  unfolding phase
-  phase-down f q t = rw (f, ← q, t)
+  pub isUpAfter-down : isFailing ≡ true → ended ≡ leb (start + forecast .holdoff) time → ended ≡ true
+      → false ≡ isUpAfter up isFailing start forecast time clears
+  unfolding isUpAfter
+  isUpAfter-down f q t = rw (f, ← q, t)
 
-  pub phase-held-off : isFailing ≡ true → ended ≡ leb (start + forecast .holdoff) time → ended ≡ false
-      → up ≡ phase up isFailing start forecast time clears
-  unfolding phase
-  phase-held-off f q t = rw (f, ← q, t)
+  pub isUpAfter-held-off : isFailing ≡ true → ended ≡ leb (start + forecast .holdoff) time → ended ≡ false
+      → up ≡ isUpAfter up isFailing start forecast time clears
+  unfolding isUpAfter
+  isUpAfter-held-off f q t = rw (f, ← q, t)
 
-  pub phase-up : isFailing ≡ false → clears ≡ false → ended ≡ leb (start + forecast .wait) time → ended ≡ true
-      → true ≡ phase up isFailing start forecast time clears
-  unfolding phase
-  phase-up f k q t = rw (f, k, ← q, t)
+  pub isUpAfter-up : isFailing ≡ false → clears ≡ false → ended ≡ leb (start + forecast .wait) time → ended ≡ true
+      → true ≡ isUpAfter up isFailing start forecast time clears
+  unfolding isUpAfter
+  isUpAfter-up f k q t = rw (f, k, ← q, t)
 
-  pub phase-waiting : isFailing ≡ false → clears ≡ false → ended ≡ leb (start + forecast .wait) time → ended ≡ false
-      → up ≡ phase up isFailing start forecast time clears
-  unfolding phase
-  phase-waiting f k q t = rw (f, k, ← q, t)
+  pub isUpAfter-waiting : isFailing ≡ false → clears ≡ false → ended ≡ leb (start + forecast .wait) time → ended ≡ false
+      → up ≡ isUpAfter up isFailing start forecast time clears
+  unfolding isUpAfter
+  isUpAfter-waiting f k q t = rw (f, k, ← q, t)
 
-pub phase-cleared : (up isFailing : Bool) (start : ℕ) (forecast : Forecast) (time : ℕ) (clears : Bool)
-    → isFailing ≡ false → clears ≡ true → true ≡ phase up isFailing start forecast time clears
-unfolding phase
-phase-cleared up isFailing start forecast time clears f k = rw (f, k)
+pub isUpAfter-cleared : (up isFailing : Bool) (start : ℕ) (forecast : Forecast) (time : ℕ) (clears : Bool)
+    → isFailing ≡ false → clears ≡ true → true ≡ isUpAfter up isFailing start forecast time clears
+unfolding isUpAfter
+isUpAfter-cleared up isFailing start forecast time clears f k = rw (f, k)
 
-pub ruleset phase-laws = (phase-down, phase-held-off, phase-cleared, phase-up, phase-waiting)
+pub ruleset isUpAfter-laws = (isUpAfter-down, isUpAfter-held-off, isUpAfter-cleared, isUpAfter-up, isUpAfter-waiting)
 
 -- ---- lastGood
 
@@ -156,7 +156,7 @@ isExpired-fits forecast time test q t fits = let e = isExpired-end forecast time
 -- ---- broughtTo
 
 module _ (run : Run) (forecast : Forecast) (time : ℕ) (up : Bool) where
-  pub broughtTo-failed : run .failed ≡ true → up ≡ phase (run .up) true (run .start) forecast time false
+  pub broughtTo-failed : run .failed ≡ true → up ≡ isUpAfter (run .up) true (run .start) forecast time false
       → runOf (run .start) (run .good) true up ≡ broughtTo run forecast time
   unfolding broughtTo
   broughtTo-failed f q = rw (f, q)
@@ -164,13 +164,13 @@ module _ (run : Run) (forecast : Forecast) (time : ℕ) (up : Bool) where
   pub broughtTo-expired : (before expired : Bool) (end : ℕ) → run .failed ≡ false → expired ≡ isExpired forecast time
       → expired ≡ true → end ≡ forecast .framed + frameLife
       → before ≡ upBefore (run .up) (run .start) (forecast .wait) end
-      → up ≡ phase before true end forecast time false
+      → up ≡ isUpAfter before true end forecast time false
       → runOf end (run .good) true up ≡ broughtTo run forecast time
   unfolding broughtTo
   broughtTo-expired before expired end f q t e b u = rw (f, ← q, t, u, b, e)
 
   pub broughtTo-counts : (expired : Bool) → run .failed ≡ false → expired ≡ isExpired forecast time → expired ≡ false
-      → up ≡ phase (run .up) false (run .start) forecast time false
+      → up ≡ isUpAfter (run .up) false (run .start) forecast time false
       → runOf (run .start) (run .good) false up ≡ broughtTo run forecast time
   unfolding broughtTo
   broughtTo-counts expired f q t u = rw (f, ← q, t, u)

@@ -42,8 +42,8 @@ unfoldable pub runStart : Bool → ℕ → Bool → ℕ → ℕ
 runStart was start isFailing time = cond was (cond isFailing start time) (cond isFailing time start)
 
 -- whether the last down or up moment is up, after the moment at a time
-unfoldable pub phase : Bool → Bool → ℕ → Forecast → ℕ → Bool → Bool
-phase up isFailing start forecast time clears =
+unfoldable pub isUpAfter : Bool → Bool → ℕ → Forecast → ℕ → Bool → Bool
+isUpAfter up isFailing start forecast time clears =
     cond isFailing
     (cond (leb (start + forecast .holdoff) time) false up)
     (cond (clears || leb (start + forecast .wait) time) true up)
@@ -57,7 +57,7 @@ unfoldable pub atMoment : Run → Forecast → ℕ → Bool → Run
 atMoment run forecast time clears =
     let raw = rawAt forecast time in
     let start = runStart (run .failed) (run .start) (isFailed raw) time in
-    runOf start (lastGood (run .good) raw) (isFailed raw) (phase (run .up) (isFailed raw) start forecast time clears)
+    runOf start (lastGood (run .good) raw) (isFailed raw) (isUpAfter (run .up) (isFailed raw) start forecast time clears)
 
 -- whether the last down or up moment before `end` was up, in a run that is not failed and ends there
 unfoldable pub upBefore : Bool → ℕ → ℕ → ℕ → Bool
@@ -69,10 +69,10 @@ broughtTo run forecast time =
     let end = forecast .framed + frameLife in
     let before = upBefore (run .up) (run .start) (forecast .wait) end in
     cond (run .failed)
-    (runOf (run .start) (run .good) true (phase (run .up) true (run .start) forecast time false))
+    (runOf (run .start) (run .good) true (isUpAfter (run .up) true (run .start) forecast time false))
     (cond (isExpired forecast time)
-    (runOf end (run .good) true (phase before true end forecast time false))
-    (runOf (run .start) (run .good) false (phase (run .up) false (run .start) forecast time false)))
+    (runOf end (run .good) true (isUpAfter before true end forecast time false))
+    (runOf (run .start) (run .good) false (isUpAfter (run .up) false (run .start) forecast time false)))
 
 -- what is passed on
 unfoldable pub passedQuality : Run → Quality

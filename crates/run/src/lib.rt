@@ -10,7 +10,7 @@ use numbers::is_failed;
 ghost use mathlib.Core.Path.{_≡_};
 ghost use Prim.Native.Nat.{_+_};
 ghost use lib.Dec.{leb};
-ghost use Rattle.run.specs.Run.{freshRun, isExpired, rawAt, runStart, phase, lastGood, atMoment, upBefore, broughtTo, passedQuality};
+ghost use Rattle.run.specs.Run.{freshRun, isExpired, rawAt, runStart, isUpAfter, lastGood, atMoment, upBefore, broughtTo, passedQuality};
 
 // Raw quality from here on, if no event comes, and the timers in force: `quality`, and failed from
 // the frame's 5,000th millisecond on where it `expires`. `holdoff` and `wait` are in ms.
@@ -68,8 +68,15 @@ fn run_start(was: bool, start: u64, failed: bool, time: u64) -> u64
 }
 
 // Whether the last down or up moment is up, once the moment at `time` has been judged.
-fn phase(up: bool, failed: bool, start: u64, forecast: Forecast, time: u64, clears: bool) -> bool
-    ensures { λ answer. ⌜ answer ≡ phase up failed start forecast time clears ⌝ }
+fn is_up_after(
+    up: bool,
+    failed: bool,
+    start: u64,
+    forecast: Forecast,
+    time: u64,
+    clears: bool,
+) -> bool
+    ensures { λ answer. ⌜ answer ≡ isUpAfter up failed start forecast time clears ⌝ }
 {
     if failed {
         if has_elapsed(start, forecast.holdoff, time) {
@@ -139,7 +146,7 @@ impl Run {
         let raw = forecast.raw_at(time);
         let failed = is_failed(raw);
         let start = run_start(self.failed, self.start, failed, time);
-        let up = phase(self.up, failed, start, forecast, time, clears);
+        let up = is_up_after(self.up, failed, start, forecast, time, clears);
         let old = self.good;
         let good = last_good(old, raw);
         Run {
@@ -157,7 +164,7 @@ impl Run {
     {
         let good = self.good;
         if self.failed {
-            let up = phase(self.up, true, self.start, forecast, time, false);
+            let up = is_up_after(self.up, true, self.start, forecast, time, false);
             return Run {
                 start: self.start,
                 good,
@@ -168,7 +175,7 @@ impl Run {
         if forecast.is_expired(time) {
             let end = forecast.framed + FRAME_LIFE;
             let before = up_before(self.up, self.start, forecast.wait, end);
-            let up = phase(before, true, end, forecast, time, false);
+            let up = is_up_after(before, true, end, forecast, time, false);
             return Run {
                 start: end,
                 good,
@@ -176,7 +183,7 @@ impl Run {
                 up,
             };
         }
-        let up = phase(self.up, false, self.start, forecast, time, false);
+        let up = is_up_after(self.up, false, self.start, forecast, time, false);
         Run {
             start: self.start,
             good,

@@ -72,3 +72,15 @@ getD-from f d first (suc count) (suc number) h =
 pub getD-ports : {A : Type 0} (f : ℕ → A) (d : A) (number : ℕ) → number < 16 → getD (map f ports) number d ≡ f number
 unfolding numbersFrom
 getD-ports f d number h = let e : 0 + number ≡ number = omega arith in getD-from f d 0 16 number h ∙ ap f e
+
+-- two functions that agree at each port agree on the list of ports
+map-from : {A : Type 0} (f g : ℕ → A) (first count : ℕ) → ((number : ℕ) → number < first + count → f number ≡ g number)
+    → map f (numbersFrom first count) ≡ map g (numbersFrom first count)
+unfolding numbersFrom
+map-from f g first zero same = refl
+map-from f g first (suc count) same = λ j.
+    same first (omega arith) j ∷ map-from f g (suc first) count (λ number h. same number (omega arith)) j
+
+pub ports-same : {A : Type 0} (f g : ℕ → A) → ((port : ℕ) → port < 16 → f port ≡ g port) → map f ports ≡ map g ports
+unfolding numbersFrom
+ports-same f g same = map-from f g 0 16 same

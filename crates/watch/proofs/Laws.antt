@@ -4,11 +4,12 @@ use mathlib.Core.Bool.{Bool, true, false, not, cond}
 use mathlib.Core.List.{List}
 use mathlib.Core.Path.{_≡_, refl, sym, _∙_, ap}
 use native.Mathlib.Omega.{arith}
+use native.Mathlib.Nat.{mod-eq-of-lt}
 use native.Mathlib.Numerals.{add-one}
 use lib.Dec.{eqb, ltb}
 use lib.ListN.{length, getD, set}
 use lib.Seq.{set-getD}
-use borrow.Author.Tests.{eqb-true, eqb-false, eq-eqb, ne-eqb, le-leb, lt-leb, lt-ltb, ltb-true, ltb-false, not-false}
+use borrow.Author.Tests.{eqb-true, eqb-false, eq-eqb, ne-eqb, le-leb, lt-leb, lt-ltb, le-ltb, ltb-true, ltb-false, not-false}
 use Rattle.numbers.specs.declared.Answer.{Answer}
 use Rattle.numbers.specs.declared.Event.{Event}
 use Rattle.numbers.specs.declared.Quality.{Quality}
@@ -33,8 +34,8 @@ use Rattle.watch.specs.declared.Left.{Left}
 use Rattle.watch.specs.declared.Left.the-variants.{Nothing, Choice, Service}
 use Rattle.watch.specs.declared.Own.{Own}
 use Rattle.watch.specs.declared.Watch.{Watch}
-use Rattle.watch.specs.Due.{never, lesser, sumOrNever, waitDue, expiryDue, runDue, dueOf, dueAmong, dueOfAll}
-use Rattle.watch.specs.Watch.{watchOf, numbered, commands, isServed, ranksAlike, movedTo, ownBefore, ownAfter, ownTaken, quickState, quickDue, quickAnswer, servedWatch, watchStep}
+use Rattle.watch.specs.Due.{never, lesser, sumOrNever, waitDue, expiryDue, runDue, dueOf, dueAmong, dueOfAll, dueAnew}
+use Rattle.watch.specs.Watch.{watchOf, numbered, commands, isServed, ranksAlike, movedTo, ownBefore, ownAfter, quickState, quickDue, quickAnswer, servedWatch, dueStep, renewed, watchStep}
 use Rattle.watch.specs.Own.{OwnPlace, ownOf, ownTake, ownStep, completed}
 
 -- ---- lesser, sumOrNever
@@ -123,6 +124,19 @@ pub dueAmong-all : (inputs : List Input) (mode : Bool) (count due : ℕ) → due
 dueAmong-all inputs mode count due d h k = let z : count ≡ 16 = omega arith in d ∙ (rw z)
 
 pub ruleset dueAmong-laws = (dueAmong-none, dueAmong-more, dueAmong-all)
+
+-- ---- dueAnew
+
+module _ (inputs : List Input) (mode : Bool) (due time : ℕ) where
+  pub dueAnew-before : time < due → due ≡ dueAnew inputs mode due time
+  unfolding dueAnew
+  dueAnew-before h = rw (lt-ltb _ _ h)
+
+  pub dueAnew-come : (next : ℕ) → due ≤ time → next ≡ dueOfAll inputs mode → next ≡ dueAnew inputs mode due time
+  unfolding dueAnew
+  dueAnew-come next h n = n ∙ (rw (le-ltb _ _ h))
+
+pub ruleset dueAnew-laws = (dueAnew-before, dueAnew-come)
 
 -- ---- commands, isServed
 
@@ -219,27 +233,27 @@ early-outside time one other event read out = rw (out-of-range (rowOf (kindOf (e
     out-of-range true = rw (ne-eqb (event .input) 0 (λ zero. omega arith))
     out-of-range false = lt-ltb 15 (event .input) (omega arith)
 
--- ---- watchStep
+-- ---- dueStep
 
 module _ (watch : Watch) (event : Event) (read : FrameRead) where
-  pub watchStep-refused : (early : ℕ) → early ≡ earlyNumber (watch .state) event read → (early ≡ accepted → ⊥)
-      → watchOf (watch .state) (watch .due) (numbered early (watch .answer)) ≡ watchStep watch event read
-  unfolding watchStep
-  watchStep-refused early e n = rw (← e, ne-eqb _ _ n)
+  pub dueStep-refused : (early : ℕ) → early ≡ earlyNumber (watch .state) event read → (early ≡ accepted → ⊥)
+      → watchOf (watch .state) (watch .due) (numbered early (watch .answer)) ≡ dueStep watch event read
+  unfolding dueStep
+  dueStep-refused early e n = rw (← e, ne-eqb _ _ n)
 
-  pub watchStep-served : earlyNumber (watch .state) event read ≡ accepted
+  pub dueStep-served : earlyNumber (watch .state) event read ≡ accepted
       → isServed (watch .due) (event .kind) (event .time) ≡ true
-      → servedWatch (watch .state) event read ≡ watchStep watch event read
-  unfolding watchStep
-  watchStep-served e s = rw (e, s)
+      → servedWatch (watch .state) event read ≡ dueStep watch event read
+  unfolding dueStep
+  dueStep-served e s = rw (e, s)
 
-  pub watchStep-quick : earlyNumber (watch .state) event read ≡ accepted
+  pub dueStep-quick : earlyNumber (watch .state) event read ≡ accepted
       → isServed (watch .due) (event .kind) (event .time) ≡ false
       → watchOf (quickState (watch .state) event read) (quickDue (watch .state) (watch .due) event read)
       (quickAnswer (watch .state) (watch .answer) event read) ≡
-      watchStep watch event read
-  unfolding watchStep
-  watchStep-quick e s = rw (e, s)
+      dueStep watch event read
+  unfolding dueStep
+  dueStep-quick e s = rw (e, s)
 
 -- ---- ownTake
 
@@ -312,7 +326,7 @@ pub ruleset completed-laws = (completed-nothing, completed-choice, completed-ser
 pub ownPlace-unique : (inputs : List Input) (number one other : ℕ) → OwnPlace inputs number one
     → OwnPlace inputs number other
     → one ≡ other
-ownPlace-unique inputs number one other first second = first .answered ∙ sym (second .answered)
+ownPlace-unique inputs number one other first second = first .own ∙ sym (second .own)
 
 -- the state with an input in its place, and the rest of what an event made of it
 abbrev pub ownPut : Watch → ℕ → Own → Event → FrameRead → Watch
@@ -322,6 +336,10 @@ ownPut watch place own event read =
     (own .left)
     event
     read
+
+-- one of the sixteen stands at its own number
+own-place : {inputs : List Input} {number place : ℕ} → OwnPlace inputs number place → number < inputCount → place ≡ number
+own-place at inside = at .own ∙ mod-eq-of-lt inside
 
 -- the event's own input is read from an array, whose element past its end is not told
 module _ (watch : Watch) (event : Event) (read : FrameRead) (zeroed : Input) (place : ℕ)
@@ -335,7 +353,7 @@ module _ (watch : Watch) (event : Event) (read : FrameRead) (zeroed : Input) (pl
   own : event .input < inputCount → before ≡ ownBefore (watch .state) event
   own inside =
       getD-any (watch .state .inputs) place zeroed freshInput (at .inside) ∙
-      ap (λ (n : ℕ). getD (watch .state .inputs) n freshInput) (at .own inside)
+      ap (λ (n : ℕ). getD (watch .state .inputs) n freshInput) (own-place at inside)
 
   put-back : set (watch .state .inputs) place before ≡ watch .state .inputs
   put-back = set-getD (watch .state .inputs) place zeroed
@@ -349,42 +367,43 @@ module _ (watch : Watch) (event : Event) (read : FrameRead) (zeroed : Input) (pl
 
   put-refused : (early ≡ accepted → ⊥)
       → ownPut watch place (ownOf before (watch .state .time) (watch .due) early Nothing) event read ≡
-      watchStep watch event read
+      dueStep watch event read
   unfolding completed
-  put-refused n = rw put-back (watchStep-refused watch event read early own-early n)
+  put-refused n = rw put-back (dueStep-refused watch event read early own-early n)
 
   module _ (none : early ≡ accepted) where
     here : before ≡ ownBefore (watch .state) event
     here = own (taken-input (watch .state .time) (before .settings .ethernet) event read none)
 
     there : place ≡ event .input
-    there = at .own (taken-input (watch .state .time) (before .settings .ethernet) event read none)
+    there = own-place at (taken-input (watch .state .time) (before .settings .ethernet) event read none)
 
     put-served : isServed (watch .due) (event .kind) (event .time) ≡ true
         → ownPut watch place (ownOf before (watch .state .time) (watch .due) accepted Service) event read ≡
-        watchStep watch event read
+        dueStep watch event read
     unfolding completed
-    put-served y = rw put-back (watchStep-served watch event read (sym own-early ∙ none) y)
+    put-served y = rw put-back (dueStep-served watch event read (sym own-early ∙ none) y)
 
     module _ (y : isServed (watch .due) (event .kind) (event .time) ≡ false) where
       put-tick : eqb (event .kind) kindTick ≡ true
           → ownPut watch place (ownOf before (event .time) (watch .due) accepted Nothing) event read ≡
-          watchStep watch event read
+          dueStep watch event read
       unfolding completed quickState quickDue quickAnswer
-      put-tick t = rw (put-back, ← watchStep-quick watch event read (sym own-early ∙ none) y, t)
+      put-tick t = rw (put-back, ← dueStep-quick watch event read (sym own-early ∙ none) y, t)
 
       put-taken : eqb (event .kind) kindTick ≡ false
           → ownPut watch place (ownTake before (watch .state .mode) (watch .due) event read) event read ≡
-          watchStep watch event read
+          dueStep watch event read
       unfolding completed ownTake quickState quickDue quickAnswer
       put-taken t =
-          rw (here, there, ← watchStep-quick watch event read (sym own-early ∙ none) y, t)
+          rw (here, there, ← dueStep-quick watch event read (sym own-early ∙ none) y, t)
           (byBool (ranksAlike (ownBefore (watch .state) event) (ownAfter (watch .state) event read))
           (λ r. rw r)
           (λ r. rw r))
 
-  put-own : ownPut watch place (ownStep before (watch .state .mode) (watch .state .time) (watch .due) event read) event read
-      ≡ watchStep watch event read
+  put-own :
+      ownPut watch place (ownStep before (watch .state .mode) (watch .state .time) (watch .due) event read) event read ≡
+      dueStep watch event read
   unfolding ownStep
   put-own =
       byBool (eqb early accepted)
@@ -395,8 +414,15 @@ module _ (watch : Watch) (event : Event) (read : FrameRead) (zeroed : Input) (pl
       (λ t. rw (e, y, t) (put-taken (eqb-true _ _ e) y t))))
       (λ e. rw e (put-refused (eqb-false _ _ e)))
 
-  -- what the code makes of them is the definition
-  pub step-completed : (own : Own) (after : Watch)
-      → own ≡ ownStep before (watch .state .mode) (watch .state .time) (watch .due) event read
-      → after ≡ ownPut watch place own event read → after ≡ watchStep watch event read
-  step-completed own after o a = a ∙ ap (λ (x : Own). ownPut watch place x event read) o ∙ put-own
+-- what the code makes of them is the definition
+pub step-completed : (watch : Watch) (event : Event) (read : FrameRead) (zeroed : Input) (place due : ℕ)
+    → OwnPlace (watch .state .inputs) (event .input) place
+    → due ≡ dueAnew (watch .state .inputs) (watch .state .mode) (watch .due) (event .time)
+    → (own : Own) (after : Watch)
+    → own ≡
+    ownStep (getD (watch .state .inputs) place zeroed) (watch .state .mode) (watch .state .time) due event read
+    → after ≡ ownPut watch place own event read → after ≡ watchStep watch event read
+unfolding watchStep
+step-completed watch event read zeroed place due at d own after o a =
+    a ∙ ap (λ (x : Own). ownPut watch place x event read) (o ∙ (rw d)) ∙
+    put-own (renewed watch (event .time)) event read zeroed place at

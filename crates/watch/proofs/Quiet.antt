@@ -11,7 +11,7 @@ use Rattle.numbers.specs.declared.Quality.{Quality}
 use Rattle.numbers.specs.Inputs.{frameLife}
 use Rattle.run.specs.declared.Forecast.{Forecast}
 use Rattle.run.specs.declared.Run.{Run}
-use Rattle.run.specs.Run.{runOf, isExpired, phase, broughtTo}
+use Rattle.run.specs.Run.{runOf, isExpired, isUpAfter, broughtTo}
 use Rattle.run.proofs.Laws.{byBool}
 use Rattle.run.proofs.Kept.{Settled, settled-broughtTo, settled-atMoment, atMoment-settled}
 use Rattle.input.specs.declared.Input.{Input}
@@ -68,7 +68,7 @@ forecastOf framed holdoff wait quality expires =
 quiet-any : (f h w : ℕ) (q : Quality) (x : Bool) (s : ℕ) (g : Quality) (b u : Bool) (time : ℕ)
     → time < runDue (runOf s g b u) (forecastOf f h w q x)
     → broughtTo (runOf s g b u) (forecastOf f h w q x) time ≡ runOf s g b u
-unfolding runDue broughtTo phase isExpired
+unfolding runDue broughtTo isUpAfter isExpired
 quiet-any f h w q x s g true u time lt = ap (λ (up : Bool). runOf s g true up) (held-off s h time u lt)
 quiet-any f h w q x s g false u time lt =
     let k : time < waitDue u s w = omega (arith, lesser-one (waitDue u s w) (expiryDue x f)) in

@@ -4,7 +4,7 @@ use mathlib.Core.Bool.{Bool, true, false, not, _&&_, _||_, true≢false, false�
 use mathlib.Core.List.{List, [], _∷_}
 use mathlib.Core.Path.{_≡_, refl, sym, _∙_, ap, subst}
 use native.Mathlib.Omega.{arith}
-use lib.Dec.{eqb, leb}
+use lib.Dec.{eqb, leb, ltb}
 use lib.ListN.{length, getD, set, length-set, length-map, List·getD-map}
 use lib.Seq.{set-getD, map-set-same}
 use borrow.Author.Tests.{eqb-true, eqb-false, ne-eqb, leb-false}
@@ -34,17 +34,16 @@ use Rattle.selector.specs.declared.Selector.{Selector}
 use Rattle.selector.specs.State.{freshSelector, candidateFor, candidatesOf, withDecision, decided, broughtTo, ticked}
 use Rattle.selector.specs.Answer.{candidateAt, selectedCandidate, switchFails, answerOf}
 use Rattle.events.specs.declared.Stepped.{Stepped}
-use Rattle.events.specs.Refusals.{ethernetAt}
-use Rattle.events.specs.Step.{inputAfter, inputsAfter, modeAfter, recordedArgument, recordedEvent, placed, stepped, earlyNumber, lateNumber, stepRead, step}
+use Rattle.events.specs.Step.{ethernetAt, inputAfter, inputsAfter, modeAfter, recordedArgument, recordedEvent, placed, stepped, earlyNumber, lateNumber, stepRead, step}
 use Rattle.events.specs.Sequence.{Sequence, stateAfter, numberAfter}
 use Rattle.events.proofs.Laws.{lateRefusal-other}
 use Rattle.watch.specs.declared.Watch.{Watch}
-use Rattle.watch.specs.Due.{never, lesser, runDue, dueOf, dueOfAll}
-use Rattle.watch.specs.Watch.{numbered, freshWatch, commands, isServed, ranksAlike, movedTo, ownBefore, ownAfter, ownTaken, quickState, quickDue, quickAnswer, servedWatch, watchStep}
+use Rattle.watch.specs.Due.{never, lesser, runDue, dueOf, dueOfAll, dueAnew}
+use Rattle.watch.specs.Watch.{numbered, freshWatch, commands, isServed, ranksAlike, movedTo, ownBefore, ownAfter, ownTaken, quickState, quickDue, quickAnswer, servedWatch, dueStep, renewed, watchStep}
 use Rattle.watch.specs.Sequence.{watchAfter, WatchRight}
 use Rattle.watch.proofs.Every.{Every, every-at, every-from, every-set, every-replicate, every-same, every-as, every-map}
 use Rattle.watch.proofs.Quiet.{lesser-one, lesser-other, SettledAt, DueFrom, tick-quiet, settled-tick, settled-settle, settled-after, inputAfter-tick, dueAmong-least}
-use Rattle.watch.proofs.Laws.{taken-time, taken-input, watchStep-refused, watchStep-served, watchStep-quick}
+use Rattle.watch.proofs.Laws.{taken-time, taken-input, dueStep-refused, dueStep-served, dueStep-quick}
 
 -- ---- tests
 
@@ -398,13 +397,13 @@ pub record Right (plain : Stepped) (watch : Watch) : Type 0 where
 module _ (watch : Watch) (event : Event) (read : FrameRead) (kept : Kept watch) where
   -- refused at once
   right-refused : (earlyNumber (watch .state) event read ≡ accepted → ⊥)
-      → Right (stepRead (watch .state) event read) (watchStep watch event read)
+      → Right (stepRead (watch .state) event read) (dueStep watch event read)
   right-refused given =
       let s : stepRead (watch .state) event read ≡ stepped (earlyNumber (watch .state) event read) (watch .state) =
       stepRead-refused (watch .state) event read given
       in
       subst (Right (stepRead (watch .state) event read))
-      (watchStep-refused watch event read (earlyNumber (watch .state) event read) refl given)
+      (dueStep-refused watch event read (earlyNumber (watch .state) event read) refl given)
       (record {
         state = sym (ap (λ (after : Stepped). after .state) s);
         answer =
@@ -416,13 +415,13 @@ module _ (watch : Watch) (event : Event) (read : FrameRead) (kept : Kept watch) 
   -- served
   right-served : earlyNumber (watch .state) event read ≡ accepted
       → isServed (watch .due) (event .kind) (event .time) ≡ true
-      → Right (stepRead (watch .state) event read) (watchStep watch event read)
+      → Right (stepRead (watch .state) event read) (dueStep watch event read)
   unfolding servedWatch
   right-served none served =
       let calm : Calm (stepRead (watch .state) event read .state) =
       calm-stepRead (watch .state) event read (kept .calm) none
       in
-      subst (Right (stepRead (watch .state) event read)) (watchStep-served watch event read none served)
+      subst (Right (stepRead (watch .state) event read)) (dueStep-served watch event read none served)
       (record {
         state = refl;
         answer = refl;
@@ -440,10 +439,10 @@ module _ (watch : Watch) (event : Event) (read : FrameRead) (kept : Kept watch) 
   -- quick
   right-quick : earlyNumber (watch .state) event read ≡ accepted
       → isServed (watch .due) (event .kind) (event .time) ≡ false
-      → Right (stepRead (watch .state) event read) (watchStep watch event read)
+      → Right (stepRead (watch .state) event read) (dueStep watch event read)
   unfolding isServed
   right-quick none quick =
-      subst (Right (stepRead (watch .state) event read)) (watchStep-quick watch event read none quick)
+      subst (Right (stepRead (watch .state) event read)) (dueStep-quick watch event read none quick)
       (record {
         state = same;
         answer = told ∙ (λ j. answerOf (taken-number j) (same j));
@@ -509,13 +508,32 @@ module _ (watch : Watch) (event : Event) (read : FrameRead) (kept : Kept watch) 
           sym (ap (λ (after : Stepped). after .state) step-taken)
 
   -- any event
-  pub watchStep-right : Right (stepRead (watch .state) event read) (watchStep watch event read)
-  watchStep-right =
+  dueStep-right : Right (stepRead (watch .state) event read) (dueStep watch event read)
+  dueStep-right =
       accepted-or-not (earlyNumber (watch .state) event read)
       (λ none. byBool (isServed (watch .due) (event .kind) (event .time))
       (λ served. right-served none served)
       (λ quick. right-quick none quick))
       (λ given. right-refused given)
+
+-- what is next due, made anew, is due of no input earlier either
+kept-renewed : (watch : Watch) (time : ℕ) → Kept watch → Kept (renewed watch time)
+unfolding dueAnew
+kept-renewed watch time kept =
+    record {
+      calm = kept .calm;
+      dues =
+          byBool (ltb time (watch .due))
+          (λ e. rw e (kept .dues))
+          (λ e. rw e (due-anew (watch .state .inputs) (watch .state .mode) (kept .calm .count)));
+      told = kept .told;
+    }
+
+pub watchStep-right : (watch : Watch) (event : Event) (read : FrameRead) → Kept watch
+    → Right (stepRead (watch .state) event read) (watchStep watch event read)
+unfolding watchStep
+watchStep-right watch event read kept =
+    dueStep-right (renewed watch (event .time)) event read (kept-renewed watch (event .time) kept)
 
 -- ---- from a fresh start
 

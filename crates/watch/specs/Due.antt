@@ -4,7 +4,7 @@
 use Prim.Native.Nat.{ℕ, zero, suc, _+_}
 use mathlib.Core.Bool.{Bool, cond}
 use mathlib.Core.List.{List}
-use lib.Dec.{leb}
+use lib.Dec.{leb, ltb}
 use lib.ListN.{getD}
 use Rattle.numbers.specs.Inputs.{inputCount, frameLife}
 use Rattle.run.specs.declared.Forecast.{Forecast}
@@ -51,3 +51,7 @@ dueAmong inputs mode (suc count) = lesser (dueAmong inputs mode count) (dueOf (g
 -- something is next due of any of the sixteen
 abbrev pub dueOfAll : List Input → Bool → ℕ
 dueOfAll inputs mode = dueAmong inputs mode inputCount
+
+-- the same, made anew once the time has come before which nothing was due
+unfoldable pub dueAnew : List Input → Bool → ℕ → ℕ → ℕ
+dueAnew inputs mode due time = cond (ltb time due) due (dueOfAll inputs mode)

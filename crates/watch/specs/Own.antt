@@ -1,4 +1,4 @@
--- The same in two parts, so that the code need not carry sixteen inputs to an event that touches one: what an event makes
+-- The step of `Watch` in two parts, so that an event that touches one input need not carry sixteen: what an event makes
 -- of its own input, and what is left to do. Cited by `src/lib.rt`; `proofs/Laws` puts the parts together.
 -- Assumes nothing.
 use Prim.Native.Nat.{ℕ, _%_, _<_}
@@ -26,11 +26,9 @@ use Rattle.watch.specs.declared.Watch.{Watch}
 use Rattle.watch.specs.Due.{lesser, dueOf}
 use Rattle.watch.specs.Watch.{watchOf, isServed, ranksAlike, servedWatch}
 
--- where an input stands; where there is no such input, what the sixteens leave of its number
+-- where an input stands among the sixteen; its number, taken round, where there is no such input
 pub record OwnPlace (inputs : List Input) (number place : ℕ) : Type 0 where
-  pub answered : place ≡ number % inputCount
-  pub own : number < inputCount → place ≡ number
-  pub low : place < inputCount
+  pub own : place ≡ number % inputCount
   pub inside : place < length inputs
 
 -- what an event makes of its own input, by its parts

@@ -19,7 +19,7 @@ use Rattle.selector.specs.State.{freshSelector, decided}
 use Rattle.selector.specs.Answer.{answerOf}
 use Rattle.events.specs.Step.{inputAfter, recordedArgument, earlyNumber, stepRead}
 use Rattle.watch.specs.declared.Watch.{Watch}
-use Rattle.watch.specs.Due.{never, lesser, dueOf, dueOfAll}
+use Rattle.watch.specs.Due.{never, lesser, dueOf, dueOfAll, dueAnew}
 
 -- a watch by its parts
 abbrev pub watchOf : Selector → ℕ → Answer → Watch
@@ -107,13 +107,23 @@ quickAnswer state answer event read =
 unfoldable pub servedWatch : Selector → Event → FrameRead → Watch
 servedWatch state event read =
     let after = stepRead state event read in
-    watchOf (after .state) (dueOfAll (after .state .inputs) (after .state .mode)) (answerOf (after .number) (after .state))
+    watchOf (after .state) (dueOfAll (after .state .inputs) (after .state .mode))
+    (answerOf (after .number) (after .state))
 
 -- one event: refused at once; or served, where something is due or the event commands; or quick
-unfoldable pub watchStep : Watch → Event → FrameRead → Watch
-watchStep watch event read =
+unfoldable pub dueStep : Watch → Event → FrameRead → Watch
+dueStep watch event read =
     let early = earlyNumber (watch .state) event read in
     cond (not (eqb early accepted)) (watchOf (watch .state) (watch .due) (numbered early (watch .answer)))
     (cond (isServed (watch .due) (event .kind) (event .time)) (servedWatch (watch .state) event read)
     (watchOf (quickState (watch .state) event read) (quickDue (watch .state) (watch .due) event read)
     (quickAnswer (watch .state) (watch .answer) event read)))
+
+-- a watch with what is next due made anew, where an event's time has come to it
+abbrev pub renewed : Watch → ℕ → Watch
+renewed watch time =
+    watchOf (watch .state) (dueAnew (watch .state .inputs) (watch .state .mode) (watch .due) time) (watch .answer)
+
+-- one event, once it is known again what is due
+unfoldable pub watchStep : Watch → Event → FrameRead → Watch
+watchStep watch event read = dueStep (renewed watch (event .time)) event read

@@ -23,12 +23,12 @@ use run::Forecast;
 use run::Run;
 use selector::Selector;
 ghost use mathlib.Core.Path.{_≡_};
-ghost use Rattle.watch.specs.Due.{sumOrNever, lesser, waitDue, expiryDue, runDue, dueOf, dueOfAll};
+ghost use Rattle.watch.specs.Due.{sumOrNever, lesser, waitDue, expiryDue, runDue, dueOf, dueOfAll, dueAnew};
 ghost use Rattle.watch.specs.Watch.{freshWatch, commands, isServed, ranksAlike, servedWatch, watchStep};
 ghost use Rattle.watch.specs.Own.{OwnPlace, ownTake, ownStep, completed};
 
 // Stands for a time that never comes.
-const NEVER: u64 = 18_446_744_073_709_551_615;
+const NEVER: u64 = u64::MAX;
 
 // The state; the time before which nothing is due; and the answer to the last event, which but for
 // its number changes only where a choice is made.
@@ -134,6 +134,16 @@ fn due_of_all(inputs: [Input; 16], mode: bool) -> u64
     due
 }
 
+// What is next due, made anew once the time has come before which nothing was.
+pub fn due_anew(inputs: [Input; 16], mode: bool, due: u64, time: u64) -> u64
+    ensures { λ answer. ⌜ answer ≡ dueAnew inputs mode due time ⌝ }
+{
+    if time < due {
+        return due;
+    }
+    due_of_all(inputs, mode)
+}
+
 // Whether an event of a kind touches more than its own input: the switch or the quality mode.
 fn commands(kind: u8) -> bool
     ensures { λ answer. ⌜ answer ≡ commands kind ⌝ }
@@ -193,8 +203,7 @@ fn served(state: Selector, event: Event, read: FrameRead) -> Watch
     }
 }
 
-// Where an input stands among the sixteen; where there is no such input, what the sixteens leave of
-// its number.
+// Where an input stands among the sixteen; where there is no such input, its number taken round.
 pub fn own_place(inputs: [Input; 16], number: u8) -> usize
     ensures { λ place. ⌜ OwnPlace inputs number place ⌝ }
 {
@@ -317,7 +326,8 @@ impl Watch {
         let inputs = state.inputs;
         let place = own_place(inputs, event.input);
         let before = state.inputs[place];
-        let own = own_step(before, state.mode, state.time, self.due, event, read);
+        let due = due_anew(inputs, state.mode, self.due, event.time);
+        let own = own_step(before, state.mode, state.time, due, event, read);
         let input = own.input;
         let left = own.left;
         state.inputs[place] = input;

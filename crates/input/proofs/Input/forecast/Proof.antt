@@ -5,8 +5,8 @@ use borrow.Author.Needs.{needs}
 use Rattle.input.proofs.Input.forecast.Statement.{statement}
 use Rattle.input.proofs.Input.forecast.Tie as tie
 
-in-ms-requires : tie.Need-in-ms-requires
-in-ms-requires c κs = search needs
+holdoff-in-ms-requires : tie.Need-holdoff-in-ms-requires
+holdoff-in-ms-requires c κs = search needs
 
 minutes-in-ms-requires : tie.Need-minutes-in-ms-requires
 minutes-in-ms-requires c κs = search needs
@@ -24,14 +24,14 @@ returns c =
       c .can-expire .ensures,
       c .before .quality-now .ensures,
       c .before .before .minutes-in-ms .ensures,
-      c .before .before .before .in-ms .ensures,
+      c .before .before .before .holdoff-in-ms .ensures,
     )
 
 pub forecast-spec : {M : Type 1} → statement M
 forecast-spec =
     tie.close
     (tie.spec
-    in-ms-requires
+    holdoff-in-ms-requires
     minutes-in-ms-requires
     quality-now-requires
     can-expire-requires

@@ -14,8 +14,8 @@ is-failed-requires c κs = search needs
 run-start-requires : tie.Need-run-start-requires
 run-start-requires c κs = search needs
 
-phase-requires : tie.Need-phase-requires
-phase-requires c κs = search needs
+is-up-after-requires : tie.Need-is-up-after-requires
+is-up-after-requires c κs = search needs
 
 last-good-requires : tie.Need-last-good-requires
 last-good-requires c κs = search needs
@@ -25,7 +25,7 @@ unfolding atMoment
 returns c =
     rw (
       c .last-good .ensures,
-      c .before .before .phase .ensures,
+      c .before .before .is-up-after .ensures,
       c .before .before .before .run-start .ensures,
       c .before .before .before .before .is-failed .ensures,
       c .before .before .before .before .before .raw-at .ensures,
@@ -38,6 +38,6 @@ at-moment-spec =
     raw-at-requires
     is-failed-requires
     run-start-requires
-    phase-requires
+    is-up-after-requires
     last-good-requires
     returns)

@@ -5,8 +5,8 @@ use borrow.Author.Needs.{needs}
 use Rattle.run.proofs.Run.brought_to.Statement.{statement}
 use Rattle.run.proofs.Run.brought_to.Tie as tie
 
-phase-requires : tie.Need-phase-requires
-phase-requires c κs = search needs
+is-up-after-requires : tie.Need-is-up-after-requires
+is-up-after-requires c κs = search needs
 
 returns : tie.Need-returns
 returns c = search broughtTo-laws
@@ -20,14 +20,14 @@ add-end c = search isExpired-fits
 up-before-requires : tie.Need-up-before-requires
 up-before-requires c κs = search needs
 
-phase-requires-2 : tie.Need-phase-requires-2
-phase-requires-2 c κs = search needs
+is-up-after-requires-2 : tie.Need-is-up-after-requires-2
+is-up-after-requires-2 c κs = search needs
 
 returns-2 : tie.Need-returns-2
 returns-2 c = search broughtTo-laws
 
-phase-requires-3 : tie.Need-phase-requires-3
-phase-requires-3 c κs = search needs
+is-up-after-requires-3 : tie.Need-is-up-after-requires-3
+is-up-after-requires-3 c κs = search needs
 
 returns-3 : tie.Need-returns-3
 returns-3 c = search broughtTo-laws
@@ -36,12 +36,12 @@ pub brought-to-spec : {M : Type 1} → statement M
 brought-to-spec =
     tie.close
     (tie.spec
-    phase-requires
+    is-up-after-requires
     returns
     is-expired-requires
     add-end
     up-before-requires
-    phase-requires-2
+    is-up-after-requires-2
     returns-2
-    phase-requires-3
+    is-up-after-requires-3
     returns-3)

@@ -14,6 +14,9 @@ mul-before c = search needs
 element-copy-out-before : tie.Need-element-copy-out-before
 element-copy-out-before c = search needs
 
+due-anew-requires : tie.Need-due-anew-requires
+due-anew-requires c κs = search needs
+
 own-step-requires : tie.Need-own-step-requires
 own-step-requires c κs = search needs
 
@@ -36,6 +39,7 @@ step-spec =
     own-place-requires
     mul-before
     element-copy-out-before
+    due-anew-requires
     own-step-requires
     mul-input
     element-set-from-input

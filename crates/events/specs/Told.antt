@@ -1,0 +1,60 @@
+-- Document 01, "Choosing" and the answer line, by what has happened alone: what is answered to an event, and the
+-- sixteen codes that go out after it.
+-- Assumes nothing.
+use Prim.Native.Nat.{ℕ}
+use mathlib.Core.Bool.{false}
+use mathlib.Core.List.{List, map}
+use lib.Dec.{eqb}
+use Rattle.numbers.specs.declared.Answer.{Answer}
+use Rattle.numbers.specs.declared.Quality.{Quality}
+use Rattle.numbers.specs.Quality.{codeOfQuality}
+use Rattle.input.specs.Recorded.{modeOn, isSending, timeOf}
+use Rattle.choice.specs.declared.Candidate.{Candidate}
+use Rattle.choice.specs.declared.Selection.{Selection}
+use Rattle.choice.specs.declared.Selection.the-variants as S
+use Rattle.choice.specs.Candidate.{nobody}
+use Rattle.decision.specs.declared.Decision.{Decision}
+use Rattle.decision.specs.Choices.{decidedOver}
+use Rattle.selector.specs.Answer.{clockState, clockQuality, outgoingCode, selectedNumber, switchNumber, switchInput, ports}
+use Rattle.events.specs.Past.{Past, candidateBy}
+
+-- the switch that stands, what is selected, and whether the clock was ever locked, after the choices made
+abbrev pub decidedBy : Past → Decision
+decidedBy past = decidedOver (past .choices)
+
+-- an input as the recorded events show it at the time of the last of them; none where nothing is selected
+abbrev pub shown : Past → Selection → Candidate
+shown past S.Nothing = nobody
+shown past (S.At number) = candidateBy (past .history) (timeOf (past .history)) (number .0)
+
+-- the selected input
+abbrev pub selectedBy : Past → Candidate
+selectedBy past = shown past (decidedBy past .selection)
+
+-- "Clock quality: 0 with mode off; the passed quality when locked; otherwise 4"
+abbrev pub qualityBy : Past → Quality
+qualityBy past = clockQuality (modeOn (past .history)) (selectedBy past)
+
+-- "Answer line: number .., selected input or ff, clock state, clock quality, switch .., its input or ff". A manual
+-- switch never stands on an ineligible input, so the state is never 03
+abbrev pub answerBy : ℕ → Past → Answer
+answerBy number past =
+    record {
+      number = number;
+      selected = selectedNumber (decidedBy past .selection);
+      state = clockState false (selectedBy past .usable) (decidedBy past .held);
+      quality = qualityBy past .0;
+      switch = switchNumber (decidedBy past .switch);
+      on = switchInput (decidedBy past .switch);
+    }
+
+-- "1111 if mode is off, if its sending is off, or if it is the selected input; otherwise the code of the clock quality"
+unfoldable pub codeBy : Past → ℕ → ℕ
+codeBy past port =
+    outgoingCode (modeOn (past .history)) (isSending port (past .history))
+    (eqb (selectedNumber (decidedBy past .selection)) port)
+    (codeOfQuality (qualityBy past))
+
+-- "Outgoing code, for each of the sixteen ports"
+abbrev pub codesBy : Past → List ℕ
+codesBy past = map (codeBy past) ports
