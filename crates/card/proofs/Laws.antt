@@ -2,7 +2,7 @@
 use Prim.Native.Nat.{ℕ, _≤_, _<_}
 use mathlib.Core.Bool.{Bool}
 use mathlib.Core.List.{List, map}
-use mathlib.Core.Path.{_≡_}
+use mathlib.Core.Path.{_≡_, sym, _∙_}
 use lib.ListN.{getD}
 use borrow.Author.Tests.{eq-eqb, ne-eqb, lt-ltb, le-ltb}
 use Rattle.numbers.specs.declared.Answer.{Answer}
@@ -103,5 +103,13 @@ module _ (card : Card) (port : ℕ) (event : Bool) (source before : List ℕ) wh
         answered = rw (le-ltb _ _ p, a, w .answered, code);
         content = rw (le-ltb _ _ p, w .content, code);
       }
+
+  -- the promise admits one answer and one content
+  pub writePort-unique :
+      (one other : ℕ) (after later : List ℕ) → WritePort card port event source before one after
+      → WritePort card port event source before other later
+      → (one ≡ other) × (after ≡ later)
+  writePort-unique one other after later first second =
+      (first .answered ∙ sym (second .answered), first .content ∙ sym (second .content))
 
 pub ruleset writePort-laws = (writePort-no-port, writePort-port)

@@ -322,6 +322,12 @@ pub ruleset completed-laws = (completed-nothing, completed-choice, completed-ser
 
 -- ---- the two parts together
 
+-- the promise admits one place
+pub ownPlace-unique : (inputs : List Input) (number one other : ℕ) → OwnPlace inputs number one
+    → OwnPlace inputs number other
+    → one ≡ other
+ownPlace-unique inputs number one other first second = first .own ∙ sym (second .own)
+
 -- the state with an input in its place, and the rest of what an event made of it
 abbrev pub ownPut : Watch → ℕ → Own → Event → FrameRead → Watch
 ownPut watch place own event read =

@@ -11,7 +11,7 @@ answer-requires : tie.Need-answer-requires
 answer-requires c κs = search needs
 
 returns : tie.Need-returns
-returns c = cc
+returns c = rw (c .answer .ensures, c .before .fresh .ensures)
 
 pub fresh-spec : {M : Type 1} → statement M
 fresh-spec = tie.close (tie.spec fresh-requires answer-requires returns)
