@@ -29,7 +29,7 @@ use Rattle.selector.specs.Answer.{ports}
 use Rattle.selector.proofs.Ports.{butAt, set-ports, getD-ports}
 use Rattle.events.specs.declared.Stepped.{Stepped}
 use Rattle.events.specs.Refusals.{earlyRefusal, lateRefusal}
-use Rattle.events.specs.Step.{ethernetAt, heldArgument, inputAfter, inputsAfter, modeAfter, recordedEvent, placed, stepped, earlyNumber, lateNumber, stepRead, step}
+use Rattle.events.specs.Step.{ethernetAt, eventTaken, heldArgument, inputAfter, inputsAfter, modeAfter, recordedEvent, placed, stepped, earlyNumber, lateNumber, stepRead, step}
 use Rattle.events.specs.Sequence.{Given, Sequence, stateAfter, numberAfter}
 use Rattle.events.specs.Past.{Past, asRecorded, candidateBy, candidatesBy, tickChoice, eventChoice, earlyBy, lateBy, numberBy, withTick, withEvent, pastOf, recorded, choicesOf}
 use Rattle.events.specs.Demand3.{MadeAt}
@@ -286,16 +286,7 @@ placed-agrees state history event choices ordered later inside zeroed whole agre
     ap (λ (mode : Bool). inputsAfter (recordsAt history (event .time)) event mode) m ∙
     inputs-after event history ordered later inside zeroed whole
     in
-    let next : Selector =
-    record {
-      inputs = inputsAfter (state .inputs) event (modeAfter (event .kind) (event .argument) (state .mode));
-      time = state .time;
-      switch = commanded (event .kind) (event .input) (state .switch);
-      selection = state .selection;
-      mode = modeAfter (event .kind) (event .argument) (state .mode);
-      held = state .held;
-    }
-    in
+    let next : Selector = eventTaken state event in
     let c : candidatesOf (next .inputs) (next .mode) ≡ candidatesBy (event ∷ history) (event .time) =
     ap (λ (inputs : List Input). candidatesOf inputs (next .mode)) i ∙
     ap (λ (mode : Bool). candidatesOf (records (event ∷ history)) mode) m ∙
@@ -442,7 +433,7 @@ module _ (given : Given) (earlier : Sequence) (agrees : Agrees (stateAfter earli
     unfolding ethernet
     later =
         subst (λ (x : ℕ). x ≤ given .event .time) (agrees .time)
-        (accepted-time (stateAfter earlier .time) ethernet (given .event) (given .frame) none)
+        (accepted-time (stateAfter earlier .time) ethernet (given .event) (readFrame (given .frame)) none)
 
     tick-left : TickAgrees brought (recorded earlier) (given .event .time) (choicesOf earlier)
     tick-left = tick-agrees (stateAfter earlier) (recorded earlier) (given .event .time) (choicesOf earlier) agrees later
@@ -483,8 +474,8 @@ module _ (given : Given) (earlier : Sequence) (agrees : Agrees (stateAfter earli
               agrees-as _ _ (withEvent (pastOf earlier) (asRecorded given)) (pastOf (given ∷ earlier)) (ap (λ (x : Stepped). x .state) s)
               (rw (not-early, eq-eqb _ _ n))
               (placed-agrees brought (recorded earlier) (asRecorded given) (choicesOf earlier) (agrees .ordered) later
-              (accepted-input (stateAfter earlier .time) ethernet (given .event) (given .frame) none)
-              (accepted-mode (stateAfter earlier .time) ethernet (given .event) (given .frame) none)
+              (accepted-input (stateAfter earlier .time) ethernet (given .event) (readFrame (given .frame)) none)
+              (accepted-mode (stateAfter earlier .time) ethernet (given .event) (readFrame (given .frame)) none)
               (accepted-argument (stateAfter earlier .time) ethernet (given .event) (given .frame) none)
               tick-left);
         }

@@ -34,7 +34,7 @@ use Rattle.selector.proofs.Laws.{getD-past}
 use Rattle.selector.proofs.Ports.{getD-ports, ports-same}
 use Rattle.events.specs.Sequence.{Sequence, stateAfter}
 use Rattle.events.specs.Past.{candidateBy, candidatesBy, pastOf, recorded, choicesOf}
-use Rattle.events.specs.Told.{shown, selectedBy, qualityBy, answerBy, codeBy, codesBy}
+use Rattle.events.specs.Told.{shown, selectedBy, qualityBy, answerBy, codeBy}
 use Rattle.events.specs.Demand2.{Demand2}
 use Rattle.events.specs.Demand3.{MadeAt}
 use Rattle.events.proofs.Agrees.{Agrees, sequence-agrees, settings-at, candidate-recorded}

@@ -284,10 +284,10 @@ most-small kind other = go (kindOf-told kind)
     go (inl known) = row-small (kindOf kind) (λ e. other (sym known ∙ e))
     go (inr unknown) = rw unknown (omega arith)
 
-module _ (time : ℕ) (ethernet : Bool) (event : Event) (frame : List ℕ)
-    (none : earlyRefusal time ethernet event (readFrame frame) ≡ accepted) where
-  rows : NoneApplies (earlyRows time ethernet event (readFrame frame))
-  rows = early-none time ethernet event (readFrame frame) none
+module _ (time : ℕ) (ethernet : Bool) (event : Event) (read : FrameRead)
+    (none : earlyRefusal time ethernet event read ≡ accepted) where
+  rows : NoneApplies (earlyRows time ethernet event read)
+  rows = early-none time ethernet event read none
 
   -- its time is not before the state's
   pub accepted-time : time ≤ event .time
@@ -310,10 +310,20 @@ module _ (time : ℕ) (ethernet : Bool) (event : Event) (frame : List ℕ)
       let k : not (eqb (event .input) 0) ≡ false = rw e at (rows .1 .1 .1 .0) in
       eqb-true (event .input) 0 (not-false _ k)
 
+  -- its argument is not above the largest of its row
+  argument-within : event .argument ≤ rowOf (kindOf (event .kind)) .most
+  unfolding isArgumentOut
+  argument-within =
+      ltb-false (rowOf (kindOf (event .kind)) .most) (event .argument)
+      (or-second (ltb (event .argument) (rowOf (kindOf (event .kind)) .least))
+      (ltb (rowOf (kindOf (event .kind)) .most) (event .argument)) (rows .1 .1 .1 .1 .0))
+
+module _ (time : ℕ) (ethernet : Bool) (event : Event) (frame : List ℕ)
+    (none : earlyRefusal time ethernet event (readFrame frame) ≡ accepted) where
   -- its argument is held whole
   pub accepted-argument : heldArgument (event .kind) (recordedArgument (event .kind) (event .argument) (readFrame frame)) ≡
       recordedArgument (event .kind) (event .argument) (readFrame frame)
-  unfolding heldArgument recordedArgument isArgumentOut
+  unfolding heldArgument recordedArgument
   accepted-argument =
       byBool (eqb (event .kind) kindHoldoff) (λ e. rw e)
       (λ e. rw e (mod-eq-of-lt (small (eqb-false (event .kind) kindHoldoff e))))
@@ -322,4 +332,5 @@ module _ (time : ℕ) (ethernet : Bool) (event : Event) (frame : List ℕ)
       small other =
           byBool (eqb (event .kind) kindFrame)
           (λ e. rw e (omega (arith, frame-code frame)))
-          (λ e. rw e (omega (arith, most-small (event .kind) other, ltb-false (rowOf (kindOf (event .kind)) .most) (event .argument) (or-second (ltb (event .argument) (rowOf (kindOf (event .kind)) .least)) (ltb (rowOf (kindOf (event .kind)) .most) (event .argument)) (rows .1 .1 .1 .1 .0)))))
+          (λ e. rw e
+          (omega (arith, most-small (event .kind) other, argument-within time ethernet event (readFrame frame) none)))

@@ -32,7 +32,7 @@ pub record Demand3 (sequence : Sequence) : Type 0 where
   -- the latest of them was made at the state's time
   pub madeAt : MadeAt (recorded sequence) (stateAfter sequence .time) (choicesOf sequence)
   -- eligibility is by the passed quality that document 01 states of the recorded events, now and at the tick of an
-  -- event to come
+  -- event to come; there is always one, and one only (`demand-2-passed-quality`)
   pub eligibility : (time number : ℕ) → number < inputCount → (quality : Quality)
       → PassedAt number (recorded sequence) time quality
       → getD (candidatesBy (recorded sequence) time) number nobody ≡

@@ -56,18 +56,22 @@ recordedEvent event read =
       argument = recordedArgument (event .kind) (event .argument) read;
     }
 
--- "and then the event itself at that moment (the same again)"
-unfoldable pub placed : Selector → Event → Selector
-placed state event =
-    decided
-    (record {
-      inputs = inputsAfter (state .inputs) event (modeAfter (event .kind) (event .argument) (state .mode));
+-- the event itself taken: what it sets and commands, with no choice made yet
+abbrev pub eventTaken : Selector → Event → Selector
+eventTaken state event =
+    let mode = modeAfter (event .kind) (event .argument) (state .mode) in
+    record {
+      inputs = inputsAfter (state .inputs) event mode;
       time = state .time;
       switch = commanded (event .kind) (event .input) (state .switch);
       selection = state .selection;
-      mode = modeAfter (event .kind) (event .argument) (state .mode);
+      mode = mode;
       held = state .held;
-    })
+    }
+
+-- "and then the event itself at that moment (the same again)"
+unfoldable pub placed : Selector → Event → Selector
+placed state event = decided (eventTaken state event)
 
 -- a number and the state that goes with it
 abbrev pub stepped : ℕ → Selector → Stepped

@@ -1,6 +1,6 @@
 -- The definitions of `specs/`, a law for each way through the function that meets it. Assumes nothing.
 use Prim.Native.Nat.{ℕ, _+_, _≤_, _<_}
-use mathlib.Core.Bool.{Bool, true, false, not, cond}
+use mathlib.Core.Bool.{Bool, true, false, not}
 use mathlib.Core.List.{List}
 use mathlib.Core.Path.{_≡_, refl, sym, _∙_, ap}
 use native.Mathlib.Omega.{arith}
@@ -9,12 +9,12 @@ use native.Mathlib.Numerals.{add-one}
 use lib.Dec.{eqb, ltb}
 use lib.ListN.{length, getD, set}
 use lib.Seq.{set-getD}
-use borrow.Author.Tests.{eqb-true, eqb-false, eq-eqb, ne-eqb, le-leb, lt-leb, lt-ltb, le-ltb, ltb-true, ltb-false, not-false}
+use borrow.Author.Tests.{eqb-true, eqb-false, eq-eqb, ne-eqb, le-leb, lt-leb, lt-ltb, le-ltb, ltb-true, ltb-false}
 use Rattle.numbers.specs.declared.Answer.{Answer}
 use Rattle.numbers.specs.declared.Event.{Event}
 use Rattle.numbers.specs.declared.Quality.{Quality}
 use Rattle.numbers.specs.Inputs.{frameLife, inputCount}
-use Rattle.numbers.specs.Kind.{kindOf, rowOf, isInputOut, kindForced, kindManual, kindClearSwitch, kindQualityMode, kindTick}
+use Rattle.numbers.specs.Kind.{kindForced, kindManual, kindClearSwitch, kindQualityMode, kindTick}
 use Rattle.numbers.specs.Refusal.{accepted}
 use Rattle.frame.specs.declared.FrameRead.{FrameRead}
 use Rattle.run.specs.declared.Forecast.{Forecast}
@@ -26,10 +26,9 @@ use Rattle.selector.specs.declared.Selector.{Selector}
 use Rattle.selector.specs.State.{decided}
 use Rattle.selector.specs.Answer.{answerOf}
 use Rattle.selector.proofs.Laws.{getD-any}
-use Rattle.events.specs.Refusals.{firstThatApplies, earlyRows, earlyRefusal}
+use Rattle.events.specs.Refusals.{earlyRefusal}
 use Rattle.events.specs.Step.{inputAfter, recordedArgument, earlyNumber}
-use Rattle.events.specs.Demand1.{NoneApplies}
-use Rattle.events.proofs.Refused.{early-none}
+use Rattle.events.proofs.Refused.{earlyRefusal-outside, accepted-input}
 use Rattle.watch.specs.declared.Left.{Left}
 use Rattle.watch.specs.declared.Left.the-variants.{Nothing, Choice, Service}
 use Rattle.watch.specs.declared.Own.{Own}
@@ -202,37 +201,6 @@ module _ (before after : Input) (passed passes : Quality) where
 
 pub ruleset ranksAlike-laws = (ranksAlike-locked, ranksAlike-unlocked, ranksAlike-priority, ranksAlike-passed)
 
--- ---- an event that is not refused before its tick
-
-module _ (time : ℕ) (ethernet : Bool) (event : Event) (read : FrameRead)
-    (none : earlyRefusal time ethernet event read ≡ accepted) where
-  rows : NoneApplies (earlyRows time ethernet event read)
-  rows = early-none time ethernet event read none
-
-  -- its time is not before the state's
-  pub taken-time : time ≤ event .time
-  taken-time = ltb-false (event .time) time (rows .1 .1 .0)
-
-  -- its input is one of the sixteen
-  pub taken-input : event .input < 16
-  unfolding isInputOut
-  taken-input = go (rowOf (kindOf (event .kind)) .inputless) (rows .1 .1 .1 .0)
-    where
-      go : (inputless : Bool) → cond inputless (not (eqb (event .input) 0)) (ltb 15 (event .input)) ≡ false
-          → event .input < 16
-      go true e = omega (arith, eqb-true (event .input) 0 (not-false _ e))
-      go false e = omega (arith, ltb-false 15 (event .input) e)
-
--- an event with no input of the sixteen is refused before its input's kind is looked at
-pub early-outside : (time : ℕ) (one other : Bool) (event : Event) (read : FrameRead) → inputCount ≤ event .input
-    → earlyRefusal time one event read ≡ earlyRefusal time other event read
-unfolding earlyRefusal firstThatApplies isInputOut
-early-outside time one other event read out = rw (out-of-range (rowOf (kindOf (event .kind)) .inputless))
-  where
-    out-of-range : (inputless : Bool) → cond inputless (not (eqb (event .input) 0)) (ltb 15 (event .input)) ≡ true
-    out-of-range true = rw (ne-eqb (event .input) 0 (λ zero. omega arith))
-    out-of-range false = lt-ltb 15 (event .input) (omega arith)
-
 -- ---- dueStep
 
 module _ (watch : Watch) (event : Event) (read : FrameRead) where
@@ -363,7 +331,7 @@ module _ (watch : Watch) (event : Event) (read : FrameRead) (zeroed : Input) (pl
       byBool (ltb (event .input) inputCount)
       (λ inside. ap (λ (input : Input). earlyRefusal (watch .state .time) (input .settings .ethernet) event read)
       (own (ltb-true _ _ inside)))
-      (λ out. early-outside (watch .state .time) _ _ event read (ltb-false _ _ out))
+      (λ out. earlyRefusal-outside (watch .state .time) event read (ltb-false _ _ out) _ _)
 
   put-refused : (early ≡ accepted → ⊥)
       → ownPut watch place (ownOf before (watch .state .time) (watch .due) early Nothing) event read ≡
@@ -373,10 +341,10 @@ module _ (watch : Watch) (event : Event) (read : FrameRead) (zeroed : Input) (pl
 
   module _ (none : early ≡ accepted) where
     here : before ≡ ownBefore (watch .state) event
-    here = own (taken-input (watch .state .time) (before .settings .ethernet) event read none)
+    here = own (accepted-input (watch .state .time) (before .settings .ethernet) event read none)
 
     there : place ≡ event .input
-    there = own-place at (taken-input (watch .state .time) (before .settings .ethernet) event read none)
+    there = own-place at (accepted-input (watch .state .time) (before .settings .ethernet) event read none)
 
     put-served : isServed (watch .due) (event .kind) (event .time) ≡ true
         → ownPut watch place (ownOf before (watch .state .time) (watch .due) accepted Service) event read ≡

@@ -34,7 +34,7 @@ use Rattle.selector.specs.declared.Selector.{Selector}
 use Rattle.selector.specs.State.{freshSelector, candidateFor, candidatesOf, withDecision, decided, broughtTo, ticked}
 use Rattle.selector.specs.Answer.{candidateAt, selectedCandidate, switchFails, answerOf}
 use Rattle.events.specs.declared.Stepped.{Stepped}
-use Rattle.events.specs.Step.{ethernetAt, inputAfter, inputsAfter, modeAfter, recordedArgument, recordedEvent, placed, stepped, earlyNumber, lateNumber, stepRead, step}
+use Rattle.events.specs.Step.{ethernetAt, eventTaken, inputAfter, inputsAfter, modeAfter, recordedArgument, recordedEvent, placed, stepped, earlyNumber, lateNumber, stepRead, step}
 use Rattle.events.specs.Sequence.{Sequence, stateAfter, numberAfter}
 use Rattle.events.proofs.Laws.{lateRefusal-other}
 use Rattle.watch.specs.declared.Watch.{Watch}
@@ -43,7 +43,8 @@ use Rattle.watch.specs.Watch.{numbered, freshWatch, commands, isServed, 
 use Rattle.watch.specs.Sequence.{watchAfter, WatchRight}
 use Rattle.watch.proofs.Every.{Every, every-at, every-from, every-set, every-replicate, every-same, every-as, every-map}
 use Rattle.watch.proofs.Quiet.{lesser-one, lesser-other, SettledAt, DueFrom, tick-quiet, settled-tick, settled-settle, settled-after, inputAfter-tick, dueAmong-least}
-use Rattle.watch.proofs.Laws.{taken-time, taken-input, dueStep-refused, dueStep-served, dueStep-quick}
+use Rattle.events.proofs.Refused.{accepted-time, accepted-input}
+use Rattle.watch.proofs.Laws.{dueStep-refused, dueStep-served, dueStep-quick}
 
 -- ---- tests
 
@@ -188,15 +189,7 @@ count-inputs inputs event mode =
 calm-placed : (state : Selector) (event : Event) → Calm state → state .time ≡ event .time → Calm (placed state event)
 unfolding placed
 calm-placed state event calm same =
-    calm-decided
-    (record {
-      inputs = inputsAfter (state .inputs) event (modeAfter (event .kind) (event .argument) (state .mode));
-      time = state .time;
-      switch = commanded (event .kind) (event .input) (state .switch);
-      selection = state .selection;
-      mode = modeAfter (event .kind) (event .argument) (state .mode);
-      held = state .held;
-    })
+    calm-decided (eventTaken state event)
     (count-inputs (state .inputs) event (modeAfter (event .kind) (event .argument) (state .mode)) ∙ calm .count)
     (settled-inputs (state .inputs) event (state .mode) (state .time) same (calm .settled))
 
@@ -230,7 +223,7 @@ module _ (state : Selector) (event : Event) (read : FrameRead) where
       brought : Calm (ticked state (event .time))
       brought =
           calm-ticked state (event .time) calm
-          (taken-time (state .time) (ethernetAt (state .inputs) (event .input)) event read none)
+          (accepted-time (state .time) (ethernetAt (state .inputs) (event .input)) event read none)
 
 -- what is next due, made anew, is due of no input earlier
 due-anew : (inputs : List Input) (mode : Bool) → length inputs ≡ 16 → Every (DueFrom mode (dueOfAll inputs mode)) inputs
@@ -487,13 +480,13 @@ module _ (watch : Watch) (event : Event) (read : FrameRead) (kept : Kept watch) 
       calm-brought =
           subst Calm brought
           (calm-ticked (watch .state) (event .time) (kept .calm)
-          (taken-time (watch .state .time) (ethernetAt (watch .state .inputs) (event .input)) event read none))
+          (accepted-time (watch .state .time) (ethernetAt (watch .state .inputs) (event .input)) event read none))
 
       inside : event .input < length (watch .state .inputs)
       inside =
           omega (
             arith,
-            taken-input (watch .state .time) (ethernetAt (watch .state .inputs) (event .input)) event read none,
+            accepted-input (watch .state .time) (ethernetAt (watch .state .inputs) (event .input)) event read none,
             kept .calm .count,
           )
 
