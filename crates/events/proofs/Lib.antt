@@ -1,4 +1,5 @@
--- `Laws`: the code's definitions, way by way.
+-- `Laws`: the code's definitions, way by way. `Refused`: the rows of the table, and what an accepted event brings.
+-- `Agrees`: the state after any sequence is what has happened. `Demand1`, `Demand2`, `Demand3`: the theorems.
 pub mod Laws
 pub mod Refused
 pub mod Agrees

@@ -1,4 +1,4 @@
--- Qualities and codes; the sixteen inputs; kinds of event; numbers of refusal.
+-- Qualities and codes; the sixteen inputs; kinds of event; numbers of refusal; the table of codes.
 pub mod Quality
 pub mod Inputs
 pub mod Kind
