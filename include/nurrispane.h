@@ -144,8 +144,7 @@ enum nurrispane_number {
 enum nurrispane_clock_state {
     NURRISPANE_FREE_RUN = 0,
     NURRISPANE_HOLDOVER = 1,
-    NURRISPANE_LOCKED = 2,
-    NURRISPANE_MANUAL_INELIGIBLE = 3
+    NURRISPANE_LOCKED = 2
 };
 
 /* The operator's switch. */

@@ -29,7 +29,7 @@ use Rattle.decision.proofs.Standing.{switch-right}
 use Rattle.decision.proofs.Selecting.{manualMayStand-eligible, eligible-admitted, selected-admitted}
 use Rattle.selector.specs.declared.Selector.{Selector}
 use Rattle.selector.specs.State.{candidateFor}
-use Rattle.selector.specs.Answer.{switchFails, clockState, clockQuality, outgoingCode, selectedNumber, switchNumber, switchInput, selectedCandidate, candidateAt, qualityOf, answerOf, codeFor, outgoingCodes}
+use Rattle.selector.specs.Answer.{clockState, clockQuality, outgoingCode, selectedNumber, switchNumber, switchInput, selectedCandidate, candidateAt, qualityOf, answerOf, codeFor, outgoingCodes}
 use Rattle.selector.proofs.Laws.{getD-past}
 use Rattle.selector.proofs.Ports.{getD-ports, ports-same}
 use Rattle.events.specs.Sequence.{Sequence, stateAfter}
@@ -77,10 +77,10 @@ module _ (state : Selector) (history : History) (choices : Choices) (agrees : Ag
       (selected-admitted choices (number .0) (sym (agrees .selection) ∙ x)))
 
   -- a manual switch stands on an eligible input
-  manual-eligible : (on : InputNumber) → state .switch ≡ W.Manual on
+  pub eligible-at : (on : InputNumber) → state .switch ≡ W.Manual on
       → isEligible (candidateAt (state .inputs) (state .mode) (on .0)) ≡ true
   unfolding choicesAgo
-  manual-eligible on x =
+  eligible-at on x =
       let stands : manualMayStand (candidatesBy history (timeOf history)) (on .0) ≡ true =
       passes-made manualMayStand (on .0) (timeOf history) history choices (agrees .made)
       (switch-right choices .manual (on .0) (sym (agrees .switch) ∙ x) .unbroken 0 (omega arith))
@@ -95,15 +95,6 @@ module _ (state : Selector) (history : History) (choices : Choices) (agrees : Ag
       ap (λ (time : ℕ). isEligible (candidateBy history time (on .0))) (agrees .time) ∙
       ap isEligible (sym (getD-ports (candidateBy history (timeOf history)) nobody (on .0) inside)) ∙
       eligible
-
-  never-fails : switchFails (state .inputs) (state .mode) (state .switch) ≡ false
-  unfolding switchFails
-  never-fails = go (state .switch) refl
-    where
-      go : (switch : Switch) → state .switch ≡ switch → switchFails (state .inputs) (state .mode) switch ≡ false
-      go W.Nothing x = refl
-      go (W.Forced on) x = refl
-      go (W.Manual on) x = ap not (manual-eligible on x)
 
 -- ---- after a sequence
 
@@ -126,9 +117,6 @@ module _ (sequence : Sequence) where
   selected-by : selectedCandidate (after .inputs) (after .mode) (after .selection) ≡ selectedBy (pastOf sequence)
   selected-by = selected-shown (after .selection) refl ∙ ap (shown (pastOf sequence)) (agreed .selection)
 
-  never-03 : switchFails (after .inputs) (after .mode) (after .switch) ≡ false
-  never-03 = never-fails after (recorded sequence) (choicesOf sequence) agreed
-
   quality-by : qualityOf after ≡ qualityBy (pastOf sequence)
   quality-by =
       ap (λ (mode : Bool). clockQuality mode (selectedCandidate (after .inputs) (after .mode) (after .selection))) (agreed .mode) ∙
@@ -139,7 +127,7 @@ module _ (sequence : Sequence) where
   answer-by number = λ j. record {
     number = number;
     selected = selectedNumber (agreed .selection j);
-    state = clockState (never-03 j) (selected-by j .usable) (agreed .held j);
+    state = clockState (selected-by j .usable) (agreed .held j);
     quality = quality-by j .0;
     switch = switchNumber (agreed .switch j);
     on = switchInput (agreed .switch j);
@@ -171,5 +159,4 @@ demand-2-answers sequence =
           (codeOfQuality (qualityOf (stateAfter sequence))))
           (codeBy (pastOf sequence))
           (code-by sequence);
-      never03 = never-03 sequence;
     }

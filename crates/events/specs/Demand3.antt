@@ -3,13 +3,17 @@
 -- Assumes nothing.
 use Prim.Native.Nat.{ℕ, _<_}
 use mathlib.Core.List.{[], _∷_}
+use mathlib.Core.Bool.{true}
 use mathlib.Core.Path.{_≡_}
 use lib.ListN.{getD}
+use Rattle.numbers.specs.declared.InputNumber.{InputNumber}
 use Rattle.numbers.specs.declared.Quality.{Quality}
 use Rattle.numbers.specs.Inputs.{inputCount}
 use Rattle.input.specs.Recorded.{History, modeOn, timeOf, priorityOf, isLockedOut, PassedAt, Ordered}
-use Rattle.choice.specs.Candidate.{nobody, candidateOf}
-use Rattle.decision.specs.Choices.{Choices, decidedOver, choicesAgo, SwitchRight, LatestRight, HeldRight}
+use Rattle.choice.specs.Candidate.{nobody, isEligible, eligibleAmong, candidateOf}
+use Rattle.decision.specs.Choices.{Choices, decidedOver, choicesAgo, Passes, SwitchRight, LatestRight, HeldRight}
+use Rattle.decision.specs.declared.Switch.the-variants as W
+use Rattle.selector.specs.Answer.{candidateAt}
 use Rattle.events.specs.Sequence.{Given, Sequence, stateAfter, numberAfter}
 use Rattle.events.specs.Past.{candidatesBy, numberBy, pastOf, recorded, choicesOf}
 
@@ -45,3 +49,10 @@ pub record Demand3 (sequence : Sequence) : Type 0 where
   pub selectionRight : (back : ℕ) → LatestRight (choicesAgo back (choicesOf sequence))
   -- the clock has been locked exactly if it was after one of them
   pub heldRight : HeldRight (choicesOf sequence)
+
+-- document 02, L7: "after any sequence of events a standing manual switch is on an eligible input", after every choice
+pub record ManualEligible (sequence : Sequence) : Type 0 where
+  pub stands : (back on : ℕ) → decidedOver (choicesAgo back (choicesOf sequence)) .switch ≡ W.Manual (record { 0 = on })
+      → Passes eligibleAmong on (choicesAgo back (choicesOf sequence))
+  pub inState : (on : InputNumber) → stateAfter sequence .switch ≡ W.Manual on
+      → isEligible (candidateAt (stateAfter sequence .inputs) (stateAfter sequence .mode) (on .0)) ≡ true

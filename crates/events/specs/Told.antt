@@ -2,7 +2,6 @@
 -- sixteen codes that go out after it.
 -- Assumes nothing.
 use Prim.Native.Nat.{ℕ}
-use mathlib.Core.Bool.{false}
 use mathlib.Core.List.{List, map}
 use lib.Dec.{eqb}
 use Rattle.numbers.specs.declared.Answer.{Answer}
@@ -35,14 +34,13 @@ selectedBy past = shown past (decidedBy past .selection)
 abbrev pub qualityBy : Past → Quality
 qualityBy past = clockQuality (modeOn (past .history)) (selectedBy past)
 
--- "Answer line: number .., selected input or ff, clock state, clock quality, switch .., its input or ff". A manual
--- switch never stands on an ineligible input, so the state is never 03
+-- "Answer line: number .., selected input or ff, clock state, clock quality, switch .., its input or ff"
 abbrev pub answerBy : ℕ → Past → Answer
 answerBy number past =
     record {
       number = number;
       selected = selectedNumber (decidedBy past .selection);
-      state = clockState false (selectedBy past .usable) (decidedBy past .held);
+      state = clockState (selectedBy past .usable) (decidedBy past .held);
       quality = qualityBy past .0;
       switch = switchNumber (decidedBy past .switch);
       on = switchInput (decidedBy past .switch);

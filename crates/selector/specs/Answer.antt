@@ -13,7 +13,7 @@ use Rattle.input.specs.Record.{freshInput}
 use Rattle.choice.specs.declared.Candidate.{Candidate}
 use Rattle.choice.specs.declared.Selection.{Selection}
 use Rattle.choice.specs.declared.Selection.the-variants as S
-use Rattle.choice.specs.Candidate.{nobody, isEligible}
+use Rattle.choice.specs.Candidate.{nobody}
 use Rattle.decision.specs.declared.Switch.{Switch}
 use Rattle.decision.specs.declared.Switch.the-variants as W
 use Rattle.selector.specs.declared.Selector.{Selector}
@@ -35,10 +35,6 @@ holdover = 1
 abbrev pub locked : ℕ
 locked = 2
 
--- "03 is answered should a manual switch be found standing on an ineligible input"
-abbrev pub manualIneligible : ℕ
-manualIneligible = 3
-
 -- an input of the state as a choice sees it
 abbrev pub candidateAt : List Input → Bool → ℕ → Candidate
 candidateAt inputs mode number = candidateFor mode (getD inputs number freshInput)
@@ -48,20 +44,13 @@ unfoldable pub selectedCandidate : List Input → Bool → Selection → Candida
 selectedCandidate inputs mode S.Nothing = nobody
 selectedCandidate inputs mode (S.At number) = candidateAt inputs mode (number .0)
 
--- "a manual switch .. standing on an ineligible input"
-unfoldable pub switchFails : List Input → Bool → Switch → Bool
-switchFails inputs mode W.Nothing = false
-switchFails inputs mode (W.Forced on) = false
-switchFails inputs mode (W.Manual on) = not (isEligible (candidateAt inputs mode (on .0)))
-
--- "03 .. should a manual switch be found standing on an ineligible input"; "02 locked if an input is selected and its
--- passed quality is usable ..; otherwise 01 holdover if it was locked after any earlier choice, 00 free run if not"
-unfoldable pub clockState : Bool → Bool → Bool → ℕ
-clockState fails isClockLocked held =
-    cond fails manualIneligible
-    (cond isClockLocked locked
+-- "02 locked if an input is selected and its passed quality is usable ..; otherwise 01 holdover if it was locked after any
+-- earlier choice, 00 free run if not"
+unfoldable pub clockState : Bool → Bool → ℕ
+clockState isClockLocked held =
+    cond isClockLocked locked
     (cond held holdover
-    freeRun))
+    freeRun)
 
 -- "Clock quality: 0 with mode off; the passed quality when locked; otherwise 4"
 unfoldable pub clockQuality : Bool → Candidate → Quality
@@ -73,9 +62,7 @@ clockQuality mode candidate =
 -- the clock state of a selector
 abbrev pub stateOf : Selector → ℕ
 stateOf state =
-    clockState (switchFails (state .inputs) (state .mode) (state .switch))
-    (selectedCandidate (state .inputs) (state .mode) (state .selection) .usable)
-    (state .held)
+    clockState (selectedCandidate (state .inputs) (state .mode) (state .selection) .usable) (state .held)
 
 -- the clock quality of a selector
 abbrev pub qualityOf : Selector → Quality
