@@ -25,7 +25,6 @@ items! {
     FreeRun "clock-free-run"
     Holdover "clock-holdover"
     Locked "clock-locked"
-    Contradiction "clock-03"
     NoneToForced "switch-none-to-forced"
     NoneToManual "switch-none-to-manual"
     ForcedToNone "switch-forced-to-none"
@@ -401,7 +400,6 @@ fn count_line(before: &Shown, ticked: &Shown, selector: &Selector, counts: &mut 
         ClockState::FreeRun => Item::FreeRun,
         ClockState::Holdover => Item::Holdover,
         ClockState::Locked => Item::Locked,
-        ClockState::Contradiction => Item::Contradiction,
     });
     if let Switch::Forced(input) = selector.switch {
         let passed = selector.inputs[usize::from(input.0)].passed();

@@ -332,8 +332,6 @@ pub enum ClockState {
     FreeRun = 0,
     Holdover = 1,
     Locked = 2,
-    /// "03 is answered should a manual switch be found standing on an ineligible input."
-    Contradiction = 3,
 }
 
 /// The place of an input in the choice: lower is better, equal is "full equals".
@@ -577,15 +575,14 @@ impl Selector {
 
     /// "02 locked if an input is selected and its passed quality is usable [...];
     /// otherwise 01 holdover if it was locked after any earlier choice, 00 free run if
-    /// not." Readings: 03 is looked for after the choice, so it never occurs.
+    /// not." (L7 took 03 away: a standing manual switch is on an eligible input.)
     fn clock_state_when(&self, locked: bool) -> ClockState {
-        match self.switch {
-            Switch::Manual(input) if self.ranks[input.index()] == NOT_ELIGIBLE => {
-                ClockState::Contradiction
-            }
-            _ if locked => ClockState::Locked,
-            _ if self.was_locked => ClockState::Holdover,
-            _ => ClockState::FreeRun,
+        if locked {
+            ClockState::Locked
+        } else if self.was_locked {
+            ClockState::Holdover
+        } else {
+            ClockState::FreeRun
         }
     }
 
