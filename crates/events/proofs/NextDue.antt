@@ -10,7 +10,8 @@ use Rattle.due.specs.Each as Each
 use Rattle.due.specs.Each.{each, one, dueIn}
 use Rattle.due.proofs.Jump.{nextDue-later, dueIn-before, dueIn-next}
 use Rattle.events.specs.Sequence.{Sequence, stateAfter}
-use Rattle.events.specs.Due.{isDue, NextRight}
+use Rattle.events.specs.Due.{isDue}
+use Rattle.events.specs.NextDue.{NextRight}
 use Rattle.events.specs.Past.{recorded, madeIn}
 use Rattle.events.proofs.Calm.{sequence-calm}
 use Rattle.events.proofs.Extra.{sequence-ever}

@@ -96,8 +96,7 @@ module _ (past : Past) (given : Given) where
   said-15 : ((eqb kind kindManual && isForcedSwitch (decidedBy made .switch)) ≡ true) ↔
       ((kind ≡ kindManual) × ((on : ℕ) × StandsForced on made))
   said-15 =
-      both-exact _ _ (kind-exact kind kindManual)
-      (
+      both-exact _ _ (kind-exact kind kindManual) (
         λ x. let found = forced-exact (decidedBy made .switch) .0 x in
             (found .0, decided-right history time made refl .forced (found .0) .0 (found .1)),
         λ x. forced-exact (decidedBy made .switch) .1 (x .0, decided-right history time made refl .forced (x .0) .1 (x .1)),
@@ -112,15 +111,14 @@ module _ (past : Past) (given : Given) where
       anyLower (candidatesBy history time) (getD (candidatesBy history time) input nobody .quality)) ≡ true) ↔
       ((kind ≡ kindManual) × ((other : ℕ) × (Eligible history time other × LowerQuality history time other input)))
   said-17 inside =
-      both-exact _ _ (kind-exact kind kindManual)
-      (
+      both-exact _ _ (kind-exact kind kindManual) (
         λ x. let found = lower-found (candidatesBy history time) (getD (candidatesBy history time) input nobody .quality) x in (
-              found .0,
-              (
-                eligible-stated history time (found .0) .0 (found .2 .isEligible),
-                lower-stated history time (found .0) input (found .1) inside .0 (found .2 .isLower),
-              ),
-            ),
+          found .0,
+          (
+            eligible-stated history time (found .0) .0 (found .2 .isEligible),
+            lower-stated history time (found .0) input (found .1) inside .0 (found .2 .isLower),
+          ),
+        ),
         λ x.
             lower-some (candidatesBy history time) (getD (candidatesBy history time) input nobody .quality) (x .0)
             (x .1 .0 .admitted .isInput)

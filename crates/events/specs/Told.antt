@@ -12,7 +12,7 @@ use Rattle.choice.specs.declared.Candidate.{Candidate}
 use Rattle.choice.specs.declared.Selection.{Selection}
 use Rattle.choice.specs.declared.Selection.the-variants as S
 use Rattle.choice.specs.Candidate.{nobody}
-use Rattle.selector.specs.Answer.{clockState, clockQuality, outgoingCode, selectedNumber, switchNumber, switchInput, ports}
+use Rattle.selector.specs.Clock.{clockState, clockQuality, outgoingCode, selectedNumber, switchNumber, switchInput, ports}
 use Rattle.events.specs.Past.{Past, candidateBy, decidedBy}
 
 -- an input as the recorded events show it at the time of the last of them; none where nothing is selected
