@@ -89,16 +89,16 @@ Latest Such (choice ∷ earlier) = Such choice
 -- and its input passes the switch's test at that choice and at every later one
 pub record Stands (kind : ℕ) (Test : History → ℕ → ℕ → Type 0) (on : ℕ) (made : List Made) : Type 0 where
   pub count : ℕ
-  pub given : Latest (λ (choice : Made). (choice .kind ≡ kind) × (choice .on ≡ on)) (choicesAgo count made)
+  pub given : Latest (λ choice. (choice .kind ≡ kind) × (choice .on ≡ on)) (choicesAgo count made)
   pub unreplaced : (back : ℕ) → back < count
-      → Latest (λ (choice : Made). Command (choice .kind)) (choicesAgo back made) → ⊥
+      → Latest (λ choice. Command (choice .kind)) (choicesAgo back made) → ⊥
   pub unbroken : (back : ℕ) → back ≤ count
-      → Latest (λ (choice : Made). Test (choice .history) (choice .time) on) (choicesAgo back made)
+      → Latest (λ choice. Test (choice .history) (choice .time) on) (choicesAgo back made)
 
 -- "stands until cleared, replaced by another forced switch, or its input is off or locked"; a manual one is refused
 -- while it stands
 abbrev pub StandsForced : ℕ → List Made → Type 0
-StandsForced = Stands kindForced (λ (history : History) (time number : ℕ). Admitted history number)
+StandsForced = Stands kindForced (λ history time number. Admitted history number)
 
 -- "its input is eligible and, mode on, no eligible input has lower passed quality"
 pub record Unsurpassed (history : History) (time number : ℕ) : Type 0 where
@@ -112,9 +112,9 @@ StandsManual = Stands kindManual Unsurpassed
 
 -- ---- the demand
 
--- the switch and the selection are right, by recorded events at a time, after the choices made
-pub record RightlyDecided (history : History) (time : ℕ) (made : List Made) (switch : Switch) (before selection : Selection)
-    : Type 0 where
+-- the switch that stands and what is selected are right, by recorded events at a time, after the choices made
+pub record RightlyDecided
+    (history : History) (time : ℕ) (made : List Made) (switch : Switch) (before selection : Selection) : Type 0 where
   -- a switch stands exactly as said
   pub forced : (on : ℕ) → (switch ≡ forcedOn on) ↔ StandsForced on made
   pub manual : (on : ℕ) → (switch ≡ manualOn on) ↔ StandsManual on made
@@ -128,7 +128,7 @@ pub record RightlyDecided (history : History) (time : ℕ) (made : List Made) (s
 abbrev pub selectedBefore : List Made → Selection
 selectedBefore made = decidedBy (choicesAgo 1 made) .selection
 
--- right at the latest of some choices, by what had been recorded then; before any, no switch stands and nothing is selected
+-- right at the latest of some choices, by what had been recorded then; before any, no switch and nothing selected
 abbrev pub RightAt : List Made → Type 0
 RightAt [] = (decidedBy [] .switch ≡ W.Nothing) × (decidedBy [] .selection ≡ S.Nothing)
 RightAt (choice ∷ earlier) =
@@ -137,8 +137,9 @@ RightAt (choice ∷ earlier) =
 
 -- after a sequence of events, the empty one and one of refusals alone too
 pub record Demand3 (sequence : Sequence) : Type 0 where
-  -- the state is right, by the recorded events at its time
-  pub state : RightlyDecided (recorded sequence) (stateAfter sequence .time) (madeIn sequence) (stateAfter sequence .switch)
+  -- what the state holds is right, by the recorded events at its time
+  pub state :
+      RightlyDecided (recorded sequence) (stateAfter sequence .time) (madeIn sequence) (stateAfter sequence .switch)
       (selectedBefore (madeIn sequence)) (stateAfter sequence .selection)
   -- document 02, L3: "Demand 3 holds at every due moment": at each choice made on the way
   pub each : (back : ℕ) → RightAt (choicesAgo back (madeIn sequence))

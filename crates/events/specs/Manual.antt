@@ -12,4 +12,4 @@ pub record ManualEligible (sequence : Sequence) : Type 0 where
   pub state : (on : ℕ) → stateAfter sequence .switch ≡ manualOn on
       → Eligible (recorded sequence) (stateAfter sequence .time) on
   pub each : (back on : ℕ) → decidedBy (choicesAgo back (madeIn sequence)) .switch ≡ manualOn on
-      → Latest (λ (choice : Made). Eligible (choice .history) (choice .time) on) (choicesAgo back (madeIn sequence))
+      → Latest (λ choice. Eligible (choice .history) (choice .time) on) (choicesAgo back (madeIn sequence))
