@@ -25,7 +25,7 @@ use Rattle.selector.specs.Answer.{clockState, clockQuality, outgoingCode, selec
 use Rattle.selector.proofs.Ports.{getD-ports, ports-same}
 use Rattle.events.specs.Sequence.{Sequence, stateAfter}
 use Rattle.events.specs.Past.{Made, candidateBy, candidatesBy, seen, pastOf, recorded, madeIn}
-use Rattle.events.specs.Told.{shown, selectedBy, qualityBy, answerBy, codeBy}
+use Rattle.events.specs.Told.{shown, candidateSelected, qualityBy, answerBy, codeBy}
 use Rattle.events.specs.Demand2.{Demand2}
 use Rattle.events.proofs.Agrees.{Agrees, sequence-agrees, settings-at, candidate-recorded}
 use Rattle.events.proofs.Stated.{admitted-inside, passes-made}
@@ -67,7 +67,7 @@ module _ (sequence : Sequence) where
       (selected-inside after (recorded sequence) (madeIn sequence) agreed number x) ∙
       ap (λ (time : ℕ). candidateBy (recorded sequence) time (number .0)) (agreed .time)
 
-  selected-by : selectedCandidate (after .inputs) (after .mode) (after .selection) ≡ selectedBy (pastOf sequence)
+  selected-by : selectedCandidate (after .inputs) (after .mode) (after .selection) ≡ candidateSelected (pastOf sequence)
   selected-by = selected-shown (after .selection) refl ∙ ap (shown (pastOf sequence)) (agreed .selection)
 
   quality-by : qualityOf after ≡ qualityBy (pastOf sequence)

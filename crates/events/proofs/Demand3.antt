@@ -3,7 +3,7 @@
 use Prim.Native.Nat.{ℕ, zero, suc, _≤_, _<_}
 use mathlib.Core.Bool.{Bool, true, false}
 use mathlib.Core.List.{List, [], _∷_, map}
-use mathlib.Core.Logic.{_↔_}
+use mathlib.Core.Logic.{_↔_, Iff·trans}
 use mathlib.Core.Path.{_≡_, refl, sym, _∙_, ap, subst}
 use native.Mathlib.Omega.{arith}
 use Rattle.numbers.specs.Inputs.{inputCount}
@@ -24,7 +24,7 @@ use Rattle.decision.proofs.Selecting.{latest-right, manualMayStand-eligible}
 use Rattle.events.specs.Sequence.{Sequence, stateAfter}
 use Rattle.events.specs.Past.{Made, candidatesBy, seen, decidedBy, recorded, madeIn}
 use Rattle.events.specs.Happened.{MadeAt}
-use Rattle.events.specs.Demand3.{Admitted, Eligible, Better, RightlyChosen, Latest, Stands, Unsurpassed, RightlyDecided, selectedBefore, RightAt, Demand3}
+use Rattle.events.specs.Demand3.{Admitted, Eligible, Better, RightlyChosen, Latest, Stands, StandsForced, Unsurpassed, StandsManual, RightlyDecided, selectedBefore, RightAt, Demand3}
 use Rattle.events.specs.Manual.{ManualEligible}
 use Rattle.events.proofs.Stated.{admitted-exact, eligible-stated, better-stated, unsurpassed-exact, passes-made}
 use Rattle.events.proofs.Happened.{happened}
@@ -54,7 +54,8 @@ module _ (history : History) (time : ℕ) where
           λ x. absurd (nothing-selected chosen (sym x)),
           λ none. absurd (none chosen (eligible-stated history time chosen .0 (best .isEligible))),
         );
-        eligible = λ number x. subst (Eligible history time) (is number x) (eligible-stated history time chosen .0 (best .isEligible));
+        eligible = λ number x.
+            subst (Eligible history time) (is number x) (eligible-stated history time chosen .0 (best .isEligible));
         best = λ number other x e b.
             contra
             (better-stated history time other chosen (e .admitted .isInput) (best .inside) .1
@@ -67,7 +68,8 @@ module _ (history : History) (time : ℕ) where
             (λ b. none (subst (λ (n : ℕ). Better history time n earlier) (is number x) b)));
         lowest = λ number other x y e none.
             subst (λ (n : ℕ). n ≤ other) (is number x)
-            (best .lowest (λ z. y (z ∙ ap selected (is number x))) other (e .admitted .isInput) (eligible-stated history time other .1 e)
+            (best .lowest (λ z. y (z ∙ ap selected (is number x))) other (e .admitted .isInput)
+            (eligible-stated history time other .1 e)
             (not-better chosen other (best .inside) (e .admitted .isInput)
             (λ b. none (subst (λ (n : ℕ). Better history time n other) (is number x) b))));
       }
@@ -90,7 +92,8 @@ module _ (history : History) (time : ℕ) where
   pub chosen-right : (before selection : Selection) → Chosen eligible better before selection
       → RightlyChosen history time before selection
   chosen-right before S.Nothing none =
-      nothing-right before (λ number e. contra (eligible-stated history time number .1 e) (none number (e .admitted .isInput)))
+      nothing-right before
+      (λ number e. contra (eligible-stated history time number .1 e) (none number (e .admitted .isInput)))
   chosen-right before (S.At chosen) best = best-right before (chosen .0) best
 
 -- a fresh selector has no eligible input
@@ -117,7 +120,8 @@ commands-seen [] = (λ x. x, λ x. x)
 commands-seen (choice ∷ earlier) = (λ x. x, λ x. x)
 
 module _ (test : List Candidate → ℕ → Bool) (Test : History → ℕ → ℕ → Type 0)
-    (exact : (history : History) (time number : ℕ) → (test (candidatesBy history time) number ≡ true) ↔ Test history time number) where
+    (exact : (history : History) (time number : ℕ)
+    → (test (candidatesBy history time) number ≡ true) ↔ Test history time number) where
   passes-seen : (on : ℕ) (made : List Made)
       → Passes test on (map seen made) ↔ Latest (λ (choice : Made). Test (choice .history) (choice .time) on) made
   passes-seen on [] = (λ x. x, λ x. x)
@@ -134,7 +138,8 @@ module _ (test : List Candidate → ℕ → Bool) (Test : History → ℕ → �
             given = follows-seen kind on (choicesAgo (s .count) made) .0 (rw (ago-seen (s .count) made) at (s .given));
             unreplaced = λ back h x.
                 s .unreplaced back h (rw (ago-seen back made) (commands-seen (choicesAgo back made) .1 x));
-            unbroken = λ back h. passes-seen on (choicesAgo back made) .0 (rw (ago-seen back made) at (s .unbroken back h));
+            unbroken = λ back h.
+                passes-seen on (choicesAgo back made) .0 (rw (ago-seen back made) at (s .unbroken back h));
           }
 
       from : Stands kind Test on made → StandsAmong kind test on (map seen made)
@@ -144,7 +149,8 @@ module _ (test : List Candidate → ℕ → Bool) (Test : History → ℕ → �
             given = rw (ago-seen (s .count) made) (follows-seen kind on (choicesAgo (s .count) made) .1 (s .given));
             unreplaced = λ back h x.
                 s .unreplaced back h (commands-seen (choicesAgo back made) .0 (rw (ago-seen back made) at x));
-            unbroken = λ back h. rw (ago-seen back made) (passes-seen on (choicesAgo back made) .1 (s .unbroken back h));
+            unbroken = λ back h.
+                rw (ago-seen back made) (passes-seen on (choicesAgo back made) .1 (s .unbroken back h));
           }
 
 -- ---- after any choices made
@@ -158,38 +164,43 @@ decided-chosen history time [] here free = rw here (fresh-right time S.Nothing)
 decided-chosen history time (choice ∷ earlier) here free =
     chosen-right history time (decidedBy earlier .selection) (decidedBy (choice ∷ earlier) .selection)
     (subst
-    (λ (candidates : List Candidate). Chosen (eligibleAmong candidates) (betterAmong candidates) (decidedBy earlier .selection)
-    (decidedBy (choice ∷ earlier) .selection))
+    (λ (candidates : List Candidate). Chosen (eligibleAmong candidates) (betterAmong candidates)
+    (decidedBy earlier .selection) (decidedBy (choice ∷ earlier) .selection))
     here
     (latest-right (map seen (choice ∷ earlier)) .free free))
 
-decided-forced : (made : List Made) (on : ℕ) → decidedBy made .switch ≡ forcedOn on → decidedBy made .selection ≡ selected on
+decided-forced : (made : List Made) (on : ℕ) → decidedBy made .switch ≡ forcedOn on
+    → decidedBy made .selection ≡ selected on
 unfolding decidedOver
 decided-forced [] on x = absurd (nothing-forced on x)
 decided-forced (choice ∷ earlier) on x = latest-right (map seen (choice ∷ earlier)) .forced on x
 
-decided-manual : (made : List Made) (on : ℕ) → decidedBy made .switch ≡ manualOn on → decidedBy made .selection ≡ selected on
+decided-manual : (made : List Made) (on : ℕ) → decidedBy made .switch ≡ manualOn on
+    → decidedBy made .selection ≡ selected on
 unfolding decidedOver
 decided-manual [] on x = absurd (nothing-manual on x)
 decided-manual (choice ∷ earlier) on x = latest-right (map seen (choice ∷ earlier)) .manual on x .0
 
-module _ (history : History) (time : ℕ) (made : List Made) (here : MadeAt history time made) where
-  pub decided-right :
-      RightlyDecided history time made (decidedBy made .switch) (selectedBefore made) (decidedBy made .selection)
-  decided-right =
-      record {
-        forced = λ on. (
-          λ x. stands-seen forcedMayStand _ admitted-exact kindForced on made .0 (switch-right (map seen made) .forced on x),
-          λ s. switch-right (map seen made) .forcedOnly on (stands-seen forcedMayStand _ admitted-exact kindForced on made .1 s),
-        );
-        manual = λ on. (
-          λ x. stands-seen manualMayStand Unsurpassed unsurpassed-exact kindManual on made .0 (switch-right (map seen made) .manual on x),
-          λ s. switch-right (map seen made) .manualOnly on (stands-seen manualMayStand Unsurpassed unsurpassed-exact kindManual on made .1 s),
-        );
-        byForced = decided-forced made;
-        byManual = decided-manual made;
-        chosen = decided-chosen history time made here;
-      }
+forced-stands : (made : List Made) (on : ℕ) → (decidedBy made .switch ≡ forcedOn on) ↔ StandsForced on made
+forced-stands made on =
+    Iff·trans (switch-right (map seen made) .forced on, switch-right (map seen made) .forcedOnly on)
+    (stands-seen forcedMayStand _ admitted-exact kindForced on made)
+
+manual-stands : (made : List Made) (on : ℕ) → (decidedBy made .switch ≡ manualOn on) ↔ StandsManual on made
+manual-stands made on =
+    Iff·trans (switch-right (map seen made) .manual on, switch-right (map seen made) .manualOnly on)
+    (stands-seen manualMayStand Unsurpassed unsurpassed-exact kindManual on made)
+
+pub decided-right : (history : History) (time : ℕ) (made : List Made) → MadeAt history time made
+    → RightlyDecided history time made (decidedBy made .switch) (selectedBefore made) (decidedBy made .selection)
+decided-right history time made here =
+    record {
+      forced = forced-stands made;
+      manual = manual-stands made;
+      byForced = decided-forced made;
+      byManual = decided-manual made;
+      chosen = decided-chosen history time made here;
+    }
 
 right-at : (made : List Made) → RightAt made
 unfolding decidedOver
@@ -235,6 +246,5 @@ manual-eligible sequence =
           (switch-right (map seen (madeIn sequence)) .manual on (sym (is .switch) ∙ x) .unbroken 0 (omega arith))));
       each = λ back on x.
           latest-eligible on (choicesAgo back (madeIn sequence))
-          (stands-seen manualMayStand Unsurpassed unsurpassed-exact kindManual on (choicesAgo back (madeIn sequence)) .0
-          (switch-right (map seen (choicesAgo back (madeIn sequence))) .manual on x) .unbroken 0 (omega arith));
+          (manual-stands (choicesAgo back (madeIn sequence)) on .0 x .unbroken 0 (omega arith));
     }

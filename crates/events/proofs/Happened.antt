@@ -20,7 +20,8 @@ happened sequence =
       switch = agrees .switch;
       selection = agrees .selection;
       held = agrees .held;
-      madeAt = subst (λ (time : ℕ). MadeAt (recorded sequence) time (madeIn sequence)) (sym (agrees .time)) (agrees .madeAt);
+      madeAt =
+          subst (λ (time : ℕ). MadeAt (recorded sequence) time (madeIn sequence)) (sym (agrees .time)) (agrees .madeAt);
       eligibility = candidate-stated (recorded sequence);
       heldRight = held-right (map seen (madeIn sequence));
     }

@@ -99,7 +99,9 @@ module _ (past : Past) (given : Given) where
       both-exact _ _ (kind-exact kind kindManual) (
         λ x. let found = forced-exact (decidedBy made .switch) .0 x in
             (found .0, decided-right history time made refl .forced (found .0) .0 (found .1)),
-        λ x. forced-exact (decidedBy made .switch) .1 (x .0, decided-right history time made refl .forced (x .0) .1 (x .1)),
+        λ x.
+            forced-exact (decidedBy made .switch) .1
+            (x .0, decided-right history time made refl .forced (x .0) .1 (x .1)),
       )
 
   said-16 : ((eqb kind kindManual && not (eligibleAmong (candidatesBy history time) input)) ≡ true) ↔
@@ -112,13 +114,15 @@ module _ (past : Past) (given : Given) where
       ((kind ≡ kindManual) × ((other : ℕ) × (Eligible history time other × LowerQuality history time other input)))
   said-17 inside =
       both-exact _ _ (kind-exact kind kindManual) (
-        λ x. let found = lower-found (candidatesBy history time) (getD (candidatesBy history time) input nobody .quality) x in (
-          found .0,
-          (
-            eligible-stated history time (found .0) .0 (found .2 .isEligible),
-            lower-stated history time (found .0) input (found .1) inside .0 (found .2 .isLower),
-          ),
-        ),
+        λ x. let found =
+            lower-found (candidatesBy history time) (getD (candidatesBy history time) input nobody .quality) x
+            in (
+              found .0,
+              (
+                eligible-stated history time (found .0) .0 (found .2 .isEligible),
+                lower-stated history time (found .0) input (found .1) inside .0 (found .2 .isLower),
+              ),
+            ),
         λ x.
             lower-some (candidatesBy history time) (getD (candidatesBy history time) input nobody .quality) (x .0)
             (x .1 .0 .admitted .isInput)
@@ -184,7 +188,9 @@ rows-said past given =
     }
   where
     a : Bool
-    a = eqb (given .event .kind) kindForced && not (forcedMayStand (candidatesBy (past .history) (given .event .time)) (given .event .input))
+    a =
+        eqb (given .event .kind) kindForced &&
+        not (forcedMayStand (candidatesBy (past .history) (given .event .time)) (given .event .input))
 
     b : Bool
     b =
@@ -192,7 +198,9 @@ rows-said past given =
         isForcedSwitch (decidedBy (tickChoices (past .history) (given .event .time) (past .made)) .switch)
 
     c : Bool
-    c = eqb (given .event .kind) kindManual && not (eligibleAmong (candidatesBy (past .history) (given .event .time)) (given .event .input))
+    c =
+        eqb (given .event .kind) kindManual &&
+        not (eligibleAmong (candidatesBy (past .history) (given .event .time)) (given .event .input))
 
     d : Bool
     d =

@@ -35,7 +35,8 @@ module _ (history : History) (time number : ℕ) where
   unfolding passedAt
   passedAt-passes = passed-exact (momentsUntil number history time)
 
-  pub passedAt-only : (quality : Quality) → PassedAt number history time quality → quality ≡ passedAt number history time
+  pub passedAt-only : (quality : Quality) → PassedAt number history time quality
+      → quality ≡ passedAt number history time
   unfolding passedAt
   passedAt-only quality passes = passed-unique (momentsUntil number history time) quality passes
 
@@ -53,7 +54,8 @@ module _ (history : History) (time : ℕ) where
   candidate-stated number inside quality states =
       shown-at number inside ∙
       ap
-      (λ (passes : Quality). candidateOf passes (record { 0 = priorityOf number history }) (isLockedOut number history) (modeOn history))
+      (λ (passes : Quality). candidateOf passes (record { 0 = priorityOf number history }) (isLockedOut number history)
+      (modeOn history))
       (sym (passedAt-only history time number quality states))
 
   -- ---- "priority not 0, not locked"
@@ -74,7 +76,8 @@ module _ (history : History) (time : ℕ) where
   unfolding candidateBy candidateOf isAdmitted
   admitted-at number inside = ap (λ (candidate : Candidate). candidate .admitted) (shown-at number inside)
 
-  pub admitted-exact : (number : ℕ) → (forcedMayStand (candidatesBy history time) number ≡ true) ↔ Admitted history number
+  pub admitted-exact : (number : ℕ)
+      → (forcedMayStand (candidatesBy history time) number ≡ true) ↔ Admitted history number
   admitted-exact number = (to, from)
     where
       to : forcedMayStand (candidatesBy history time) number ≡ true → Admitted history number
@@ -85,8 +88,12 @@ module _ (history : History) (time : ℕ) where
           in
           record {
             isInput = inside;
-            notOff = eqb-false (priorityOf number history) 0 (not-true _ (both-first _ (not (isLockedOut number history)) both));
-            notLocked = not-true (isLockedOut number history) (both-second (not (eqb (priorityOf number history) 0)) _ both);
+            notOff =
+                eqb-false (priorityOf number history) 0
+                (not-true _ (both-first _ (not (isLockedOut number history)) both));
+            notLocked =
+                not-true (isLockedOut number history)
+                (both-second (not (eqb (priorityOf number history) 0)) _ both);
           }
 
       from : Admitted history number → forcedMayStand (candidatesBy history time) number ≡ true
@@ -105,8 +112,10 @@ module _ (history : History) (time : ℕ) where
           in
           let quality : Quality = passedAt number history time in
           let passes : PassedAt number history time quality = passedAt-passes history time number in
-          let parts : EligibleParts quality (record { 0 = priorityOf number history }) (isLockedOut number history) (modeOn history) =
-          eligible-exact quality (record { 0 = priorityOf number history }) (isLockedOut number history) (modeOn history) .0
+          let parts : EligibleParts quality (record { 0 = priorityOf number history }) (isLockedOut number history)
+          (modeOn history) =
+          eligible-exact quality (record { 0 = priorityOf number history }) (isLockedOut number history)
+          (modeOn history) .0
           (sym (ap isEligible (candidate-stated number (admitted .isInput) quality passes)) ∙ x)
           in
           record {
@@ -120,7 +129,8 @@ module _ (history : History) (time : ℕ) where
       from : Eligible history time number → eligibleAmong (candidatesBy history time) number ≡ true
       from e =
           ap isEligible (candidate-stated number (e .admitted .isInput) (e .quality) (e .passes)) ∙
-          eligible-exact (e .quality) (record { 0 = priorityOf number history }) (isLockedOut number history) (modeOn history) .1
+          eligible-exact (e .quality) (record { 0 = priorityOf number history }) (isLockedOut number history)
+          (modeOn history) .1
           (record {
             notOff = e .admitted .notOff;
             notLocked = e .admitted .notLocked;
@@ -214,7 +224,8 @@ module _ (history : History) (time : ℕ) where
         from : SameQuality history time number other → ranked number ≡ ranked other
         from same =
             byBool (modeOn history)
-            (λ on. ranked-on number inside on (same on .0) (same on .1 .0) ∙ sym (ranked-on other inside' on (same on .0) (same on .1 .1)))
+            (λ on. ranked-on number inside on (same on .0) (same on .1 .0) ∙
+            sym (ranked-on other inside' on (same on .0) (same on .1 .1)))
             (λ off. ranked-off number inside off ∙ sym (ranked-off other inside' off))
 
     pub better-stated : (betterAmong (candidatesBy history time) number other ≡ true) ↔ Better history time number other
@@ -255,7 +266,8 @@ module _ (history : History) (time : ℕ) where
             none = λ other e lower.
                 omega (
                   arith,
-                  manualMayStand-lower (candidatesBy history time) number x other (e .admitted .isInput) (eligible-stated other .1 e),
+                  manualMayStand-lower (candidatesBy history time) number x other (e .admitted .isInput)
+                      (eligible-stated other .1 e),
                   lower-stated other number (e .admitted .isInput) (eligible .admitted .isInput) .1 lower,
                 );
           }
@@ -264,7 +276,9 @@ module _ (history : History) (time : ℕ) where
       from u =
           byBool (anyLower (candidatesBy history time) (getD (candidatesBy history time) number nobody .quality))
           (λ some.
-          let found = lower-found (candidatesBy history time) (getD (candidatesBy history time) number nobody .quality) some in
+          let found =
+          lower-found (candidatesBy history time) (getD (candidatesBy history time) number nobody .quality) some
+          in
           absurd
           (u .none (found .0) (eligible-stated (found .0) .0 (found .2 .isEligible))
           (lower-stated (found .0) number (found .1) (u .eligible .admitted .isInput) .0 (found .2 .isLower))))

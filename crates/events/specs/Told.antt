@@ -21,12 +21,12 @@ shown past S.Nothing = nobody
 shown past (S.At number) = candidateBy (past .history) (timeOf (past .history)) (number .0)
 
 -- the selected input
-abbrev pub selectedBy : Past → Candidate
-selectedBy past = shown past (decidedBy (past .made) .selection)
+abbrev pub candidateSelected : Past → Candidate
+candidateSelected past = shown past (decidedBy (past .made) .selection)
 
 -- "Clock quality: 0 with mode off; the passed quality when locked; otherwise 4"
 abbrev pub qualityBy : Past → Quality
-qualityBy past = clockQuality (modeOn (past .history)) (selectedBy past)
+qualityBy past = clockQuality (modeOn (past .history)) (candidateSelected past)
 
 -- "Answer line: number .., selected input or ff, clock state, clock quality, switch .., its input or ff"
 abbrev pub answerBy : ℕ → Past → Answer
@@ -34,7 +34,7 @@ answerBy number past =
     record {
       number = number;
       selected = selectedNumber (decidedBy (past .made) .selection);
-      state = clockState (selectedBy past .usable) (decidedBy (past .made) .held);
+      state = clockState (candidateSelected past .usable) (decidedBy (past .made) .held);
       quality = qualityBy past .0;
       switch = switchNumber (decidedBy (past .made) .switch);
       on = switchInput (decidedBy (past .made) .switch);
