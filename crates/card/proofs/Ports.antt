@@ -1,19 +1,19 @@
 -- What is written for a port, whatever the card holds. Assumes nothing.
 use Prim.Native.Nat.{ℕ, zero, suc, _≤_}
 use mathlib.Core.Bool.{Bool, true, false, not, _||_, cond}
-use mathlib.Core.List.{List, [], _∷_, map}
+use mathlib.Core.List.{List, [], _∷_, _++_, map}
 use mathlib.Core.Logic.{_≢_}
-use mathlib.Core.Path.{_≡_, refl, sym, _∙_}
+use mathlib.Core.Path.{_≡_, refl, sym, _∙_, ap}
 use native.Mathlib.Omega.{arith}
 use lib.Dec.{eqb, ltb}
-use lib.ListN.{length, getD}
-use borrow.Author.Tests.{le-ltb}
+use lib.ListN.{length, getD, drop}
+use borrow.Author.Tests.{ltb-false, le-ltb}
 use Rattle.numbers.specs.declared.Quality.{Quality}
 use Rattle.numbers.specs.Quality.{codeDnu, codeOfQuality}
 use Rattle.numbers.specs.Refusal.{accepted}
 use Rattle.frame.specs.declared.FrameWrite.{FrameWrite}
 use Rattle.frame.specs.declared.FrameWrite.the-variants.{Written, Refused}
-use Rattle.frame.specs.Write.{writtenLength, sourceLength, writeAnswer, contentAfter}
+use Rattle.frame.specs.Write.{writtenLength, sourceLength, frameOctets, writeAnswer, contentAfter}
 use Rattle.frame.proofs.RoundTrip.{demand-2-round-trip}
 use Rattle.input.specs.declared.Input.{Input}
 use Rattle.input.specs.Record.{freshInput}
@@ -131,3 +131,16 @@ module _ (card : Card) (port : ℕ) (event : Bool) (source before : List ℕ) (a
             .front
             (writeAnswer-written before source _ (portCode-small card port) (sym (there-answered there) ∙ accepts));
       })
+
+  -- what is written is the frame with the port's code, and the octets after it are kept
+  pub port-written : answer ≡ accepted
+      → (port ≤ lastInput) × (after ≡ frameOctets source event (portCode card port) ++ drop writtenLength before)
+  port-written accepts =
+      byBool (ltb lastInput port)
+      (λ past. let five : answer ≡ 5 = write .answered ∙ (rw past) in absurd (omega arith))
+      (λ there. (
+        ltb-false lastInput port there,
+        there-content there
+            ∙ ap (λ (written : FrameWrite). contentAfter written before source event (portCode card port))
+            (writeAnswer-written before source _ (portCode-small card port) (sym (there-answered there) ∙ accepts)),
+      ))
