@@ -1,0 +1,3 @@
+-- The laws of what the code keeps, one for each way through; outgoing codes are small.
+pub mod Codes
+pub mod Laws

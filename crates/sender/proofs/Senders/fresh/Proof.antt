@@ -1,0 +1,14 @@
+-- `sender::Senders::fresh` meets its contract: it is the definition, call by call.
+-- Assumes nothing.
+use borrow.Author.Needs.{needs}
+use Rattle.sender.proofs.Senders.fresh.Statement.{statement}
+use Rattle.sender.proofs.Senders.fresh.Tie as tie
+
+fresh-requires : tie.Need-fresh-requires
+fresh-requires c κs = search needs
+
+returns : tie.Need-returns
+returns c = rw (c .fresh .ensures)
+
+pub fresh-spec : {M : Type 1} → statement M
+fresh-spec = tie.close (tie.spec fresh-requires returns)
