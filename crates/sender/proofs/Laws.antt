@@ -227,7 +227,7 @@ pub record Fit (early : Bool) (port time room octets : ℕ) : Type 0 where
   pub long : writtenLength ≤ room
   pub six : octets ≡ sourceLength
 
-rows-numbered : (early : Bool) (port time room octets : ℕ) → Numbered (questionRows early port time room octets)
+pub rows-numbered : (early : Bool) (port time room octets : ℕ) → Numbered (questionRows early port time room octets)
 rows-numbered early port time room octets = (
   λ a e. omega arith,
   (λ a e. omega arith, (λ a e. omega arith, (λ a e. omega arith, (λ a e. omega arith, tt)))),

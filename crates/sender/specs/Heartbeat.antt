@@ -1,7 +1,7 @@
 -- Document 02, L1, "A heartbeat on every port": what a question is answered with, by the questions that came before it.
 -- This is the whole law: nothing is kept and no timer runs. `Sender` has what the code keeps instead.
 -- Assumes nothing.
-use Prim.Native.Nat.{ℕ, _+_}
+use Prim.Native.Nat.{ℕ, suc, _+_}
 use mathlib.Core.Bool.{Bool, true, false, not, _&&_, cond}
 use mathlib.Core.List.{List, [], _∷_}
 use lib.Dec.{eqb, leb, ltb}
@@ -111,14 +111,20 @@ isLater time sent = ltb time (sent .time + window)
 -- how many frames carry such times
 unfoldable pub laterCount : ℕ → List Sent → ℕ
 laterCount time [] = 0
-laterCount time (sent ∷ earlier) = cond (isLater time sent) 1 0 + laterCount time earlier
+laterCount time (sent ∷ earlier) =
+    let count = laterCount time earlier in cond (isLater time sent) (suc count) count
+
+-- "the port's code differs from the last one sent"; not where none was sent
+abbrev pub differs : ℕ → List Sent → Bool
+differs code [] = false
+differs code (last ∷ earlier) = not (eqb code (last .code))
 
 -- "an information frame the first time; an event frame when the port's code differs from the last one sent; otherwise an
 -- information frame when 1,000 ms or more have passed since the port's last frame"
 unfoldable pub dueFrame : ℕ → ℕ → List Sent → Heartbeat
 dueFrame time code [] = H.Information
 dueFrame time code (last ∷ earlier) =
-    cond (not (eqb code (last .code))) H.Event
+    cond (differs code (last ∷ earlier)) H.Event
     (cond (leb (last .time + period) time) H.Information
     H.Nothing)
 
@@ -144,12 +150,15 @@ sentOver (question ∷ earlier) =
 
 -- ---- what is answered
 
--- "it answers one frame or nothing", or a refusal
-unfoldable pub heartbeatBy : Questions → Question → Heartbeat
-heartbeatBy earlier question =
-    let before = acceptedOf (question .port) earlier in
+-- a refusal, or "one frame or nothing", after the accepted questions of the port
+unfoldable pub answerOver : Questions → Question → Heartbeat
+answerOver before question =
     cond (not (eqb (numberOver before question) accepted)) (H.Refused (numberOver before question))
     (heartbeatOver (question .time) (codeAsked question) (sentOver before))
+
+-- what a question is answered with, by all that were put before it
+abbrev pub heartbeatBy : Questions → Question → Heartbeat
+heartbeatBy earlier question = answerOver (acceptedOf (question .port) earlier) question
 
 -- the frames that a port has sent after some questions
 abbrev pub sentBy : ℕ → Questions → List Sent
