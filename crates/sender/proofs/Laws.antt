@@ -1,15 +1,13 @@
 -- The definitions of `specs/`, a law for each way through the function that meets it. Assumes nothing.
-use Prim.Native.Nat.{ℕ, _+_, _*_, _≤_, _<_}
+use Prim.Native.Nat.{ℕ, _+_, _≤_, _<_}
 use mathlib.Core.Bool.{Bool, true, false, not, cond}
 use mathlib.Core.List.{List, [], _∷_}
 use mathlib.Core.Path.{_≡_, refl, sym, _∙_, ap}
 use native.Mathlib.Omega.{arith}
-use mir.Val.{Fits}
-use mir.Syntax.{w64}
 use lib.Dec.{leb, ltb}
 use lib.ListN.{length, getD, set, take}
 use borrow.Author.Tests.{eq-eqb, ne-eqb, lt-ltb, le-ltb, le-leb, lt-leb, eqb-true, leb-false, ltb-false, not-false}
-use Rattle.numbers.specs.Inputs.{lastInput, timeLimit}
+use Rattle.numbers.specs.Inputs.{lastInput, inputCount, timeLimit}
 use Rattle.numbers.specs.Refusal.{accepted, timeTooLarge, timeBeforeState, inputOutOfRange, bufferTooShort, sourceNotSix}
 use Rattle.frame.specs.declared.FrameWrite.{FrameWrite}
 use Rattle.frame.specs.Write.{writtenLength, sourceLength, largestCode, WriteFrame}
@@ -142,21 +140,6 @@ pub ruleset withFrame-laws = (withFrame-few, withFrame-ten)
 
 pub ruleset after-laws = (after-information, after-event, after-nothing, after-refused)
 
--- ---- the sender of a port
-
-module _ (ports : List Sender) (port : ℕ) where
-  pub senderAt-inside : (zeroed : Sender) → port ≤ lastInput → length ports ≡ 16
-      → getD ports port zeroed ≡ getD ports port freshSender
-  senderAt-inside zeroed inside size =
-      let within : port < length ports = omega arith in getD-any ports port zeroed freshSender within
-
-  pub senderAt-past : (found : Sender) → lastInput < port → length ports ≡ 16 → found ≡ freshSender
-      → found ≡ getD ports port freshSender
-  senderAt-past found past size fresh =
-      let beyond : length ports ≤ port = omega arith in fresh ∙ sym (getD-past ports port freshSender beyond)
-
-pub ruleset senderAt-laws = (senderAt-inside, senderAt-past)
-
 -- ---- questionNumber
 
 module _ (asked port time room octets : ℕ) where
@@ -252,20 +235,13 @@ module _ (asked port time room octets number : ℕ)
   fit : Fit (ltb time asked) port time room octets
   fit = questionNumber-fit _ port time room octets (sym given ∙ none)
 
-  -- its port is one of the sixteen
-  pub inside-sixteen : port < 16
-  inside-sixteen = omega (arith, fit .inside)
-
-  pub place-fits : Fits w64 (port * 96)
-  place-fits = record { fits = omega (arith, fit .inside) }
-
   pub source-six : octets ≡ sourceLength
   source-six = fit .six
 
   pub buffer-long : writtenLength ≤ room
   buffer-long = fit .long
 
-pub ruleset inside-laws = (inside-sixteen, place-fits, source-six, buffer-long)
+pub ruleset lent-laws = (source-six, buffer-long)
 
 pub code-small : (state : Selector) (codes : List ℕ) (port : ℕ) → codes ≡ outgoingCodes state
     → getD codes port 0 ≤ largestCode
@@ -277,31 +253,47 @@ module _ (senders : Senders) (port time : ℕ) (state : Selector) (source before
   abbrev question : Question
   question = questionOf port time state source before
 
-  module _ (sender : Sender) (number : ℕ) where
-    pub ask-refused : sender ≡ getD (senders .ports) port freshSender
-        → number ≡ questionNumber (ltb time (sender .asked)) port time (length before) (length source)
-        → (number ≡ accepted → ⊥)
+  module _ (number last : ℕ) (sixteen : length (senders .ports) ≡ inputCount) (fifteen : last ≡ lastInput) where
+    -- a port above 15 has no sender
+    pub ask-no-port : last < port → number ≡ questionNumber (ltb time 0) port time (length before) (length source)
         → AskSenders senders question (answeredWith senders (H.Refused number)) before
     unfolding asked
-    ask-refused found given refused =
-        let same : number ≡ numberOf senders question = given ∙ (rw found) in
+    ask-no-port past given =
+        let beyond : length (senders .ports) ≤ port = omega arith in
+        let same : number ≡ numberOf senders question = given ∙ (rw (getD-past (senders .ports) port freshSender beyond)) in
+        let refused : number ≡ accepted → ⊥ =
+        λ none. let fit = questionNumber-fit _ _ _ _ _ (sym given ∙ none) in omega (arith, fit .inside) in
         record { answered = rw (← same, ne-eqb _ _ refused); content = rw (← same, ne-eqb _ _ refused) }
 
-    pub ask-accepted : (codes : List ℕ) (heartbeat : Heartbeat) (next : Sender) (after : List ℕ)
-        → sender ≡ getD (senders .ports) port freshSender
-        → number ≡ questionNumber (ltb time (sender .asked)) port time (length before) (length source)
-        → number ≡ accepted
+  module _ (number last : ℕ) (zeroed : Sender) (sixteen : length (senders .ports) ≡ inputCount) (fifteen : last ≡ lastInput)
+      (inside : port ≤ last)
+      (given :
+      number ≡ questionNumber (ltb time (getD (senders .ports) port zeroed .asked)) port time (length before)
+      (length source)) where
+    found : getD (senders .ports) port zeroed ≡ senderAt senders port
+    found = let within : port < length (senders .ports) = omega arith in getD-any (senders .ports) port zeroed freshSender within
+
+    same : number ≡ numberOf senders question
+    same = given ∙ (rw found)
+
+    pub ask-refused : (number ≡ accepted → ⊥)
+        → AskSenders senders question (answeredWith senders (H.Refused number)) before
+    unfolding asked
+    ask-refused refused = record { answered = rw (← same, ne-eqb _ _ refused); content = rw (← same, ne-eqb _ _ refused) }
+
+    pub ask-accepted : (codes : List ℕ) (heartbeat : Heartbeat) (next : Sender) (after : List ℕ) → number ≡ accepted
         → codes ≡ outgoingCodes state
-        → heartbeat ≡ heartbeatOf sender time (getD codes port 0)
-        → next ≡ afterHeartbeat heartbeat sender time (getD codes port 0)
+        → heartbeat ≡ heartbeatOf (getD (senders .ports) port zeroed) time (getD codes port 0)
+        → next ≡ afterHeartbeat heartbeat (getD (senders .ports) port zeroed) time (getD codes port 0)
         → after ≡ contentBy heartbeat (getD codes port 0) source before
         → AskSenders senders question (answeredWith (withSender senders port next) heartbeat) after
     unfolding asked
-    ask-accepted codes heartbeat next after found given none told answered kept content =
-        let same : number ≡ numberOf senders question = given ∙ (rw found) in
+    ask-accepted codes heartbeat next after none told answered kept content =
+        let sender = senderAt senders port in
         let code : getD codes port 0 ≡ codeAsked question = rw told in
-        let beat : heartbeat ≡ heartbeatOf (senderAt senders port) time (codeAsked question) = answered ∙ (rw (found, code)) in
-        let left : next ≡ afterHeartbeat (heartbeatOf (senderAt senders port) time (codeAsked question)) (senderAt senders port) time (codeAsked question) =
+        let beat : heartbeat ≡ heartbeatOf sender time (codeAsked question) = answered ∙ (rw (found, code)) in
+        let left : next
+        ≡ afterHeartbeat (heartbeatOf sender time (codeAsked question)) sender time (codeAsked question) =
         kept ∙ (rw (beat, found, code)) in
         record {
           answered = rw (← same, eq-eqb _ _ none, beat, left);

@@ -20,7 +20,8 @@ ghost use mathlib.Core.Path.{_≡_};
 ghost use mathlib.Core.List.{_∷_};
 ghost use Prim.Native.Nat.{_≤_};
 ghost use lib.Dec.{ltb};
-ghost use lib.ListN.{length, getD, take};
+ghost use lib.ListN.{length, take};
+ghost use Rattle.numbers.specs.Inputs.{lastInput, inputCount};
 ghost use Rattle.frame.specs.Write.{writtenLength, sourceLength, largestCode};
 ghost use Rattle.sender.specs.Heartbeat.{questionOf, questionNumber, contentBy};
 ghost use Rattle.sender.specs.Sender.{freshSender, freshSenders, isFull, dueOf, heartbeatOf, withFrame, afterHeartbeat, AskSenders};
@@ -39,6 +40,9 @@ const TENTH: usize = 9;
 
 // "port above 15"
 const LAST_PORT: u64 = 15;
+
+// The time of the last question where there was none: no time is earlier.
+const NEVER_ASKED: u64 = 0;
 
 // One port's sender: the times of its last ten frames, the latest first; the time of the last
 // accepted question; the code of the last frame; and how many frames were sent, 10 for any more.
@@ -97,7 +101,7 @@ impl Sender {
     {
         Sender {
             times: [0; 10],
-            asked: 0,
+            asked: NEVER_ASKED,
             code: 0,
             sent: 0,
         }
@@ -167,30 +171,31 @@ impl Sender {
     }
 
     // The sender after an accepted question with its answer.
-    fn after(mut self, heartbeat: Heartbeat, time: u64, code: u32) -> Sender
+    fn after(self, heartbeat: Heartbeat, time: u64, code: u32) -> Sender
         ensures { λ answer. ⌜ answer ≡ afterHeartbeat heartbeat self time code ⌝ }
     {
         match heartbeat {
             Heartbeat::Information => self.with_frame(time, code),
             Heartbeat::Event => self.with_frame(time, code),
             Heartbeat::Nothing => {
-                self.asked = time;
-                self
+                let times = self.times;
+                Sender {
+                    times,
+                    asked: time,
+                    code: self.code,
+                    sent: self.sent,
+                }
             }
             Heartbeat::Refused(_) => self,
         }
     }
 }
 
-// A port's sender, or a fresh one where there is no such port.
-fn sender_at(ports: [Sender; 16], port: u64) -> Sender
-    ensures { λ answer. ⌜ answer ≡ getD ports port freshSender ⌝ }
+// The last of the ports that have a sender: an array tells how many it holds, a struct doesn't.
+fn last_port(ports: [Sender; 16]) -> u64
+    ensures { λ answer. ⌜ (answer ≡ lastInput) × (length ports ≡ inputCount) ⌝ }
 {
-    if port <= LAST_PORT {
-        let at = port as usize;
-        return ports[at];
-    }
-    Sender::fresh()
+    LAST_PORT
 }
 
 // The number that refuses a question, the smallest that applies; 0 where none does. `asked` is the
@@ -253,7 +258,7 @@ impl Senders {
     // Asks a port's sender at a time, with the selector's state. An answered frame stands in the
     // first 60 octets of `buffer`; all else in it is kept.
     pub fn ask(
-        self,
+        mut self,
         port: u64,
         time: u64,
         state: Selector,
@@ -265,23 +270,34 @@ impl Senders {
             self (questionOf port time state (now (source .entry)) (now (buffer .entry)))
             answer (now (buffer .exit)) ⌝ }
     {
-        let mut senders = self;
         let ports = self.ports;
-        let sender = sender_at(ports, port);
-        let number = question_number(sender.asked, port, time, buffer.len(), source.len());
-        if number != ACCEPTED {
+        let last = last_port(ports);
+        // A port above 15 has no sender, and no last question.
+        if last < port {
+            let number = question_number(NEVER_ASKED, port, time, buffer.len(), source.len());
             return Asked {
-                senders,
+                senders: self,
                 heartbeat: Heartbeat::Refused(number),
             };
         }
         let at = port as usize;
+        let sender = self.ports[at];
+        let number = question_number(sender.asked, port, time, buffer.len(), source.len());
+        if number != ACCEPTED {
+            return Asked {
+                senders: self,
+                heartbeat: Heartbeat::Refused(number),
+            };
+        }
         let codes = state.outgoing_codes();
         let code = codes[at];
         let heartbeat = sender.heartbeat(time, code as u32);
         let after = sender.after(heartbeat, time, code as u32);
-        senders.ports[at] = after;
+        self.ports[at] = after;
         send(heartbeat, code, source, buffer);
-        Asked { senders, heartbeat }
+        Asked {
+            senders: self,
+            heartbeat,
+        }
     }
 }
