@@ -96,7 +96,7 @@ fn latest_ten(times: [u64; 10], time: u64) -> [u64; 10]
 
 impl Sender {
     // Nothing sent, nothing asked.
-    pub fn fresh() -> Sender
+    fn fresh() -> Sender
         ensures { λ answer. ⌜ answer ≡ freshSender ⌝ }
     {
         Sender {
@@ -154,19 +154,19 @@ impl Sender {
     {
         let before = self.times;
         let times = latest_ten(before, time);
-        if self.sent < WINDOW_FRAMES {
+        if WINDOW_FRAMES <= self.sent {
             return Sender {
                 times,
                 asked: time,
                 code,
-                sent: self.sent + 1,
+                sent: self.sent,
             };
         }
         Sender {
             times,
             asked: time,
             code,
-            sent: self.sent,
+            sent: self.sent + 1,
         }
     }
 
