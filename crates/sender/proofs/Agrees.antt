@@ -96,7 +96,7 @@ asked-length senders question =
     byBool (eqb (numberOf senders question) accepted)
     (λ none.
     ap (λ (after : Asked). length (after .senders .ports)) (asked-accepted senders question (eqb-true _ _ none))
-    ∙ length-set (senders .ports) (question .port) _)
+    ∙ length-set (senders .ports) _ _)
     (λ refused. ap (λ (after : Asked). length (after .senders .ports)) (asked-refused senders question (eqb-false _ _ refused)))
 
 senders-sixteen : (questions : Questions) → length (sendersAfter questions .ports) ≡ 16

@@ -24,7 +24,7 @@ ghost use lib.ListN.{length, take};
 ghost use Rattle.numbers.specs.Inputs.{lastInput, inputCount};
 ghost use Rattle.frame.specs.Write.{writtenLength, sourceLength, largestCode};
 ghost use Rattle.sender.specs.Heartbeat.{questionOf, questionNumber, contentBy};
-ghost use Rattle.sender.specs.Sender.{freshSender, freshSenders, isFull, dueOf, heartbeatOf, withFrame, afterHeartbeat, AskSenders};
+ghost use Rattle.sender.specs.Sender.{freshSenders, isFull, dueOf, heartbeatOf, withFrame, afterHeartbeat, AskSenders};
 
 // "1,000 ms or more have passed since the port's last frame"
 const PERIOD: u64 = 1_000;
@@ -95,18 +95,6 @@ fn latest_ten(times: [u64; 10], time: u64) -> [u64; 10]
 }
 
 impl Sender {
-    // Nothing sent, nothing asked.
-    fn fresh() -> Sender
-        ensures { λ answer. ⌜ answer ≡ freshSender ⌝ }
-    {
-        Sender {
-            times: [0; 10],
-            asked: NEVER_ASKED,
-            code: 0,
-            sent: 0,
-        }
-    }
-
     // Whether ten frames carry times later than 1,000 ms before a time: the tenth last does.
     fn is_full(self, time: u64) -> bool
         ensures { λ answer. ⌜ answer ≡ isFull self time ⌝ }
@@ -245,11 +233,16 @@ fn send(heartbeat: Heartbeat, code: u8, source: &[u8], buffer: &mut [u8])
 }
 
 impl Senders {
-    // Sixteen fresh senders.
+    // Sixteen senders: nothing sent, nothing asked.
     pub fn fresh() -> Senders
         ensures { λ answer. ⌜ answer ≡ freshSenders ⌝ }
     {
-        let sender = Sender::fresh();
+        let sender = Sender {
+            times: [0; 10],
+            asked: NEVER_ASKED,
+            code: 0,
+            sent: 0,
+        };
         Senders {
             ports: [sender; 16],
         }
