@@ -1,14 +1,15 @@
 -- After any sequence of questions each port's sender is what its accepted questions come to. Assumes nothing.
-use Prim.Native.Nat.{ℕ, _≤_, _<_}
-use mathlib.Core.Bool.{Bool, true, false, not, _&&_, cond}
-use mathlib.Core.List.{List, [], _∷_}
+use Prim.Native.Nat.{ℕ, _<_}
+use mathlib.Core.Bool.{Bool, true, _&&_}
+use mathlib.Core.List.{[], _∷_}
 use mathlib.Core.Path.{_≡_, refl, sym, _∙_, ap, subst}
 use native.Mathlib.Omega.{arith}
 use lib.Dec.{eqb, leb, ltb}
-use lib.ListN.{length, getD, set, replicate, length-set, length-replicate, getD-replicate}
+use lib.ListN.{length, length-set, length-replicate, getD-replicate}
 use lib.Seq.{getD-set-same, getD-set-other}
 use borrow.Author.Tests.{eq-eqb, ne-eqb, eqb-true, eqb-false, leb-true, leb-false}
 use Rattle.numbers.specs.Refusal.{accepted}
+use Rattle.run.proofs.Exact.{and-true-right}
 use Rattle.run.proofs.Laws.{byBool}
 use Rattle.selector.proofs.Laws.{getD-past}
 use Rattle.sender.specs.declared.Asked.{Asked}
@@ -17,7 +18,7 @@ use Rattle.sender.specs.declared.Heartbeat.the-variants as H
 use Rattle.sender.specs.declared.Sender.{Sender}
 use Rattle.sender.specs.declared.Senders.{Senders}
 use Rattle.sender.specs.Heartbeat.{Question, Questions, codeAsked, questionNumber, isEarlier, numberOver, acceptedOf, sentOver, heartbeatOver}
-use Rattle.sender.specs.Sender.{freshSender, freshSenders, heartbeatOf, afterHeartbeat, senderAt, numberOf, withSender, answeredWith, askedOf, asked}
+use Rattle.sender.specs.Sender.{freshSender, freshSenders, heartbeatOf, afterHeartbeat, senderAt, numberOf, answeredWith, askedOf, asked}
 use Rattle.sender.specs.Sequence.{sendersAfter}
 use Rattle.sender.proofs.Laws.{Fit, questionNumber-fit}
 use Rattle.sender.proofs.Kept.{lastAsked, isEarlier-asked, senderOver, heartbeatOf-over, afterHeartbeat-over, Falling, falling-descending}
@@ -42,7 +43,8 @@ module _ (port : ℕ) (question : Question) (earlier : Questions) where
   pub acceptedOf-accepted : question .port ≡ port → numberOver before question ≡ accepted
       → acceptedOf port (question ∷ earlier) ≡ question ∷ before
   unfolding acceptedOf
-  acceptedOf-accepted own none = rw (eq-eqb (question .port) port own, eq-eqb (numberOver before question) accepted none)
+  acceptedOf-accepted own none =
+      rw (eq-eqb (question .port) port own, eq-eqb (numberOver before question) accepted none)
 
 -- what an accepted question brings
 pub fit-over : (before : Questions) (question : Question) → numberOver before question ≡ accepted
@@ -55,17 +57,13 @@ unfolding acceptedOf
 accepted-falling port [] = tt
 accepted-falling port (question ∷ earlier) =
     byBool (eqb (question .port) port && eqb (numberOver (acceptedOf port earlier) question) accepted)
-    (λ taken. rw taken (fit-over (acceptedOf port earlier) question (number taken) .after, accepted-falling port earlier))
+    (λ taken.
+    rw taken (fit-over (acceptedOf port earlier) question (number taken) .after, accepted-falling port earlier))
     (λ left. rw left (accepted-falling port earlier))
   where
-    second : (one other : Bool) → (one && other) ≡ true → other ≡ true
-    second true other both = both
-    second false true both = refl
-    second false false both = both
-
     number : (eqb (question .port) port && eqb (numberOver (acceptedOf port earlier) question) accepted) ≡ true
         → numberOver (acceptedOf port earlier) question ≡ accepted
-    number taken = eqb-true _ _ (second (eqb (question .port) port) _ taken)
+    number taken = eqb-true _ _ (and-true-right (eqb (question .port) port) _ taken)
 
 -- ---- asked
 
@@ -97,7 +95,8 @@ asked-length senders question =
     (λ none.
     ap (λ (after : Asked). length (after .senders .ports)) (asked-accepted senders question (eqb-true _ _ none))
     ∙ length-set (senders .ports) _ _)
-    (λ refused. ap (λ (after : Asked). length (after .senders .ports)) (asked-refused senders question (eqb-false _ _ refused)))
+    (λ refused.
+    ap (λ (after : Asked). length (after .senders .ports)) (asked-refused senders question (eqb-false _ _ refused)))
 
 senders-sixteen : (questions : Questions) → length (sendersAfter questions .ports) ≡ 16
 unfolding sendersAfter
@@ -118,9 +117,11 @@ module _ (senders : Senders) (question : Question) (before : Questions)
   pub heartbeat-accepted : numberOver before question ≡ accepted
       → asked senders question .heartbeat ≡ heartbeatOver (question .time) (codeAsked question) (sentOver before)
   heartbeat-accepted none =
-      ap (λ (after : Asked). after .heartbeat) (asked-accepted senders question (numberOf-over senders question before keeps ∙ none))
+      ap (λ (after : Asked). after .heartbeat)
+      (asked-accepted senders question (numberOf-over senders question before keeps ∙ none))
       ∙ ap (λ (sender : Sender). heartbeatOf sender (question .time) (codeAsked question)) keeps
-      ∙ heartbeatOf-over before (question .time) (codeAsked question) (lastAsked before) (falling-descending before falls)
+      ∙ heartbeatOf-over before (question .time) (codeAsked question) (lastAsked before)
+      (falling-descending before falls)
 
   -- what a refused one is
   pub heartbeat-refused : (numberOver before question ≡ accepted → ⊥)
@@ -140,11 +141,13 @@ module _ (senders : Senders) (question : Question) (before : Questions)
       ∙ getD-set-same (senders .ports) (question .port) _ freshSender inside
       ∙ ap
       (λ (sender : Sender).
-      afterHeartbeat (heartbeatOf sender (question .time) (codeAsked question)) sender (question .time) (codeAsked question))
+      afterHeartbeat (heartbeatOf sender (question .time) (codeAsked question)) sender (question .time)
+      (codeAsked question))
       keeps
       ∙ ap
       (λ (heartbeat : Heartbeat). afterHeartbeat heartbeat (senderOver before) (question .time) (codeAsked question))
-      (heartbeatOf-over before (question .time) (codeAsked question) (lastAsked before) (falling-descending before falls))
+      (heartbeatOf-over before (question .time) (codeAsked question) (lastAsked before)
+      (falling-descending before falls))
       ∙ afterHeartbeat-over before question
 
 -- what a question leaves of another port
@@ -196,6 +199,7 @@ senders-kept (question ∷ earlier) port =
         (λ number.
         let refused : numberOver own question ≡ accepted → ⊥ = eqb-false _ _ number in
         ap (λ (one : Asked). senderAt (one .senders) (question .port))
-        (heartbeat-refused (sendersAfter earlier) question own keeps (accepted-falling (question .port) earlier) refused)
+        (heartbeat-refused (sendersAfter earlier) question own keeps (accepted-falling (question .port) earlier)
+        refused)
         ∙ keeps
         ∙ ap senderOver (sym (acceptedOf-refused (question .port) question earlier refused)))

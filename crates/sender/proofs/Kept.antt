@@ -1,18 +1,18 @@
--- What the code keeps of a port is what its accepted questions come to: the times of the last ten frames, the last code,
--- how many frames, and the time of the last question. Assumes nothing.
+-- What the code keeps of a port is what its accepted questions come to: the times of the last ten frames, the last
+-- code, how many frames, and the time of the last question. Assumes nothing.
 use Prim.Native.Nat.{ℕ, zero, suc, _+_, _≤_, _<_}
 use mathlib.Core.Bool.{Bool, true, false, not, _&&_, cond}
 use mathlib.Core.List.{List, [], _∷_, map}
-use mathlib.Core.Path.{_≡_, refl, sym, _∙_, ap}
+use mathlib.Core.Path.{_≡_, refl, _∙_}
 use native.Mathlib.Omega.{arith}
 use lib.Dec.{eqb, leb, ltb}
 use lib.ListN.{length, getD}
-use borrow.Author.Tests.{eq-eqb, ne-eqb, lt-ltb, le-ltb, le-leb, lt-leb, leb-true, leb-false, ltb-true, ltb-false}
+use borrow.Author.Tests.{ne-eqb, lt-ltb, le-ltb, lt-leb, leb-true, leb-false, ltb-true, ltb-false}
 use Rattle.run.proofs.Laws.{byBool}
 use Rattle.sender.specs.declared.Heartbeat.{Heartbeat}
 use Rattle.sender.specs.declared.Heartbeat.the-variants as H
 use Rattle.sender.specs.declared.Sender.{Sender}
-use Rattle.sender.specs.Heartbeat.{Question, Questions, codeAsked, isEarlier, Sent, period, window, windowFrames, isLater, laterCount, differs, dueFrame, heartbeatOver, sentAfter, sentOver}
+use Rattle.sender.specs.Heartbeat.{Question, Questions, codeAsked, isEarlier, Sent, period, window, windowFrames, isLater, laterCount, dueFrame, heartbeatOver, sentAfter, sentOver}
 use Rattle.sender.specs.Sender.{tenth, isFull, dueOf, heartbeatOf, withFrame, afterHeartbeat}
 
 -- ---- frames in falling order of time

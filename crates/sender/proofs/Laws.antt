@@ -1,11 +1,11 @@
 -- The definitions of `specs/`, a law for each way through the function that meets it. Assumes nothing.
 use Prim.Native.Nat.{ℕ, _+_, _≤_, _<_}
-use mathlib.Core.Bool.{Bool, true, false, not, cond}
+use mathlib.Core.Bool.{Bool, true, false}
 use mathlib.Core.List.{List, [], _∷_}
-use mathlib.Core.Path.{_≡_, refl, sym, _∙_, ap}
+use mathlib.Core.Path.{_≡_, refl, sym, _∙_}
 use native.Mathlib.Omega.{arith}
 use lib.Dec.{leb, ltb}
-use lib.ListN.{length, getD, set, take}
+use lib.ListN.{length, getD, take}
 use borrow.Author.Tests.{eq-eqb, ne-eqb, lt-ltb, le-ltb, le-leb, lt-leb, eqb-true, leb-false, ltb-false, not-false}
 use Rattle.numbers.specs.Inputs.{lastInput, inputCount, timeLimit}
 use Rattle.numbers.specs.Refusal.{accepted, timeTooLarge, timeBeforeState, inputOutOfRange, bufferTooShort, sourceNotSix}
@@ -260,18 +260,21 @@ module _ (senders : Senders) (port time : ℕ) (state : Selector) (source before
     unfolding asked
     ask-no-port past given =
         let beyond : length (senders .ports) ≤ port = omega arith in
-        let same : number ≡ numberOf senders question = given ∙ (rw (getD-past (senders .ports) port freshSender beyond)) in
+        let same : number ≡ numberOf senders question =
+        given ∙ (rw (getD-past (senders .ports) port freshSender beyond)) in
         let refused : number ≡ accepted → ⊥ =
         λ none. let fit = questionNumber-fit _ _ _ _ _ (sym given ∙ none) in omega (arith, fit .inside) in
         record { answered = rw (← same, ne-eqb _ _ refused); content = rw (← same, ne-eqb _ _ refused) }
 
-  module _ (number last : ℕ) (zeroed : Sender) (sixteen : length (senders .ports) ≡ inputCount) (fifteen : last ≡ lastInput)
-      (inside : port ≤ last)
+  module _ (number last : ℕ) (zeroed : Sender) (sixteen : length (senders .ports) ≡ inputCount)
+      (fifteen : last ≡ lastInput) (inside : port ≤ last)
       (given :
       number ≡ questionNumber (ltb time (getD (senders .ports) port zeroed .asked)) port time (length before)
       (length source)) where
     found : getD (senders .ports) port zeroed ≡ senderAt senders port
-    found = let within : port < length (senders .ports) = omega arith in getD-any (senders .ports) port zeroed freshSender within
+    found =
+        let within : port < length (senders .ports) = omega arith in
+        getD-any (senders .ports) port zeroed freshSender within
 
     same : number ≡ numberOf senders question
     same = given ∙ (rw found)
@@ -279,7 +282,8 @@ module _ (senders : Senders) (port time : ℕ) (state : Selector) (source before
     pub ask-refused : (number ≡ accepted → ⊥)
         → AskSenders senders question (answeredWith senders (H.Refused number)) before
     unfolding asked
-    ask-refused refused = record { answered = rw (← same, ne-eqb _ _ refused); content = rw (← same, ne-eqb _ _ refused) }
+    ask-refused refused =
+        record { answered = rw (← same, ne-eqb _ _ refused); content = rw (← same, ne-eqb _ _ refused) }
 
     pub ask-accepted : (codes : List ℕ) (heartbeat : Heartbeat) (next : Sender) (after : List ℕ) → number ≡ accepted
         → codes ≡ outgoingCodes state

@@ -119,8 +119,8 @@ abbrev pub differs : ℕ → List Sent → Bool
 differs code [] = false
 differs code (last ∷ earlier) = not (eqb code (last .code))
 
--- "an information frame the first time; an event frame when the port's code differs from the last one sent; otherwise an
--- information frame when 1,000 ms or more have passed since the port's last frame"
+-- "an information frame the first time; an event frame when the port's code differs from the last one sent; otherwise
+-- an information frame when 1,000 ms or more have passed since the port's last frame"
 unfoldable pub dueFrame : ℕ → ℕ → List Sent → Heartbeat
 dueFrame time code [] = H.Information
 dueFrame time code (last ∷ earlier) =
@@ -164,8 +164,8 @@ heartbeatBy earlier question = answerOver (acceptedOf (question .port) earlier) 
 abbrev pub sentBy : ℕ → Questions → List Sent
 sentBy port questions = sentOver (acceptedOf port questions)
 
--- what each answer leaves in the buffer: a frame is its first 60 octets; refusals "keep .. the buffer; answering nothing
--- keeps the buffer"
+-- what each answer leaves in the buffer: a frame is its first 60 octets; refusals "keep .. the buffer; answering
+-- nothing keeps the buffer"
 abbrev pub contentBy : Heartbeat → ℕ → List ℕ → List ℕ → List ℕ
 contentBy H.Information code source buffer = contentAfter Written buffer source false code
 contentBy H.Event code source buffer = contentAfter Written buffer source true code

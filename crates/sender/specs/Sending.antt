@@ -81,7 +81,8 @@ isFrame (H.Refused number) = false
 pub record ReadsBack (earlier : Questions) (question : Question) : Type 0 where
   pub code : isFrame (heartbeatAfter earlier question) ≡ true
       → readFrame (take writtenLength (bufferAfter earlier question)) ≡ Code (codeAsked question)
-  -- octet by octet: the source lent, the code, and the event flag, set exactly if the code differs from the last one sent
+  -- octet by octet: the source lent, the code, and the event flag, set exactly if the code differs from the last one
+  -- sent
   pub layout : isFrame (heartbeatAfter earlier question) ≡ true
       → Layout (take writtenLength (bufferAfter earlier question)) (question .source)
       (differs (codeAsked question) (answeredOn (question .port) earlier))
