@@ -1,7 +1,6 @@
 -- Document 02, L1: when a frame goes out and which, what is refused, and ports apart, after any sequence of questions.
 -- Assumes nothing.
 use Prim.Native.Nat.{ℕ}
-use mathlib.Core.Bool.{not}
 use mathlib.Core.List.{List, [], _∷_}
 use mathlib.Core.Path.{_≡_, refl, sym, _∙_, ap, subst}
 use native.Mathlib.Omega.{arith}
