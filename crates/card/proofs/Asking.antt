@@ -4,10 +4,9 @@ use mathlib.Core.List.{List, [], _∷_}
 use mathlib.Core.Path.{_≡_, refl, sym, _∙_, ap}
 use Rattle.selector.specs.declared.Selector.{Selector}
 use Rattle.sender.specs.declared.Asked.{Asked}
-use Rattle.sender.specs.declared.Heartbeat.{Heartbeat}
 use Rattle.sender.specs.declared.Senders.{Senders}
 use Rattle.sender.specs.Heartbeat.{Question, Questions, questionOf, heartbeatBy}
-use Rattle.sender.specs.Sender.{asked, contentOf, AskSenders}
+use Rattle.sender.specs.Sender.{asked, AskSenders}
 use Rattle.sender.specs.Sequence.{sendersAfter}
 use Rattle.sender.proofs.Sending.{sending}
 use Rattle.card.specs.declared.Card.{Card}
@@ -28,7 +27,7 @@ pub askCard-asked : (before : CardSenders) (card : Card) (port time : ℕ) (sour
     content
 askCard-asked before card port time source buffer state after number frame content told ask numbered framed =
     let same : after ≡ asked (before .senders) (cardQuestion card port time source buffer) =
-        ask .answered ∙ (rw told) in
+    ask .answered ∙ (rw told) in
     record {
       answered = rw (numbered, framed) (ap answeredCard same);
       content = ask .content ∙ (rw told);
