@@ -61,15 +61,16 @@
  *   time that a call takes.
  * - The machine. libcard.a is for x86-64 with the System V calling convention, its red zone and its
  *   SSE2 registers included. It needs memcpy and memmove: no heap, no floating point, no operating
- *   system. It is 18 KB of code and constants, with no data that is written. No call waits.
+ *   system. It is 20 KB of code and constants, with no data that is written. No call waits.
  *
  * Sizes, in bytes: a card 536, aligned to 8; an input 32; an answer 6; the codes 16; the senders
  * 1,544, aligned to 8; one sender 96. There is no padding in any of them, so cards and senders can
  * be compared by memcmp() and summed by a checksum.
  *
  * Stack, in bytes, measured from the call on, with what C passes by value: nurrispane_fresh 3,032,
- * nurrispane_step 10,808, nurrispane_step_in_place 10,840, nurrispane_outgoing_codes 3,112,
- * nurrispane_write_frame 3,160. tests/card measures it anew and holds it to NURRISPANE_STACK.
+ * nurrispane_step 12,024, nurrispane_step_in_place 12,040, nurrispane_outgoing_codes 3,096,
+ * nurrispane_write_frame 3,144, nurrispane_fresh_senders 1,560, nurrispane_ask_in_place 6,328.
+ * tests/card measures it anew and holds it to NURRISPANE_STACK.
  */
 #ifndef NURRISPANE_H
 #define NURRISPANE_H

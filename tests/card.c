@@ -262,7 +262,9 @@ static void check_events(void)
         CHECK(card.answer.number < 18);
         numbers[card.answer.number]++;
         if (card.answer.number >= 2 && card.answer.number <= 13) {
+            CHECK(card.served == 0);
             before.answer = card.answer;
+            before.served = card.served;
             CHECK(same(&card, &before));
         } else {
             CHECK(card.time == call.time);
