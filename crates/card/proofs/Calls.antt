@@ -14,10 +14,12 @@ use Rattle.choice.specs.declared.Selection.the-variants as S
 use Rattle.decision.specs.declared.Switch.{Switch}
 use Rattle.decision.specs.declared.Switch.the-variants as W
 use Rattle.selector.specs.declared.Selector.{Selector}
-use Rattle.selector.specs.Answer.{selectedNumber, switchNumber, switchInput, answerOf, outgoingCodes}
+use Rattle.selector.specs.Clock.{selectedNumber, switchNumber, switchInput}
+use Rattle.selector.specs.Answer.{answerOf, outgoingCodes}
 use Rattle.selector.proofs.Ports.{getD-ports}
 use Rattle.events.specs.Step.{step}
-use Rattle.events.specs.Sequence.{Given, Sequence, stateAfter, numberAfter, countAfter}
+use Rattle.events.specs.Given.{Given, Sequence}
+use Rattle.events.specs.Sequence.{stateAfter, numberAfter, countAfter}
 use Rattle.events.specs.Due.{mostDue}
 use Rattle.events.specs.Past.{pastOf}
 use Rattle.events.specs.Told.{answerBy, codeBy, codesBy}

@@ -21,7 +21,8 @@ use Rattle.decision.specs.Decision.{forcedMayStand}
 use Rattle.decision.proofs.Selecting.{selected-admitted}
 use Rattle.selector.specs.declared.Selector.{Selector}
 use Rattle.selector.specs.State.{candidateFor}
-use Rattle.selector.specs.Answer.{clockState, clockQuality, outgoingCode, selectedNumber, switchNumber, switchInput, selectedCandidate, candidateAt, qualityOf, answerOf, codeFor, outgoingCodes}
+use Rattle.selector.specs.Clock.{clockState, clockQuality, outgoingCode, selectedNumber, switchNumber, switchInput}
+use Rattle.selector.specs.Answer.{selectedCandidate, candidateAt, qualityOf, answerOf, codeFor, outgoingCodes}
 use Rattle.selector.proofs.Ports.{getD-ports, ports-same}
 use Rattle.events.specs.Sequence.{Sequence, stateAfter}
 use Rattle.events.specs.Past.{Made, candidateBy, candidatesBy, seen, pastOf, recorded, madeIn}

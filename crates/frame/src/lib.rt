@@ -48,10 +48,10 @@ const EVENT_FLAG: u8 = 8;
 const TLV: [u8; 3] = [0x01, 0x00, 0x04];
 
 // "We write 60 octets"
-const WRITTEN_LENGTH: usize = 60;
+pub const WRITTEN_LENGTH: usize = 60;
 
 // "a lent six-octet source address"
-const SOURCE_LENGTH: usize = 6;
+pub const SOURCE_LENGTH: usize = 6;
 
 // "code above 15"
 const LARGEST_CODE: u8 = 15;
