@@ -32,7 +32,7 @@
  * What C owes
  *
  * - The card. Start from nurrispane_fresh(), and pass to each call the card that the last one
- *   handed out, unchanged but for `answer`, which no function reads. Then the card is the selector
+ *   handed out, unchanged but for `answer` and `served`, which no function reads. Then the card is the selector
  *   after those events, and all that is proved of the selector holds of it. A card is plain data
  *   with no pointer in it: copy it, keep it, send it to a standby card of the same byte order, go
  *   back to an older copy. A card that was filled in any other way is safe too: every field is a
@@ -44,9 +44,12 @@
  *   writing (`card` in place, `buffer`) is nobody else's during the call and overlaps nothing else
  *   that is lent. Calls on different cards may run at the same time; an interrupt may make calls on
  *   a card of its own.
- * - Time. Milliseconds from any zero, below 2^48 and never falling; else the event is refused. The
- *   selector judges and chooses at events only: send NURRISPANE_EVENT_TICK as often as the end of a
- *   hold-off, a wait or a frame's five seconds is to be noticed without one.
+ * - Time. Milliseconds from any zero, below 2^48 and never falling; else the event is refused. Each
+ *   event first serves, in time order, whatever became due since the last one: the end of a
+ *   hold-off, of a wait or of a frame's five seconds. Send NURRISPANE_EVENT_TICK as often as these
+ *   are to be noticed without an event; how often changes no later answer. `served` in the card
+ *   says how many due moments the last event's tick served: never more than 48, which bounds the
+ *   time that a call takes.
  * - The machine. libcard.a is for x86-64 with the System V calling convention, its red zone and its
  *   SSE2 registers included. It needs memcpy and memmove: no heap, no floating point, no operating
  *   system. It is 18 KB of code and constants, with no data that is written. No call waits.
@@ -188,7 +191,10 @@ struct nurrispane_answer {
     uint8_t switch_input;  /* its input, or NURRISPANE_NO_INPUT */
 };
 
-/* The selector's whole state, and the answer to the last event. Only `answer` is the firmware's. */
+/*
+ * The selector's whole state, the answer to the last event and how many due moments its tick
+ * served. Only `answer` and `served` are the firmware's.
+ */
 struct nurrispane_card {
     struct nurrispane_input inputs[NURRISPANE_INPUTS];
     uint64_t time;        /* of the last event that was not refused with 2 to 13, ms */
@@ -199,7 +205,7 @@ struct nurrispane_card {
     uint8_t selection;    /* 1 where an input is selected */
     uint8_t selected;     /* that input; 255 with none */
     struct nurrispane_answer answer;
-    uint32_t spare;       /* 0 */
+    uint32_t served;      /* due moments that the last event's tick served, 0 to 48 */
 };
 
 /* The codes that go out of ports 0 to 15, each 0 to 15. */
@@ -283,7 +289,7 @@ NURRISPANE_HOLDS(offsetof(struct nurrispane_card, switch_input) == 523);
 NURRISPANE_HOLDS(offsetof(struct nurrispane_card, selection) == 524);
 NURRISPANE_HOLDS(offsetof(struct nurrispane_card, selected) == 525);
 NURRISPANE_HOLDS(offsetof(struct nurrispane_card, answer) == 526);
-NURRISPANE_HOLDS(offsetof(struct nurrispane_card, spare) == 532);
+NURRISPANE_HOLDS(offsetof(struct nurrispane_card, served) == 532);
 NURRISPANE_HOLDS(NURRISPANE_ALIGNMENT(struct nurrispane_card) == 8);
 NURRISPANE_HOLDS(sizeof(struct nurrispane_codes) == 16);
 

@@ -69,7 +69,7 @@ static void check_fresh(void)
     CHECK(card.time == 0 && card.mode == 1 && card.held == 0);
     CHECK(card.switch_kind == NURRISPANE_SWITCH_NONE);
     CHECK(card.switch_input == NURRISPANE_NO_INPUT);
-    CHECK(card.selection == 0 && card.selected == NURRISPANE_NO_INPUT && card.spare == 0);
+    CHECK(card.selection == 0 && card.selected == NURRISPANE_NO_INPUT && card.served == 0);
     CHECK(card.answer.number == NURRISPANE_ACCEPTED);
     CHECK(card.answer.selected == NURRISPANE_NO_INPUT);
     CHECK(card.answer.clock_state == NURRISPANE_FREE_RUN && card.answer.clock_quality == 4);
@@ -300,7 +300,7 @@ static void check_cards(void)
             CHECK(input->ethernet < 2 && input->locked < 2 && input->sending < 2);
             CHECK(input->signal < 2 && input->failed < 2 && input->up < 2);
         }
-        CHECK(next.mode < 2 && next.held < 2 && next.selection < 2 && next.spare == 0);
+        CHECK(next.mode < 2 && next.held < 2 && next.selection < 2 && next.served <= 48);
         CHECK(next.switch_kind < 3);
     }
 }

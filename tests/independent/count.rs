@@ -7,7 +7,7 @@ use crate::generate::LAST_TIME;
 use crate::line;
 use crate::log::LogReader;
 use crate::selector::{
-    ClockState, Event, Input, InputNumber, Quality, Selector, Switch, Time, NEVER,
+    ClockState, Event, Input, InputNumber, Quality, Selector, Switch, Time, FRAME_LIFE, NEVER,
 };
 
 macro_rules! items {
@@ -43,6 +43,11 @@ items! {
     SelectionAtTick "selection-changed-at-tick"
     SelectionTwice "selection-changed-at-tick-and-at-event"
     LockedAtTickOnly "locked-first-at-tick-only"
+    SeveralDueMoments "several-due-moments-in-one-tick"
+    SeveralSelections "selection-changed-twice-in-one-tick"
+    WinnerByTurn "one-choice-at-the-tick-would-select-another"
+    ManualCancelledBetween "manual-cancelled-between-events-would-stand-at-tick"
+    LockedBetweenOnly "locked-first-between-events-only"
     ForcedOntoFailed "forced-onto-passed-7"
     HoldOffFull "hold-off-exactly-full-at-event"
     HoldOffShort "hold-off-one-ms-short-at-event"
@@ -131,10 +136,10 @@ fn take(digits: &[u8], selector: &mut Selector, counts: &mut Counts) -> u8 {
     };
     count_time(selector, line.time, counts);
     let before = Shown::of(selector);
-    let expiring = silent_from(selector, input) == line.time;
-    selector.tick(line.time);
+    let own_input = &selector.inputs[usize::from(input.0)];
+    let expiring = silent_from(selector, own_input) == line.time;
+    tick(selector, line.time, counts);
     let ticked = Shown::of(selector);
-    count_choice(&before, &ticked, selector, counts);
     let number = selector.command_refusal(event, input);
     if number == 0 {
         let input_before = selector.inputs[usize::from(input.0)].clone();
@@ -146,6 +151,35 @@ fn take(digits: &[u8], selector: &mut Selector, counts: &mut Counts) -> u8 {
     }
     count_line(&before, &ticked, selector, counts);
     number
+}
+
+/// `Selector::tick`, with a look at each due moment.
+fn tick(selector: &mut Selector, time: Time, counts: &mut Counts) {
+    let first = Shown::of(selector);
+    let mut with_one_choice = selector.clone();
+    let (mut served, mut selections, mut locked_between) = (0, 0, false);
+    while selector.next_due() <= time {
+        let before = Shown::of(selector);
+        selector.serve_next_due();
+        let after = Shown::of(selector);
+        count_choice(&before, &after, selector, counts);
+        served += 1;
+        selections += u64::from(before.selected != after.selected);
+        locked_between |= after.was_locked && !before.was_locked;
+    }
+    selector.tick(time);
+    with_one_choice.tick_with_one_choice(time);
+    let ticked = Shown::of(selector);
+    counts.add_if(Item::SeveralDueMoments, served > 1);
+    counts.add_if(Item::SeveralSelections, selections > 1);
+    counts.add_if(Item::WinnerByTurn, ticked.selected != with_one_choice.selected);
+    let fell_between = ticked.switch != with_one_choice.switch;
+    counts.add_if(Item::ManualCancelledBetween, fell_between);
+    let locked_now = ticked.clock_state == ClockState::Locked;
+    counts.add_if(
+        Item::LockedBetweenOnly,
+        locked_between && !locked_now && !first.was_locked,
+    );
 }
 
 /// What the choices of one line are compared by.
@@ -167,8 +201,13 @@ impl Shown {
     }
 }
 
-fn silent_from(selector: &Selector, input: InputNumber) -> Time {
-    selector.inputs[usize::from(input.0)].silent_from(selector.quality_mode)
+/// The 5,000th millisecond of the frame that gives an input's present raw quality.
+fn silent_from(selector: &Selector, input: &Input) -> Time {
+    let covered = !selector.quality_mode || input.fixed.is_some();
+    match input.heard.frame {
+        Some((_, came)) if !covered && !input.raw.failed() => came + FRAME_LIFE,
+        _ => NEVER,
+    }
 }
 
 /// What ends in the time up to an event, seen before its tick.
@@ -176,7 +215,7 @@ fn count_time(selector: &Selector, time: Time, counts: &mut Counts) {
     counts.add_if(Item::SameMillisecond, time == selector.time);
     counts.add_if(Item::LastTime, time == LAST_TIME);
     for input in &selector.inputs {
-        let silent = input.silent_from(selector.quality_mode);
+        let silent = silent_from(selector, input);
         counts.add_if(Item::ExpiryAtEvent, silent == time);
         counts.add_if(Item::ExpiryBetween, silent < time);
         count_frame_age(input, time, counts);

@@ -9,6 +9,7 @@ use crate::nasty::Nasty;
 use crate::random::Random;
 use crate::realistic::Realistic;
 use crate::selector::{Code, Time};
+use crate::sparse::Sparse;
 
 /// "time at or above 2^48" can't come from a log; this is the last one that can.
 pub const LAST_TIME: Time = (1 << 48) - 1;
@@ -29,6 +30,7 @@ pub fn generate(kind: &str, seed: &str, lines: &str, output: &mut impl Write) ->
     match kind {
         "realistic" => write_lines(Realistic::new(random), lines, output),
         "nasty" => write_lines(Nasty::new(random, lines), lines, output),
+        "sparse" => write_lines(Sparse::new(random), lines, output),
         "damaged" => write_damaged(Damaged::new(random, lines), lines, output),
         _ => Err(not_understood(kind)),
     }

@@ -1,12 +1,12 @@
-//! The rules of document 01: raw and passed quality, choosing, switches, clock,
-//! outgoing codes.
+//! The rules of document 01 with the requests of document 02 that have landed: raw and
+//! passed quality, due moments, choosing, switches, clock, outgoing codes.
 //!
-//! Kept by timers. Each input knows the next millisecond in which time alone can
-//! change it (its due time), so an event touches its own input and whatever is
-//! due, and nothing else. `naive.rs` has the same rules without any such thought;
-//! the two are compared.
+//! Kept by timers. Each input knows its next due moment, so an event touches its own
+//! input and whatever is due, and nothing else. `naive.rs` has the same rules without
+//! any such thought; the two are compared.
 //!
-//! Sentences in quotation marks are document 01's; "readings" is READINGS.md.
+//! Sentences in quotation marks are document 01's or, where a request is named, document
+//! 02's; "readings" is READINGS.md and READINGS-02.md.
 
 /// Milliseconds since the start.
 pub type Time = u64;
@@ -223,7 +223,8 @@ impl Input {
     }
 
     /// Takes one moment into account: the run it belongs to, and whether it is down
-    /// or up with the settings now in force.
+    /// or up with the settings now in force. "At one and the same millisecond an expired
+    /// frame comes first": it is the raw quality of that millisecond.
     fn moment(&mut self, now: Time, quality_mode: bool) {
         let raw = self.raw_at(now, quality_mode);
         if raw.failed() != self.raw.failed() {
@@ -245,38 +246,19 @@ impl Input {
         }
     }
 
-    /// The 5,000th millisecond of the frame that gives the present raw quality.
-    pub fn silent_from(&self, quality_mode: bool) -> Time {
-        if self.raw.failed() || !self.ethernet || !quality_mode || self.fixed.is_some() {
-            return NEVER;
-        }
-        self.heard
-            .frame
-            .map_or(NEVER, |(_, came)| came + FRAME_LIFE)
-    }
-
-    /// "Moments between two events count as well: a wait may end and a frame expire
-    /// there." Of all of them three can matter: the last one with the frame, the first
-    /// one without it, and the present one.
-    fn pass_time(&mut self, now: Time, quality_mode: bool) {
-        let silent = self.silent_from(quality_mode);
-        if silent <= now {
-            self.moment(silent - 1, quality_mode);
-            self.moment(silent, quality_mode);
-        }
-        self.moment(now, quality_mode);
-    }
-
-    /// The next millisecond in which `pass_time` can change anything.
-    fn due(&self, quality_mode: bool) -> Time {
-        match (self.raw.failed(), self.down) {
-            (true, true) => NEVER,
-            (true, false) => self.run_began + self.hold_off,
-            (false, true) => self
-                .silent_from(quality_mode)
-                .min(self.run_began + self.wait),
-            (false, false) => self.silent_from(quality_mode),
-        }
+    /// The next due moment of this input after a time. L3: "a frame expiring, a hold-off
+    /// ending, a wait ending"; a timer belongs to the present run.
+    fn due(&self, after: Time) -> Time {
+        let expires = self.heard.frame.map_or(NEVER, |(_, came)| came + FRAME_LIFE);
+        let timer = if self.raw.failed() {
+            self.hold_off
+        } else {
+            self.wait
+        };
+        [expires, self.run_began + timer]
+            .into_iter()
+            .filter(|&end| end > after)
+            .fold(NEVER, Time::min)
     }
 
     /// "If the last down or up moment was down, the passed quality is 7. Otherwise it
@@ -368,8 +350,8 @@ pub struct Selector {
     /// Whether the clock was locked after any choice so far.
     pub was_locked: bool,
     ranks: [Rank; INPUTS],
+    /// The next due moment of each input, and the earliest of them.
     due: [Time; INPUTS],
-    /// Not later than any of `due`.
     earliest_due: Time,
 }
 
@@ -386,33 +368,55 @@ impl Selector {
             clock_quality: Quality::SEC,
             was_locked: false,
             ranks: [NOT_ELIGIBLE; INPUTS],
-            due: [NEVER; INPUTS],
-            earliest_due: NEVER,
+            due: [Input::FRESH.hold_off; INPUTS],
+            earliest_due: Input::FRESH.hold_off,
         }
     }
 
-    /// The tick that each accepted event is first: "all passed qualities brought up to
-    /// date, the switch judged, the choice made". Where nothing is due, the choice just
-    /// before would only be repeated.
+    /// The tick that each accepted event is first. L3: it "serves each due moment in time
+    /// order", those later than the state's time and not later than its own. A choice at
+    /// its own time with nothing due would only repeat the one just before.
     pub fn tick(&mut self, now: Time) {
-        self.time = now;
-        if now >= self.earliest_due {
-            self.serve_due(now);
-            self.judge_and_choose();
+        while self.next_due() <= now {
+            self.serve_next_due();
         }
+        self.time = now;
     }
 
-    fn serve_due(&mut self, now: Time) {
-        let mut earliest = NEVER;
+    pub fn next_due(&self) -> Time {
+        self.earliest_due
+    }
+
+    /// One due moment. L3: "bringing all inputs up to date at that millisecond, judging
+    /// the switch and choosing". An input with nothing due there is up to date already.
+    pub fn serve_next_due(&mut self) {
+        self.bring_up_to_date(self.earliest_due);
+        self.judge_and_choose();
+    }
+
+    fn bring_up_to_date(&mut self, moment: Time) {
+        self.time = moment;
         for n in 0..INPUTS {
-            if self.due[n] <= now {
-                self.inputs[n].pass_time(now, self.quality_mode);
+            if self.due[n] == moment {
+                self.inputs[n].moment(moment, self.quality_mode);
+                self.due[n] = self.inputs[n].due(moment);
                 self.rank_anew(n);
-                self.due[n] = self.inputs[n].due(self.quality_mode);
             }
-            earliest = earliest.min(self.due[n]);
         }
-        self.earliest_due = earliest;
+        self.find_earliest_due();
+    }
+
+    fn find_earliest_due(&mut self) {
+        self.earliest_due = self.due.iter().copied().fold(NEVER, Time::min);
+    }
+
+    /// What a tick was before L3, which chose at its own time only; `count` compares.
+    pub fn tick_with_one_choice(&mut self, now: Time) {
+        while self.next_due() <= now {
+            self.bring_up_to_date(self.earliest_due);
+        }
+        self.time = now;
+        self.judge_and_choose();
     }
 
     /// Numbers 14 to 17, which "are judged after the tick"; 0 where none applies.
@@ -451,6 +455,7 @@ impl Selector {
         for n in 0..INPUTS {
             self.event_moment(n);
         }
+        self.find_earliest_due();
         true
     }
 
@@ -459,14 +464,15 @@ impl Selector {
     fn obey_at_input(&mut self, event: Event, input: InputNumber) -> bool {
         let n = input.index();
         self.inputs[n].obey(event, self.time);
-        self.event_moment(n) || matches!(event, Event::Priority(_) | Event::Lockout(_))
+        let ranked_anew = self.event_moment(n);
+        self.find_earliest_due();
+        ranked_anew || matches!(event, Event::Priority(_) | Event::Lockout(_))
     }
 
     /// The event's own moment at one input, with the new settings in force.
     fn event_moment(&mut self, n: usize) -> bool {
         self.inputs[n].moment(self.time, self.quality_mode);
-        self.due[n] = self.inputs[n].due(self.quality_mode);
-        self.earliest_due = self.earliest_due.min(self.due[n]);
+        self.due[n] = self.inputs[n].due(self.time);
         self.rank_anew(n)
     }
 

@@ -1,8 +1,8 @@
 -- A selector comes back from its numbers, so calls in a row are steps in a row. Assumes nothing.
-use Prim.Native.Nat.{ℕ}
+use Prim.Native.Nat.{ℕ, _≤_}
 use mathlib.Core.Bool.{Bool, true, false}
 use mathlib.Core.List.{List, [], _∷_, map}
-use mathlib.Core.Path.{_≡_, refl, _∙_, ap}
+use mathlib.Core.Path.{_≡_, refl, sym, _∙_, ap, subst}
 use Rattle.numbers.specs.Kind.{flag}
 use Rattle.input.specs.declared.Input.{Input}
 use Rattle.choice.specs.declared.Selection.{Selection}
@@ -13,14 +13,16 @@ use Rattle.selector.specs.declared.Selector.{Selector}
 use Rattle.selector.specs.Answer.{selectedNumber, switchNumber, switchInput, answerOf, outgoingCodes}
 use Rattle.events.specs.declared.Stepped.{Stepped}
 use Rattle.events.specs.Step.{step}
-use Rattle.events.specs.Sequence.{Given, Sequence, stateAfter, numberAfter}
+use Rattle.events.specs.Sequence.{Given, Sequence, stateAfter, numberAfter, countAfter}
+use Rattle.events.specs.Due.{mostDue}
 use Rattle.events.proofs.Demand1.{demand-1-events}
 use Rattle.events.proofs.Demand3.{demand-3}
+use Rattle.events.proofs.Demand4.{demand-4}
 use Rattle.card.specs.declared.Card.{Card}
 use Rattle.card.specs.declared.CardAnswer.{CardAnswer}
 use Rattle.card.specs.Flat.{isSet, inputOf, flatInput, flatAnswer, switchOf, selectionOf, isSelected, selectorOf, cardOf}
 use Rattle.card.specs.Card.{freshCard, steppedCard, stepCard, cardCodes}
-use Rattle.card.specs.Calls.{called, cardAfter, latestNumber, withAnswer, CardRight, Demand1Card, Demand3Card}
+use Rattle.card.specs.Calls.{called, cardAfter, latestNumber, latestCount, withAnswer, CardRight, Demand1Card, Demand3Card, Demand4Card}
 
 -- ---- back from its numbers
 
@@ -49,9 +51,9 @@ selectionOf-back S.Nothing = refl
 selectionOf-back (S.At number) = refl
 
 -- A selector as a card and back is that selector, whatever is answered beside it.
-pub selectorOf-cardOf : (number : ℕ) (state : Selector) → selectorOf (cardOf number state) ≡ state
+pub selectorOf-cardOf : (number count : ℕ) (state : Selector) → selectorOf (cardOf number count state) ≡ state
 unfolding selectorOf cardOf
-selectorOf-cardOf number state =
+selectorOf-cardOf number count state =
     rw (
       inputs-back (state .inputs),
       switchOf-back (state .switch),
@@ -68,20 +70,21 @@ selectorOf-withAnswer card answer = refl
 -- ---- calls in a row
 
 -- a call on the card of a selector is a step of that selector
-called-cardOf : (number : ℕ) (state : Selector) (given : Given)
-    → called (cardOf number state) given ≡ steppedCard (step state (given .event) (given .frame))
+called-cardOf : (number count : ℕ) (state : Selector) (given : Given)
+    → called (cardOf number count state) given ≡ steppedCard (step state (given .event) (given .frame))
 unfolding stepCard
-called-cardOf number state given =
-    ap (λ (held : Selector). steppedCard (step held (given .event) (given .frame))) (selectorOf-cardOf number state)
+called-cardOf number count state given =
+    ap (λ (held : Selector). steppedCard (step held (given .event) (given .frame))) (selectorOf-cardOf number count state)
 
-cardAfter-whole : (sequence : Sequence) → cardAfter sequence ≡ cardOf (latestNumber sequence) (stateAfter sequence)
-unfolding cardAfter stateAfter numberAfter latestNumber freshCard
+cardAfter-whole : (sequence : Sequence)
+    → cardAfter sequence ≡ cardOf (latestNumber sequence) (latestCount sequence) (stateAfter sequence)
+unfolding cardAfter stateAfter numberAfter countAfter latestNumber latestCount freshCard
 cardAfter-whole [] = refl
 cardAfter-whole (given ∷ earlier) =
-    ap (λ (card : Card). called card given) (cardAfter-whole earlier) ∙ called-cardOf _ (stateAfter earlier) given
+    ap (λ (card : Card). called card given) (cardAfter-whole earlier) ∙ called-cardOf _ _ (stateAfter earlier) given
 
 cardAfter-state : (sequence : Sequence) → selectorOf (cardAfter sequence) ≡ stateAfter sequence
-cardAfter-state sequence = ap selectorOf (cardAfter-whole sequence) ∙ selectorOf-cardOf _ (stateAfter sequence)
+cardAfter-state sequence = ap selectorOf (cardAfter-whole sequence) ∙ selectorOf-cardOf _ _ (stateAfter sequence)
 
 cardAfter-answer : (sequence : Sequence)
     → cardAfter sequence .answer ≡ flatAnswer (answerOf (latestNumber sequence) (stateAfter sequence))
@@ -103,12 +106,12 @@ card-right sequence =
 cardAfter-step : (sequence : Sequence) (given : Given) (after : Stepped)
     → step (stateAfter sequence) (given .event) (given .frame) ≡ after
     → cardAfter (given ∷ sequence) ≡ steppedCard after
-unfolding stateAfter numberAfter latestNumber
+unfolding stateAfter numberAfter countAfter latestNumber latestCount
 cardAfter-step sequence given after is = cardAfter-whole (given ∷ sequence) ∙ ap steppedCard is
 
 -- another answer beside the same selector
 withAnswer-cardOf : (sequence : Sequence) (number : ℕ)
-    → cardOf number (stateAfter sequence)
+    → cardOf number 0 (stateAfter sequence)
     ≡ withAnswer (cardAfter sequence) (flatAnswer (answerOf number (stateAfter sequence)))
 unfolding cardOf
 withAnswer-cardOf sequence number = rw (cardAfter-whole sequence)
@@ -121,6 +124,19 @@ demand-1-card sequence given =
       before = λ number first.
           cardAfter-step sequence given _ (demand1 .before number first) ∙ withAnswer-cardOf sequence number;
       after = λ number none first. cardAfter-step sequence given _ (demand1 .after number none first);
+    }
+
+-- L4 in C's hands, after every sequence of calls and any further one.
+pub demand-4-card : (sequence : Sequence) (given : Given) → Demand4Card sequence given
+unfolding latestCount cardOf
+demand-4-card sequence given =
+    let same : cardAfter (given ∷ sequence) .served ≡ countAfter given sequence =
+    ap (λ (card : Card). card .served) (cardAfter-whole (given ∷ sequence))
+    in
+    let demand4 = demand-4 sequence given in
+    record {
+      served = same ∙ demand4 .exact;
+      most = subst (λ (count : ℕ). count ≤ mostDue) (sym same) (demand4 .most);
     }
 
 -- DEMAND 3 in C's hands, after every sequence of calls.

@@ -66,8 +66,8 @@ pub ruleset isSelected-laws = (isSelected-nothing, isSelected-at)
 -- ---- cardOf
 
 -- the card of a selector, of its inputs' numbers and its answer
-abbrev pub cardWith : List CardInput → ℕ → Answer → Selector → Card
-cardWith flat selection answer state =
+abbrev pub cardWith : List CardInput → ℕ → Answer → ℕ → Selector → Card
+cardWith flat selection answer count state =
     record {
       inputs = flat;
       time = state .time;
@@ -78,14 +78,14 @@ cardWith flat selection answer state =
       selection = selection;
       selected = answer .selected;
       answer = flatAnswer answer;
-      spare = 0;
+      served = count;
     }
 
-pub cardOf-answered : (number : ℕ) (state : Selector) (flat : List CardInput) (selection : ℕ) (answer : Answer)
+pub cardOf-answered : (number count : ℕ) (state : Selector) (flat : List CardInput) (selection : ℕ) (answer : Answer)
     → flat ≡ map flatInput (state .inputs) → selection ≡ isSelected (state .selection) → answer ≡ answerOf number state
-    → cardWith flat selection answer state ≡ cardOf number state
+    → cardWith flat selection answer count state ≡ cardOf number count state
 unfolding cardOf answerOf
-cardOf-answered number state flat selection answer f s a = rw (f, s, a)
+cardOf-answered number count state flat selection answer f s a = rw (f, s, a)
 
 -- ---- WritePort
 

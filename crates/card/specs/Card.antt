@@ -22,7 +22,7 @@ use Rattle.card.specs.Flat.{selectorOf, cardOf}
 
 -- "The selector starts at time 0, quality mode on, no switch, nothing selected"
 unfoldable pub freshCard : Card
-freshCard = cardOf accepted freshSelector
+freshCard = cardOf accepted 0 freshSelector
 
 -- an event, of the numbers that C gives
 abbrev pub eventOf : ℕ → ℕ → ℕ → ℕ → Event
@@ -30,7 +30,7 @@ eventOf kind time input argument = record { kind = kind; time = time; input = in
 
 -- what a step leaves, as a card
 abbrev pub steppedCard : Stepped → Card
-steppedCard stepped = cardOf (stepped .number) (stepped .state)
+steppedCard stepped = cardOf (stepped .number) (stepped .count) (stepped .state)
 
 -- the card after one event with a lent frame, with its answer
 unfoldable pub stepCard : Card → ℕ → ℕ → ℕ → ℕ → List ℕ → Card

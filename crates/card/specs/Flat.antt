@@ -126,9 +126,9 @@ flatAnswer answer =
       on = answer .on;
     }
 
--- the card that holds a selector, with what is answered behind a number
-unfoldable pub cardOf : ℕ → Selector → Card
-cardOf number state =
+-- the card that holds a selector, with what is answered behind a number, and a count of due moments
+unfoldable pub cardOf : ℕ → ℕ → Selector → Card
+cardOf number count state =
     record {
       inputs = map flatInput (state .inputs);
       time = state .time;
@@ -139,5 +139,5 @@ cardOf number state =
       selection = isSelected (state .selection);
       selected = selectedNumber (state .selection);
       answer = flatAnswer (answerOf number state);
-      spare = 0;
+      served = count;
     }

@@ -24,3 +24,7 @@ stateAfter (given ∷ earlier) = step (stateAfter earlier) (given .event) (given
 -- the number that an event is answered with, after the events before it
 unfoldable pub numberAfter : Given → Sequence → ℕ
 numberAfter given earlier = step (stateAfter earlier) (given .event) (given .frame) .number
+
+-- how many due moments its tick serves
+unfoldable pub countAfter : Given → Sequence → ℕ
+countAfter given earlier = step (stateAfter earlier) (given .event) (given .frame) .count

@@ -11,11 +11,11 @@ flat-inputs-requires c κs = search needs
 answer-requires : tie.Need-answer-requires
 answer-requires c κs = search needs
 
-cast-t7 : tie.Need-cast-t7
-cast-t7 c = search needs
-
 cast-t8 : tie.Need-cast-t8
 cast-t8 c = search needs
+
+cast-t9 : tie.Need-cast-t9
+cast-t9 c = search needs
 
 is-selected-requires : tie.Need-is-selected-requires
 is-selected-requires c κs = search needs
@@ -26,4 +26,4 @@ returns c = search cardOf-answered
 pub card-of-spec : {M : Type 1} → statement M
 card-of-spec =
     tie.close
-    (tie.spec flat-inputs-requires answer-requires cast-t7 cast-t8 is-selected-requires returns)
+    (tie.spec flat-inputs-requires answer-requires cast-t8 cast-t9 is-selected-requires returns)
