@@ -148,7 +148,8 @@ enum nurrispane_number {
     NURRISPANE_REFUSED_MANUAL_NOT_ELIGIBLE = 16,  /* manual: input not eligible */
     NURRISPANE_REFUSED_MANUAL_LOWER_QUALITY = 17, /* manual: an eligible input has lower quality */
     NURRISPANE_REFUSED_BUFFER_TOO_SHORT = 18,     /* frame buffer under 60 octets */
-    NURRISPANE_REFUSED_SOURCE_NOT_SIX = 19        /* source address not six octets */
+    NURRISPANE_REFUSED_SOURCE_NOT_SIX = 19,       /* source address not six octets */
+    NURRISPANE_REFUSED_OUTPUT_TOO_SHORT = 20      /* for programs that read logs: not given here */
 };
 
 /* The clock states. */
