@@ -17,7 +17,7 @@ use Rattle.run.proofs.Laws.{byBool}
 use Rattle.questions.specs.declared.NumberRead.{NumberRead}
 use Rattle.questions.specs.declared.NumberRead.the-variants as N
 use Rattle.questions.specs.declared.PartRead.the-variants as P
-use Rattle.questions.specs.Line.{space, mark, dash, partLength, firstPart, hasMore, otherParts, allNumerals, decimalFrom, decimalOf, isNumber, isSource, isMarked, isNumberPart, partEnd, readNumber, readPart}
+use Rattle.questions.specs.Line.{space, mark, dash, partLength, firstPart, hasMore, otherParts, allNumerals, numberSaidAfter, numberSaid, isNumber, isSource, isMarked, isNumberPart, partEnd, readNumber, readPart}
 
 -- ---- partEnd
 
@@ -51,22 +51,22 @@ partEnd-le text start inside = omega (arith, partLength-le (drop start text), le
 -- what the digits that are left make of the number read so far
 abbrev pub numberAfter : ℕ → List ℕ → NumberRead
 numberAfter value rest =
-    cond (allNumerals rest && ltb (decimalFrom value rest) (2 ^ 64)) (N.Number (decimalFrom value rest)) N.Nothing
+    cond (allNumerals rest && ltb (numberSaidAfter value rest) (2 ^ 64)) (N.Number (numberSaidAfter value rest)) N.Nothing
 
 -- digits only add to it
-decimalFrom-grows : (value : ℕ) (rest : List ℕ) → value ≤ decimalFrom value rest
-unfolding decimalFrom
-decimalFrom-grows value [] = omega arith
-decimalFrom-grows value (numeral ∷ rest) =
-    omega (arith, decimalFrom-grows (value * 10 + (numeral - numeral0)) rest)
+numberSaidAfter-grows : (value : ℕ) (rest : List ℕ) → value ≤ numberSaidAfter value rest
+unfolding numberSaidAfter
+numberSaidAfter-grows value [] = omega arith
+numberSaidAfter-grows value (numeral ∷ rest) =
+    omega (arith, numberSaidAfter-grows (value * 10 + (numeral - numeral0)) rest)
 
 -- a number that is too large stays so
 numberAfter-over : (value : ℕ) (rest : List ℕ) → 2 ^ 64 ≤ value → N.Nothing ≡ numberAfter value rest
 numberAfter-over value rest large =
-    let over : 2 ^ 64 ≤ decimalFrom value rest = omega (arith, decimalFrom-grows value rest) in
-    rw (le-ltb (decimalFrom value rest) (2 ^ 64) over) (go (allNumerals rest))
+    let over : 2 ^ 64 ≤ numberSaidAfter value rest = omega (arith, numberSaidAfter-grows value rest) in
+    rw (le-ltb (numberSaidAfter value rest) (2 ^ 64) over) (go (allNumerals rest))
   where
-    go : (test : Bool) → N.Nothing ≡ cond (test && false) (N.Number (decimalFrom value rest)) N.Nothing
+    go : (test : Bool) → N.Nothing ≡ cond (test && false) (N.Number (numberSaidAfter value rest)) N.Nothing
     go true = refl
     go false = refl
 
@@ -98,7 +98,7 @@ module _ (text : List ℕ) where
     module _ (inside : passed < length text) (low : numeral0 ≤ getD text passed 0) (high : getD text passed 0 ≤ numeral9) where
       pub numberAfter-next : numberAfter (value * 10 + (getD text passed 0 - numeral0)) (drop (passed + 1) text)
           ≡ numberAfter value (drop passed text)
-      unfolding allNumerals decimalFrom
+      unfolding allNumerals numberSaidAfter
       numberAfter-next = rw (drop-cons text passed 0, numeral-is _ low high, add-one)
 
       pub numberAfter-large : 2 ^ 64 ≤ value * 10 + (getD text passed 0 - numeral0)
@@ -106,7 +106,7 @@ module _ (text : List ℕ) where
       numberAfter-large large = numberAfter-over _ (drop (passed + 1) text) large ∙ numberAfter-next
 
     pub numberAfter-end : length text ≤ passed → value < 2 ^ 64 → N.Number value ≡ numberAfter value (drop passed text)
-    unfolding allNumerals decimalFrom
+    unfolding allNumerals numberSaidAfter
     numberAfter-end over small = rw (drop-of-length-le text over, lt-ltb _ _ small)
 
 -- the test that the code makes of it: the next number fits, or is too large
@@ -158,19 +158,19 @@ isNumber-not : (part : List ℕ) → readNumber part ≡ N.Nothing → isNumber 
 unfolding readNumber
 isNumber-not part none =
     byBool (isNumber part)
-    (λ is. let wrong : N.Number (decimalOf part) ≡ N.Nothing = rw is at none in absurd (number-nothing _ wrong))
+    (λ is. let wrong : N.Number (numberSaid part) ≡ N.Nothing = rw is at none in absurd (number-nothing _ wrong))
     (λ not. not)
 
 pub record Says (part : List ℕ) (value : ℕ) : Type 0 where
   pub number : isNumber part ≡ true
-  pub decimal : value ≡ decimalOf part
+  pub decimal : value ≡ numberSaid part
 
 isNumber-is : (part : List ℕ) (value : ℕ) → readNumber part ≡ N.Number value → Says part value
 unfolding readNumber
 isNumber-is part value told =
     byBool (isNumber part)
     (λ is.
-    let same : N.Number (decimalOf part) ≡ N.Number value = rw is at told in record { number = is; decimal = cc })
+    let same : N.Number (numberSaid part) ≡ N.Number value = rw is at told in record { number = is; decimal = cc })
     (λ other. let wrong : N.Nothing ≡ N.Number value = rw other at told in absurd (number-nothing value (sym wrong)))
 
 module _ (line : List ℕ) (start : ℕ) (inside : start ≤ length line) where
@@ -183,7 +183,7 @@ module _ (line : List ℕ) (start : ℕ) (inside : start ≤ length line) where
     where
       go : (test : Bool)
           → P.Nothing
-          ≡ cond (test && false) (P.Number (decimalOf (firstPart (drop start line))) (partEnd line start + 1)) P.Nothing
+          ≡ cond (test && false) (P.Number (numberSaid (firstPart (drop start line))) (partEnd line start + 1)) P.Nothing
       go true = refl
       go false = refl
 

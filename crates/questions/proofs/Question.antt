@@ -13,7 +13,7 @@ use Rattle.run.proofs.Exact.{and-true-right}
 use Rattle.questions.specs.declared.PartRead.{PartRead}
 use Rattle.questions.specs.declared.PartRead.the-variants as P
 use Rattle.questions.specs.declared.QuestionRead.the-variants as Q
-use Rattle.questions.specs.Line.{space, mark, partLength, firstPart, hasMore, otherParts, decimalOf, isNumber, isSource, isMarked, isNumberPart, partEnd, readPart, readQuestion}
+use Rattle.questions.specs.Line.{space, mark, partLength, firstPart, hasMore, otherParts, numberSaid, isNumber, isSource, isMarked, isNumberPart, partEnd, readPart, readQuestion}
 use Rattle.questions.proofs.Parts.{partLength-le, partEnd-le}
 
 -- ---- what a part that was read says
@@ -27,14 +27,14 @@ module _ (line : List ℕ) (start : ℕ) (read : PartRead) (told : read ≡ read
   part-not none =
       byBool (isNumberPart (drop start line))
       (λ is.
-      let wrong : P.Number (decimalOf (firstPart (drop start line))) (partEnd line start + 1) ≡ P.Nothing =
+      let wrong : P.Number (numberSaid (firstPart (drop start line))) (partEnd line start + 1) ≡ P.Nothing =
       rw is at (sym told ∙ none) in
       absurd (part-nothing _ _ wrong))
       (λ other. other)
 
   record Part (value next : ℕ) : Type 0 where
     number : isNumberPart (drop start line) ≡ true
-    decimal : value ≡ decimalOf (firstPart (drop start line))
+    decimal : value ≡ numberSaid (firstPart (drop start line))
     place : next ≡ partEnd line start + 1
 
   part-is : (value next : ℕ) → read ≡ P.Number value next → Part value next
@@ -42,7 +42,7 @@ module _ (line : List ℕ) (start : ℕ) (read : PartRead) (told : read ≡ read
   part-is value next number =
       byBool (isNumberPart (drop start line))
       (λ is.
-      let same : P.Number (decimalOf (firstPart (drop start line))) (partEnd line start + 1) ≡ P.Number value next =
+      let same : P.Number (numberSaid (firstPart (drop start line))) (partEnd line start + 1) ≡ P.Number value next =
       rw is at (sym told ∙ number) in
       record { number = is; decimal = cc; place = cc })
       (λ other.

@@ -48,17 +48,17 @@ allNumerals [] = true
 allNumerals (character ∷ rest) = isNumeral character && allNumerals rest
 
 -- the number that decimal digits say behind a number before them
-unfoldable pub decimalFrom : ℕ → List ℕ → ℕ
-decimalFrom number [] = number
-decimalFrom number (numeral ∷ rest) = decimalFrom (number * 10 + (numeral - numeral0)) rest
+unfoldable pub numberSaidAfter : ℕ → List ℕ → ℕ
+numberSaidAfter number [] = number
+numberSaidAfter number (numeral ∷ rest) = numberSaidAfter (number * 10 + (numeral - numeral0)) rest
 
 -- the number that decimal digits say
-abbrev pub decimalOf : List ℕ → ℕ
-decimalOf text = decimalFrom 0 text
+abbrev pub numberSaid : List ℕ → ℕ
+numberSaid text = numberSaidAfter 0 text
 
 -- "its numbers are decimal digits, below 2^64"
 unfoldable pub isNumber : List ℕ → Bool
-isNumber text = not (eqb (length text) 0) && allNumerals text && ltb (decimalOf text) (2 ^ 64)
+isNumber text = not (eqb (length text) 0) && allNumerals text && ltb (numberSaid text) (2 ^ 64)
 
 -- "SOURCE is an even number of lowercase digits, 2 to 64, or `-` for no octets"
 unfoldable pub isSource : List ℕ → Bool
@@ -83,7 +83,7 @@ readQuestion line =
     let source = otherParts third in
     cond
     (isMarked line && hasMore line && isNumberPart first && isNumberPart second && isNumberPart third && isSource source)
-    (Q.Question (decimalOf (firstPart first)) (decimalOf (firstPart second)) (decimalOf (firstPart third))
+    (Q.Question (numberSaid (firstPart first)) (numberSaid (firstPart second)) (numberSaid (firstPart third))
     (length line - length source))
     Q.Nothing
 
@@ -95,10 +95,10 @@ partEnd text start = start + partLength (drop start text)
 
 -- a number, if a text is one
 unfoldable pub readNumber : List ℕ → NumberRead
-readNumber text = cond (isNumber text) (N.Number (decimalOf text)) N.Nothing
+readNumber text = cond (isNumber text) (N.Number (numberSaid text)) N.Nothing
 
 -- the number from a place that a space ends, and the place after the space
 unfoldable pub readPart : List ℕ → ℕ → PartRead
 readPart line start =
-    cond (isNumberPart (drop start line)) (P.Number (decimalOf (firstPart (drop start line))) (partEnd line start + 1))
+    cond (isNumberPart (drop start line)) (P.Number (numberSaid (firstPart (drop start line))) (partEnd line start + 1))
     P.Nothing
