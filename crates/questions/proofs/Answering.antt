@@ -1,10 +1,10 @@
 -- What a question is answered with, way by way. Assumes nothing.
-use Prim.Native.Nat.{ℕ, zero, suc, _+_, _-_, _≤_}
+use Prim.Native.Nat.{ℕ, zero, suc, _+_, _-_, _≤_, _<_}
 use mathlib.Core.Bool.{Bool, true, false, not, _&&_, cond}
 use mathlib.Core.List.{List, [], _∷_, _++_, append-nil}
 use mathlib.Core.Path.{_≡_, refl, sym, _∙_, ap}
 use native.Mathlib.Omega.{arith}
-use borrow.Author.Tests.{eqb-true, eqb-false, leb-true, leb-false}
+use borrow.Author.Tests.{eqb-true, eqb-false, leb-true, leb-false, lt-ltb, le-ltb}
 use lib.Dec.{eqb, leb, ltb}
 use lib.ListN.{length, take, drop, replicate, length-append, length-replicate, length-drop, drop-of-length-le}
 use lib.Seq.{drop-drop, take-at, take-all}
@@ -29,7 +29,8 @@ use Rattle.questions.specs.declared.QuestionAnswer.{QuestionAnswer}
 use Rattle.questions.specs.declared.QuestionRead.{QuestionRead}
 use Rattle.questions.specs.declared.QuestionRead.the-variants as Q
 use Rattle.questions.specs.Line.{partLength, firstPart, hasMore, otherParts, numberSaid, isSource, isMarked, isNumberPart, readQuestion}
-use Rattle.questions.specs.Answer.{padded, frameText, nothingText, noQuestionText, heartbeatText, lineText, lentRoom, putQuestion, lineQuestion, LentAlike, answeredAsked, answeredRead, answeredQuestion}
+use Rattle.questions.specs.Answer.{longestQuestion, askedIn, frameText, nothingText, noQuestionText, heartbeatText, lentRoom, putQuestion, lineQuestion}
+use Rattle.questions.specs.Asked.{padded, lineText, LentAlike, answeredAsked, answeredRead, answeredQuestion}
 use Rattle.questions.proofs.Texts.{lentRoom-fits}
 
 -- ---- a question that is put
@@ -251,25 +252,35 @@ octets-lent octets text count holds size =
 
 -- ---- answeredQuestion
 
-module _ (senders : Senders) (state : Selector) (line : List ℕ) (read : QuestionRead) (told : read ≡ readQuestion line) where
-  pub answered-nothing : (text : LineText) → read ≡ Q.Nothing → text ≡ lineText noQuestionText
+module _ (senders : Senders) (state : Selector) (line : List ℕ) where
+  pub answered-long : (text : LineText) → longestQuestion < length line → text ≡ lineText noQuestionText
       → record { senders = senders; text = text } ≡ answeredQuestion senders state line
-  unfolding answeredRead
-  answered-nothing text none is = rw (is, ← told, none)
+  unfolding answeredRead askedIn
+  answered-long text long is = rw (is, lt-ltb longestQuestion (length line) long)
 
-  pub answered-asked : (port time room start count : ℕ) (octets : List ℕ) (answer : QuestionAnswer)
-      → read ≡ Q.Question port time room start
-      → octets ≡ padded 32 (octetsOf (restOf line start))
-      → count ≡ length (octetsOf (restOf line start))
-      → answer ≡ answeredAsked senders (putQuestion state port time room (take count octets))
-      → answer ≡ answeredQuestion senders state line
-  unfolding answeredRead
-  answered-asked port time room start count octets answer is holds size asks =
-      let source : take count octets ≡ octetsOf (drop start line) =
-      ap (λ (n : ℕ). take n octets) size
-      ∙ ap (take (length (octetsOf (restOf line start)))) holds
-      ∙ take-at (octetsOf (restOf line start)) _ (length (octetsOf (restOf line start))) refl
-      ∙ ap octetsOf (rest-all line start) in
-      asks
-      ∙ ap (λ (text : List ℕ). answeredAsked senders (putQuestion state port time room text)) source
-      ∙ ap (answeredRead senders state line) (sym is ∙ told)
+  module _ (read : QuestionRead) (short : length line ≤ longestQuestion) (told : read ≡ readQuestion line) where
+    asked-in : read ≡ askedIn line
+    unfolding askedIn
+    asked-in = told ∙ (rw (le-ltb longestQuestion (length line) short))
+
+    pub answered-nothing : (text : LineText) → read ≡ Q.Nothing → text ≡ lineText noQuestionText
+        → record { senders = senders; text = text } ≡ answeredQuestion senders state line
+    unfolding answeredRead
+    answered-nothing text none is = rw (is, ← asked-in, none)
+
+    pub answered-asked : (port time room start count : ℕ) (octets : List ℕ) (answer : QuestionAnswer)
+        → read ≡ Q.Question port time room start
+        → octets ≡ padded 32 (octetsOf (restOf line start))
+        → count ≡ length (octetsOf (restOf line start))
+        → answer ≡ answeredAsked senders (putQuestion state port time room (take count octets))
+        → answer ≡ answeredQuestion senders state line
+    unfolding answeredRead
+    answered-asked port time room start count octets answer is holds size asks =
+        let source : take count octets ≡ octetsOf (drop start line) =
+        ap (λ (n : ℕ). take n octets) size
+        ∙ ap (take (length (octetsOf (restOf line start)))) holds
+        ∙ take-at (octetsOf (restOf line start)) _ (length (octetsOf (restOf line start))) refl
+        ∙ ap octetsOf (rest-all line start) in
+        asks
+        ∙ ap (λ (text : List ℕ). answeredAsked senders (putQuestion state port time room text)) source
+        ∙ ap (answeredRead senders state line) (sym is ∙ asked-in)

@@ -17,7 +17,8 @@ use Rattle.reader.specs.Lines.{lineFeed}
 use Rattle.frame.specs.Write.{writtenLength}
 use Rattle.run.proofs.Laws.{byBool}
 use Rattle.questions.specs.Line.{mark, isAsked, isSource}
-use Rattle.questions.specs.Answer.{padded, textOctets, frameText, lineText, lentRoom}
+use Rattle.questions.specs.Answer.{frameText, lentRoom}
+use Rattle.questions.specs.Asked.{padded, textOctets, lineText}
 
 -- ---- padded
 

@@ -1,11 +1,20 @@
 -- `questions::answer_question` meets its contract: a question is put, and any other line is told as none.
 -- Assumes nothing.
-use Rattle.questions.proofs.Answering.{start-lent, source-lent, octets-lent, answered-nothing, answered-asked}
+use Rattle.questions.proofs.Answering.{start-lent, source-lent, octets-lent, answered-long, answered-nothing, answered-asked}
 use lib.Seq.{length-take-le}
 use mathlib.Core.Path.{sym}
 use borrow.Author.Needs.{needs}
 use Rattle.questions.proofs.answer_question.Statement.{statement}
 use Rattle.questions.proofs.answer_question.Tie as tie
+
+slice-aggregate-line-text : tie.Need-slice-aggregate-line-text
+slice-aggregate-line-text c = search needs
+
+line-text-requires : tie.Need-line-text-requires
+line-text-requires c κs = search needs
+
+returns : tie.Need-returns
+returns c = answered-long _ _ _ _ (c .before .before .if1 .taken) (c .line-text .ensures)
 
 read-question-requires : tie.Need-read-question-requires
 read-question-requires c κs = search needs
@@ -16,16 +25,17 @@ enum-known-port c = search needs
 enum-told : tie.Need-enum-told
 enum-told c = search needs
 
-slice-aggregate-line-text : tie.Need-slice-aggregate-line-text
-slice-aggregate-line-text c = search needs
+slice-aggregate-line-text-2 : tie.Need-slice-aggregate-line-text-2
+slice-aggregate-line-text-2 c = search needs
 
-line-text-requires : tie.Need-line-text-requires
-line-text-requires c κs = search needs
+line-text-requires-2 : tie.Need-line-text-requires-2
+line-text-requires-2 c κs = search needs
 
-returns : tie.Need-returns
-returns c =
-    let read = c .before .before .before .before .read-question in
-    answered-nothing _ _ _ _ (read .ensures) _ (c .before .before .enum-told .given .1) (c .line-text .ensures)
+returns-2 : tie.Need-returns-2
+returns-2 c =
+    let read = c .before .before .before .before in
+    answered-nothing _ _ _ _ (read .before .if1 .left) (read .read-question .ensures) _
+    (c .before .before .enum-told .given .1) (c .line-text2 .ensures)
 
 sub-source-octets : tie.Need-sub-source-octets
 sub-source-octets c = start-lent _ _ _ _ _ _ (c .before .before .before .read-question .ensures) (c .before .port .given .1)
@@ -53,23 +63,27 @@ slice-aggregate-ask c =
 ask-requires : tie.Need-ask-requires
 ask-requires c κs = search needs
 
-returns-2 : tie.Need-returns-2
-returns-2 c =
+returns-3 : tie.Need-returns-3
+returns-3 c =
     let source = c .before .before .before in
     let port = source .before .before .before in
-    answered-asked _ _ _ _ (port .before .before .read-question .ensures) _ _ _ _ _ _ _ (port .port .given .1)
+    let read = port .before .before in
+    answered-asked _ _ _ _ (read .before .if1 .left) (read .read-question .ensures) _ _ _ _ _ _ _ (port .port .given .1)
     (source .source-octets .ensures .0) (source .source-octets .ensures .1) (c .ask .ensures)
 
 pub answer-question-spec : {M : Type 1} → statement M
 answer-question-spec =
     tie.close
     (tie.spec
-    read-question-requires
-    enum-known-port
-    enum-told
     slice-aggregate-line-text
     line-text-requires
     returns
+    read-question-requires
+    enum-known-port
+    enum-told
+    slice-aggregate-line-text-2
+    line-text-requires-2
+    returns-2
     sub-source-octets
     part-source-octets-start
     part-source-octets-end
@@ -77,4 +91,4 @@ answer-question-spec =
     array-share-prefix-octets
     slice-aggregate-ask
     ask-requires
-    returns-2)
+    returns-3)

@@ -1,7 +1,7 @@
 -- `questions::answer_text` meets its contract.
 -- Assumes nothing.
 use mathlib.Core.Path.{ap, _∙_}
-use Rattle.questions.specs.Answer.{lineText}
+use Rattle.questions.specs.Asked.{lineText}
 use borrow.Author.Needs.{needs}
 use Rattle.questions.proofs.answer_text.Statement.{statement}
 use Rattle.questions.proofs.answer_text.Tie as tie

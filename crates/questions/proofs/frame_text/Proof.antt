@@ -4,7 +4,7 @@ use Prim.Native.Nat.{_≤_, _-_}
 use mathlib.Core.Path.{_≡_, refl}
 use lib.ListN.{length, take}
 use Rattle.digits.specs.Digits.{digitsOf}
-use Rattle.questions.specs.Answer.{padded, textOctets}
+use Rattle.questions.specs.Asked.{padded, textOctets}
 use Rattle.questions.proofs.Texts.{frame-turn, frame-done}
 use borrow.Author.Needs.{needs}
 use Rattle.questions.proofs.frame_text.Statement.{statement}

@@ -5,7 +5,7 @@ use Prim.Native.Nat.{_≤_, _-_, _*_}
 use mathlib.Core.Path.{_≡_, refl}
 use lib.ListN.{length, take}
 use Rattle.digits.specs.Digits.{octetsOf}
-use Rattle.questions.specs.Answer.{padded}
+use Rattle.questions.specs.Asked.{padded}
 use Rattle.questions.proofs.Texts.{source-fits, source-digits, source-turn, source-all, source-done}
 use borrow.Author.Needs.{needs}
 use Rattle.questions.proofs.source_octets.Statement.{statement}
