@@ -7,8 +7,8 @@ use mathlib.Core.Path.{_≡_, refl, ap, sym, _∙_}
 use native.Mathlib.Omega.{arith}
 use borrow.Author.Tests.{ltb-false, lt-ltb, le-ltb}
 use lib.Dec.{ltb}
-use lib.ListN.{length, take, drop, getD, set, replicate, length-set, length-drop, length-replicate}
-use lib.Seq.{length-take-le, take-take, take-at, drop-at, set-split}
+use lib.ListN.{length, take, drop, getD, set, replicate, length-set, length-append, length-drop, length-replicate}
+use lib.Seq.{length-take-le, take-take, take-at, take-all, drop-at, set-split}
 use Rattle.digits.specs.declared.decimal.DecimalText.{DecimalText}
 use Rattle.digits.specs.Digits.{numeral0}
 use Rattle.digits.specs.Decimal.{decimalPlaces, decimalWith, decimalOf, decimal, decimalValue, InDecimal}
@@ -201,3 +201,48 @@ module _ (number : ℕ) (text : List ℕ) (start rest : ℕ) (so-far : SoFar num
       let left : decimalPlaces - length (decimalOf number) ≡ place =
       rw written (omega (arith, length-drop start text, so-far .size, so-far .within, next)) in
       rw (left, written, put digit)
+
+-- ---- where a number's digits stand
+
+module _ (number : ℕ) (places : ℕ) (answer : DecimalText) (is : answer ≡ decimal number) (below : number < tens (suc places))
+    (few : suc places ≤ decimalPlaces) where
+  pub decimal-start : answer .start ≤ decimalPlaces
+  unfolding decimal
+  decimal-start = rw is (omega arith)
+
+  -- what stands from there on
+  pub decimal-part : take (decimalPlaces - answer .start) (drop (answer .start) (answer .text)) ≡ decimalOf number
+  unfolding decimal
+  decimal-part =
+      let most = decimalOf-length places number below in
+      let digits : List ℕ = decimalOf number in
+      let start : ℕ = decimalPlaces - length (decimalOf number) in
+      rw is
+      (ap (take (decimalPlaces - (decimalPlaces - length (decimalOf number))))
+      (drop-at (replicate (decimalPlaces - length (decimalOf number)) 0) (decimalOf number)
+      (decimalPlaces - length (decimalOf number))
+      (length-replicate (decimalPlaces - length (decimalOf number)) 0)) ∙
+      take-all (decimalPlaces - (decimalPlaces - length (decimalOf number))) (decimalOf number) (omega arith))
+
+-- of a number below 1,000: at most three digits
+module _ (number : ℕ) (answer : DecimalText) (is : answer ≡ decimal number) (below : number < 1000) where
+  pub three-start : answer .start ≤ decimalPlaces
+  unfolding tens
+  three-start = decimal-start number 2 answer is below (omega arith)
+
+  pub three-part : take (decimalPlaces - answer .start) (drop (answer .start) (answer .text)) ≡ decimalOf number
+  unfolding tens
+  three-part = decimal-part number 2 answer is below (omega arith)
+
+  pub three-most : length (take (decimalPlaces - answer .start) (drop (answer .start) (answer .text))) ≤ 3
+  unfolding tens
+  three-most = rw three-part (decimalOf-length 2 number below)
+
+  pub three-size : length (answer .text) ≡ decimalPlaces
+  unfolding tens decimal
+  three-size =
+      let most = decimalOf-length 2 number below in
+      rw is
+      (length-append (replicate (decimalPlaces - length (decimalOf number)) 0) (decimalOf number) ∙
+      ap (λ (n : ℕ). n + length (decimalOf number)) (length-replicate (decimalPlaces - length (decimalOf number)) 0) ∙
+      omega arith)

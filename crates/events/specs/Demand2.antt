@@ -11,7 +11,7 @@ use Rattle.events.specs.Told.{answerBy, codesBy}
 
 -- after a sequence of events
 pub record Demand2 (sequence : Sequence) : Type 0 where
-  -- the whole answer is by what has happened; the number in it is in `Demand3`
+  -- the whole answer is by what has happened; the number in it is in `Demand1`
   pub answer : (number : ℕ) → answerOf number (stateAfter sequence) ≡ answerBy number (pastOf sequence)
   -- all sixteen codes are too
   pub outgoing : outgoingCodes (stateAfter sequence) ≡ codesBy (pastOf sequence)
