@@ -129,6 +129,20 @@ written-decimal number place copied written out part small inside is count copie
           ∙ ap (λ (t : List ℕ). take (length t) t ++ drop (length t) (midOf place (length out - place) out)) all);
     }
 
+-- a text ends inside the output that it was written to
+pub put-inside : (text : List ℕ) (place : ℕ) (before : List ℕ) (end : ℕ) (after : List ℕ) → place ≤ length before
+    → Put text place before end after → end ≤ length after
+put-inside text place before end after inside put =
+    let behind = drop (place + length text) before in
+    omega (
+      arith,
+      put .past,
+      ap length (put .content),
+      length-append (take place before ++ text) behind,
+      length-append (take place before) text,
+      length-take-le place before inside,
+    )
+
 -- a space and a number
 pub written-spaced : (number place end : ℕ) (out after : List ℕ)
     → place < length out
@@ -300,8 +314,11 @@ module _ (text : List ℕ) (most value passed : ℕ) (inside : passed < length t
   readOn-over over =
       let large : most < decimalValue (value * 10 + (character - numeral0)) rest =
       omega (arith, decimalValue-least (value * 10 + (character - numeral0)) rest) in
-      rw (drop-cons text passed 0 inside, lt-leb (decimalValue (value * 10 + (character - numeral0)) rest) most large,
-      and-false (allNumerals (character ∷ rest)))
+      rw (
+        drop-cons text passed 0 inside,
+        lt-leb (decimalValue (value * 10 + (character - numeral0)) rest) most large,
+        and-false (allNumerals (character ∷ rest)),
+      )
 
   -- a digit more
   pub readOn-next : numeral0 ≤ character → character ≤ numeral9
