@@ -55,9 +55,9 @@ ended-front input more =
     )
 
 -- however a run ended, what was taken is right
-pub ended-right : (ended : Ended) (run : InputEnded ended) → EndedRight ended run
+pub heartbeat-right : (ended : Ended) (run : InputEnded ended) → EndedRight ended run
 unfolding inputOf takenOf MayFollow
-ended-right _ (finished input handed over) =
+heartbeat-right _ (finished input handed over) =
     record {
       whole = λ whole.
           let all : handed .sent ≡ length (toldTo freshDesk (linesOf input)) =
@@ -72,7 +72,7 @@ ended-right _ (finished input handed over) =
           ∙ sym (heartbeats-right input)
           ∙ sym (append-nil (toldTo freshDesk (linesOf input))));
     }
-ended-right _ (stopped input handed over ends) =
+heartbeat-right _ (stopped input handed over ends) =
     record {
       whole = λ whole. absurd (true≢false (sym (ap isWhole whole) ∙ ends));
       beginning = λ more follows.
@@ -80,7 +80,7 @@ ended-right _ (stopped input handed over ends) =
           front-begins (handed .sent) (toldTo freshDesk (endedLines [] input)) (front .0) (heartbeats (input ++ more))
           (front .1);
     }
-ended-right _ (unread input) =
+heartbeat-right _ (unread input) =
     record {
       whole = λ whole. absurd (true≢false (sym (ap isWhole whole)));
       beginning = λ more follows.
