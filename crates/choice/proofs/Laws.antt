@@ -1,6 +1,6 @@
 -- The definitions of `specs/`, a law for each way through the function that meets it. Assumes nothing.
 use Prim.Native.Nat.{ℕ, _+_, _≤_, _<_}
-use mathlib.Core.Bool.{Bool, true, false}
+use mathlib.Core.Bool.{Bool, true, false, not}
 use mathlib.Core.List.{List}
 use mathlib.Core.Path.{_≡_, refl, sym, _∙_}
 use native.Mathlib.Omega.{arith}
@@ -13,10 +13,11 @@ use Rattle.numbers.specs.declared.Priority.{Priority}
 use Rattle.numbers.specs.declared.Quality.{Quality}
 use Rattle.numbers.specs.Inputs.{inputCount}
 use Rattle.numbers.specs.Quality.{notTold, isFailed}
+use Rattle.numbers.specs.Truth.{alike}
 use Rattle.choice.specs.declared.Candidate.{Candidate}
 use Rattle.choice.specs.declared.Selection.{Selection}
 use Rattle.choice.specs.declared.Selection.the-variants.{Nothing, At}
-use Rattle.choice.specs.Candidate.{nobody, isUsable, isAdmitted, rankedQuality, isEligible, isBetter, eligibleAmong, betterAmong, isLower, lowerAmong, anyLower}
+use Rattle.choice.specs.Candidate.{nobody, isUsable, isAdmitted, rankedQuality, isEligible, isBetter, isLike, eligibleAmong, betterAmong, isLower, lowerAmong, anyLower}
 use Rattle.choice.specs.Choice.{seeded, offered, scanned, choose}
 
 -- ---- isUsable
@@ -106,6 +107,41 @@ module _ (candidate other : Candidate) where
       rw (le-ltb (candidate .quality .0) (other .quality .0) h, ne-eqb (candidate .quality .0) (other .quality .0) e)
 
 pub ruleset isBetter-laws = (isBetter-quality, isBetter-priority, isBetter-not)
+
+-- ---- alike, isLike
+
+pub alike-yes : (one other : Bool) → one ≡ true → other ≡ alike one other
+alike-yes one other e = rw e
+
+pub alike-no : (one other : Bool) → one ≡ false → not other ≡ alike one other
+alike-no one other e = rw e
+
+pub ruleset alike-laws = (alike-yes, alike-no)
+
+module _ (candidate other : Candidate) where
+  pub isLike-usable : (admitted usable : Bool) → candidate .quality .0 ≡ other .quality .0
+      → candidate .priority .0 ≡ other .priority .0
+      → admitted ≡ alike (candidate .admitted) (other .admitted) → admitted ≡ true
+      → usable ≡ alike (candidate .usable) (other .usable) → usable ≡ isLike candidate other
+  unfolding isLike
+  isLike-usable admitted usable q p a t u = rw (eq-eqb _ _ q, eq-eqb _ _ p, ← a, t, u)
+
+  pub isLike-admitted : (admitted : Bool) → candidate .quality .0 ≡ other .quality .0
+      → candidate .priority .0 ≡ other .priority .0
+      → admitted ≡ alike (candidate .admitted) (other .admitted) → admitted ≡ false → false ≡ isLike candidate other
+  unfolding isLike
+  isLike-admitted admitted q p a t = rw (eq-eqb _ _ q, eq-eqb _ _ p, ← a, t)
+
+  pub isLike-priority : candidate .quality .0 ≡ other .quality .0
+      → (candidate .priority .0 ≡ other .priority .0 → ⊥) → false ≡ isLike candidate other
+  unfolding isLike
+  isLike-priority q n = rw (eq-eqb _ _ q, ne-eqb _ _ n)
+
+  pub isLike-quality : (candidate .quality .0 ≡ other .quality .0 → ⊥) → false ≡ isLike candidate other
+  unfolding isLike
+  isLike-quality n = rw (ne-eqb _ _ n)
+
+pub ruleset isLike-laws = (isLike-usable, isLike-admitted, isLike-priority, isLike-quality)
 
 -- ---- the candidate with a number
 

@@ -9,13 +9,14 @@ use native.Mathlib.Omega.{arith}
 use native.Mathlib.Decide.{ℕ-discrete}
 use lib.Dec.{leb, ltb, eqb}
 use lib.ListN.{getD}
-use borrow.Author.Tests.{ltb-true, ltb-false, leb-true, eqb-false, lt-ltb, le-ltb, le-leb, ne-eqb, not-true}
+use borrow.Author.Tests.{eqb-true, ltb-true, ltb-false, leb-true, eqb-false, lt-ltb, le-ltb, le-leb, ne-eqb, not-true}
 use Rattle.numbers.specs.declared.Priority.{Priority}
 use Rattle.numbers.specs.declared.Quality.{Quality}
 use Rattle.numbers.specs.Inputs.{inputCount}
+use Rattle.numbers.specs.Truth.{alike}
 use Rattle.numbers.specs.Quality.{prc, sec, failed}
 use Rattle.choice.specs.declared.Candidate.{Candidate}
-use Rattle.choice.specs.Candidate.{nobody, isUsable, isAdmitted, candidateOf, isEligible, isBetter, eligibleAmong, betterAmong, isLower, lowerAmong, anyLower}
+use Rattle.choice.specs.Candidate.{nobody, isUsable, isAdmitted, candidateOf, isEligible, isBetter, isLike, eligibleAmong, betterAmong, isLower, lowerAmong, anyLower}
 use Rattle.choice.specs.Choice.{Ranking}
 use Rattle.choice.proofs.Laws.{isBetter-quality, isBetter-priority, isBetter-not}
 use Rattle.choice.proofs.Choosing.{byBool, both-first, both-second, contra}
@@ -151,6 +152,34 @@ isBetter-ranking candidates =
   where
     at : ℕ → Candidate
     at number = getD candidates number nobody
+
+-- ---- isLike
+
+alike-same : (one other : Bool) → alike one other ≡ true → one ≡ other
+alike-same true other e = sym e
+alike-same false true e = absurd (false≢true e)
+alike-same false false e = refl
+
+-- what a choice sees alike is the same candidate
+pub isLike-same : (candidate other : Candidate) → isLike candidate other ≡ true → candidate ≡ other
+unfolding isLike
+isLike-same candidate other e =
+    let first = eqb (candidate .quality .0) (other .quality .0) in
+    let second = eqb (candidate .priority .0) (other .priority .0) in
+    let third = alike (candidate .admitted) (other .admitted) in
+    let fourth = alike (candidate .usable) (other .usable) in
+    let three = both-first (first && second && third) fourth e in
+    let two = both-first (first && second) third three in
+    let q : candidate .quality .0 ≡ other .quality .0 = eqb-true _ _ (both-first first second two) in
+    let p : candidate .priority .0 ≡ other .priority .0 = eqb-true _ _ (both-second first second two) in
+    let a : candidate .admitted ≡ other .admitted = alike-same _ _ (both-second (first && second) third three) in
+    let u : candidate .usable ≡ other .usable = alike-same _ _ (both-second (first && second && third) fourth e) in
+    λ j. record {
+      quality = record { 0 = q j };
+      priority = record { 0 = p j };
+      admitted = a j;
+      usable = u j;
+    }
 
 -- ---- anyLower
 

@@ -7,6 +7,7 @@ use lib.Dec.{leb, ltb, eqb}
 use lib.ListN.{getD}
 use Rattle.numbers.specs.declared.Priority.{Priority}
 use Rattle.numbers.specs.Inputs.{inputCount}
+use Rattle.numbers.specs.Truth.{alike}
 use Rattle.numbers.specs.declared.Quality.{Quality}
 use Rattle.numbers.specs.Quality.{notTold, prc, sec, isFailed}
 use Rattle.choice.specs.declared.Candidate.{Candidate}
@@ -42,6 +43,13 @@ unfoldable pub isBetter : Candidate → Candidate → Bool
 isBetter candidate other =
     ltb (candidate .quality .0) (other .quality .0) ||
     (eqb (candidate .quality .0) (other .quality .0) && ltb (candidate .priority .0) (other .priority .0))
+
+-- a choice sees two alike
+unfoldable pub isLike : Candidate → Candidate → Bool
+isLike candidate other =
+    eqb (candidate .quality .0) (other .quality .0) && eqb (candidate .priority .0) (other .priority .0) &&
+    alike (candidate .admitted) (other .admitted) &&
+    alike (candidate .usable) (other .usable)
 
 -- stands where there is no such input
 abbrev pub nobody : Candidate

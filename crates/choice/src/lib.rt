@@ -12,7 +12,8 @@ use numbers::SEC;
 use numbers::is_failed;
 ghost use mathlib.Core.Path.{_≡_};
 ghost use lib.ListN.{getD};
-ghost use Rattle.choice.specs.Candidate.{nobody, isUsable, isAdmitted, rankedQuality, candidateOf, isEligible, isBetter, eligibleAmong, betterAmong, isLower, anyLower};
+ghost use Rattle.numbers.specs.Truth.{alike};
+ghost use Rattle.choice.specs.Candidate.{nobody, isUsable, isAdmitted, rankedQuality, candidateOf, isEligible, isBetter, isLike, eligibleAmong, betterAmong, isLower, anyLower};
 ghost use Rattle.choice.specs.Choice.{seeded, offered, choose};
 
 // One input as a choice sees it: the quality by which it ranks (0 for all with quality mode off),
@@ -114,6 +115,32 @@ impl Candidate {
         }
         false
     }
+
+    // Whether a choice sees another alike, and so makes the same of both.
+    pub fn is_like(self, other: Candidate) -> bool
+        ensures { λ answer. ⌜ answer ≡ isLike self other ⌝ }
+    {
+        if self.quality.0 == other.quality.0 {
+            if self.priority.0 == other.priority.0 {
+                if are_alike(self.admitted, other.admitted) {
+                    return are_alike(self.usable, other.usable);
+                }
+                return false;
+            }
+            return false;
+        }
+        false
+    }
+}
+
+// Whether two tests give the same.
+fn are_alike(one: bool, other: bool) -> bool
+    ensures { λ answer. ⌜ answer ≡ alike one other ⌝ }
+{
+    if one {
+        return other;
+    }
+    !other
 }
 
 // The candidate with a number; none, which is not eligible, where there is no such input.
