@@ -66,6 +66,8 @@ static void check_fresh(void)
         CHECK(input->sending == 1 && input->frame == 7 && input->line == 7);
         CHECK(input->code == 0 && input->count == 0 && input->signal == 0);
         CHECK(input->good == 7 && input->failed == 1 && input->up == 0);
+        CHECK(input->floor == 4);
+        CHECK(input->spare1 == 0 && input->spare2 == 0 && input->spare4 == 0);
     }
     CHECK(card.time == 0 && card.mode == 1 && card.held == 0);
     CHECK(card.switch_kind == NURRISPANE_SWITCH_NONE);
@@ -118,6 +120,9 @@ static void check_fields(void)
     event(NURRISPANE_EVENT_LOCKOUT, 1400, 3, 1);
     CHECK(line->locked == 1);
     event(NURRISPANE_EVENT_LOCKOUT, 1500, 3, 0);
+    event(NURRISPANE_EVENT_FLOOR, 1600, 3, 2);
+    CHECK(line->floor == 2 && line->fixed == 3 && line->good == 3 && line->priority == 7);
+    event(NURRISPANE_EVENT_FLOOR, 1700, 3, 4);
 
     event(NURRISPANE_EVENT_INPUT_KIND, 2000, 9, 1);
     event(NURRISPANE_EVENT_SIGNAL, 2100, 9, 0);
@@ -218,7 +223,7 @@ static struct call any_call(const struct nurrispane_card *from)
     static const uint16_t arguments[] = {0, 0, 0, 1, 1, 2, 4, 8, 11, 15, 300, 1800, 65535};
     struct call call;
 
-    call.kind = (uint8_t)(below(50) ? below(17) : below(256));
+    call.kind = (uint8_t)(below(50) ? below(18) : below(256));
     call.input = (uint8_t)(below(20) ? below(4) : below(256));
     call.argument = arguments[below(sizeof arguments / sizeof *arguments)];
     call.time = from->time + (below(30) ? below(400) : below(400000));

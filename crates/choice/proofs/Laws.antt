@@ -17,31 +17,37 @@ use Rattle.numbers.specs.Truth.{alike}
 use Rattle.choice.specs.declared.Candidate.{Candidate}
 use Rattle.choice.specs.declared.Selection.{Selection}
 use Rattle.choice.specs.declared.Selection.the-variants.{Nothing, At}
-use Rattle.choice.specs.Candidate.{nobody, isUsable, isAdmitted, rankedQuality, isEligible, isBetter, isLike, eligibleAmong, betterAmong, isLower, lowerAmong, anyLower}
+use Rattle.choice.specs.Candidate.{nobody, isWithin, isUsable, isAdmitted, rankedQuality, isEligible, isBetter, isLike, eligibleAmong, betterAmong, isLower, lowerAmong, anyLower}
 use Rattle.choice.specs.Choice.{seeded, offered, scanned, choose}
 
--- ---- isUsable
+-- ---- isWithin, isUsable
 
-module _ (mode : Bool) (passed : Quality) where
-  pub isUsable-on : mode ≡ true → 1 ≤ passed .0 → leb (passed .0) 4 ≡ isUsable mode passed
+module _ (floor passed : Quality) where
+  pub isWithin-high : 1 ≤ passed .0 → leb (passed .0) (floor .0) ≡ isWithin floor passed
+  unfolding isWithin
+  isWithin-high h = rw (le-leb _ _ h)
+
+  pub isWithin-low : passed .0 < 1 → false ≡ isWithin floor passed
+  unfolding isWithin
+  isWithin-low h = rw (lt-leb _ _ h)
+
+pub ruleset isWithin-laws = (isWithin-high, isWithin-low)
+
+module _ (mode : Bool) (floor passed : Quality) (test : Bool) where
+  pub isUsable-failed : test ≡ isFailed passed → test ≡ true → false ≡ isUsable mode floor passed
   unfolding isUsable
-  isUsable-on m h = rw (m, le-leb _ _ h)
+  isUsable-failed q t = rw (← q, t)
 
-  pub isUsable-too-good : mode ≡ true → passed .0 < 1 → false ≡ isUsable mode passed
+  pub isUsable-on : (within : Bool) → test ≡ isFailed passed → test ≡ false → mode ≡ true
+      → within ≡ isWithin floor passed → within ≡ isUsable mode floor passed
   unfolding isUsable
-  isUsable-too-good m h = rw (m, lt-leb _ _ h)
+  isUsable-on within q t m w = w ∙ (rw (← q, t, m))
 
-  pub isUsable-failed : (test : Bool) → mode ≡ false → test ≡ isFailed passed → test ≡ true
-      → false ≡ isUsable mode passed
+  pub isUsable-off : test ≡ isFailed passed → test ≡ false → mode ≡ false → true ≡ isUsable mode floor passed
   unfolding isUsable
-  isUsable-failed test m q t = rw (m, ← q, t)
+  isUsable-off q t m = rw (← q, t, m)
 
-  pub isUsable-off : (test : Bool) → mode ≡ false → test ≡ isFailed passed → test ≡ false
-      → true ≡ isUsable mode passed
-  unfolding isUsable
-  isUsable-off test m q t = rw (m, ← q, t)
-
-pub ruleset isUsable-laws = (isUsable-on, isUsable-too-good, isUsable-failed, isUsable-off)
+pub ruleset isUsable-laws = (isUsable-failed, isUsable-on, isUsable-off)
 
 -- ---- isAdmitted
 

@@ -1,4 +1,4 @@
--- Document 01, "Choosing": eligible and better. Cited by `src/lib.rt`.
+-- Document 01, "Choosing", with document 02, L9: eligible and better. Cited by `src/lib.rt`.
 -- Assumes nothing.
 use Prim.Native.Nat.{ℕ, zero, suc}
 use mathlib.Core.Bool.{Bool, true, false, not, _&&_, _||_, cond}
@@ -9,12 +9,16 @@ use Rattle.numbers.specs.declared.Priority.{Priority}
 use Rattle.numbers.specs.Inputs.{inputCount}
 use Rattle.numbers.specs.Truth.{alike}
 use Rattle.numbers.specs.declared.Quality.{Quality}
-use Rattle.numbers.specs.Quality.{notTold, prc, sec, isFailed}
+use Rattle.numbers.specs.Quality.{notTold, prc, isFailed}
 use Rattle.choice.specs.declared.Candidate.{Candidate}
 
--- "usable (1 to 4 with mode on, not 7 with mode off)"
-unfoldable pub isUsable : Bool → Quality → Bool
-isUsable mode passed = cond mode (leb (prc .0) (passed .0) && leb (passed .0) (sec .0)) (not (isFailed passed))
+-- document 02, L9: "passed quality from 1 to the input's floor"
+unfoldable pub isWithin : Quality → Quality → Bool
+isWithin floor passed = leb (prc .0) (passed .0) && leb (passed .0) (floor .0)
+
+-- "usable": not 7, and with mode on from 1 to the floor
+unfoldable pub isUsable : Bool → Quality → Quality → Bool
+isUsable mode floor passed = not (isFailed passed) && cond mode (isWithin floor passed) true
 
 -- "priority not 0, not locked"
 unfoldable pub isAdmitted : Priority → Bool → Bool
@@ -25,16 +29,17 @@ unfoldable pub rankedQuality : Bool → Quality → Quality
 rankedQuality mode passed = cond mode passed notTold
 
 -- what a choice looks at of an input
-unfoldable pub candidateOf : Quality → Priority → Bool → Bool → Candidate
-candidateOf passed priority locked mode =
+unfoldable pub candidateOf : Quality → Priority → Bool → Quality → Bool → Candidate
+candidateOf passed priority locked floor mode =
     record {
       quality = rankedQuality mode passed;
       priority = priority;
       admitted = isAdmitted priority locked;
-      usable = isUsable mode passed;
+      usable = isUsable mode floor passed;
     }
 
--- "Eligible: priority not 0, not locked, passed quality not 7, and with quality mode on passed quality 1 to 4"
+-- "Eligible: priority not 0, not locked, passed quality not 7, and with quality mode on passed quality" from 1 to the
+-- floor
 unfoldable pub isEligible : Candidate → Bool
 isEligible candidate = candidate .admitted && candidate .usable
 

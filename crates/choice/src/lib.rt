@@ -8,12 +8,11 @@ use numbers::NOT_TOLD;
 use numbers::PRC;
 use numbers::Priority;
 use numbers::Quality;
-use numbers::SEC;
 use numbers::is_failed;
 ghost use mathlib.Core.Path.{_≡_};
 ghost use lib.ListN.{getD};
 ghost use Rattle.numbers.specs.Truth.{alike};
-ghost use Rattle.choice.specs.Candidate.{nobody, isUsable, isAdmitted, rankedQuality, candidateOf, isEligible, isBetter, isLike, eligibleAmong, betterAmong, isLower, anyLower};
+ghost use Rattle.choice.specs.Candidate.{nobody, isWithin, isUsable, isAdmitted, rankedQuality, candidateOf, isEligible, isBetter, isLike, eligibleAmong, betterAmong, isLower, anyLower};
 ghost use Rattle.choice.specs.Choice.{seeded, offered, choose};
 
 // One input as a choice sees it: the quality by which it ranks (0 for all with quality mode off),
@@ -39,18 +38,25 @@ pub enum Selection {
     At(InputNumber),
 }
 
-// Whether a passed quality is usable: 1 to 4 with quality mode on, not 7 with it off.
-pub fn is_usable(mode: bool, passed: Quality) -> bool
-    ensures { λ answer. ⌜ answer ≡ isUsable mode passed ⌝ }
+// Whether a passed quality is one to follow down to a floor: from 1 to it.
+fn is_within(floor: Quality, passed: Quality) -> bool
+    ensures { λ answer. ⌜ answer ≡ isWithin floor passed ⌝ }
 {
-    if mode {
-        if PRC.0 <= passed.0 {
-            return passed.0 <= SEC.0;
-        }
-        return false;
+    if PRC.0 <= passed.0 {
+        return passed.0 <= floor.0;
     }
+    false
+}
+
+// Whether a passed quality is usable: not failed, and with quality mode on within the floor.
+pub fn is_usable(mode: bool, floor: Quality, passed: Quality) -> bool
+    ensures { λ answer. ⌜ answer ≡ isUsable mode floor passed ⌝ }
+{
     if is_failed(passed) {
         return false;
+    }
+    if mode {
+        return is_within(floor, passed);
     }
     true
 }
@@ -79,12 +85,18 @@ fn ranked_quality(mode: bool, passed: Quality) -> Quality
 }
 
 // What a choice looks at of an input.
-pub fn candidate_of(passed: Quality, priority: Priority, locked: bool, mode: bool) -> Candidate
-    ensures { λ answer. ⌜ answer ≡ candidateOf passed priority locked mode ⌝ }
+pub fn candidate_of(
+    passed: Quality,
+    priority: Priority,
+    locked: bool,
+    floor: Quality,
+    mode: bool,
+) -> Candidate
+    ensures { λ answer. ⌜ answer ≡ candidateOf passed priority locked floor mode ⌝ }
 {
     let quality = ranked_quality(mode, passed);
     let admitted = is_admitted(priority, locked);
-    let usable = is_usable(mode, passed);
+    let usable = is_usable(mode, floor, passed);
     Candidate {
         quality,
         priority,

@@ -29,7 +29,8 @@ freshSelector =
 
 -- what a choice looks at of an input
 unfoldable pub candidateFor : Bool → Input → Candidate
-candidateFor mode input = candidateOf (passedOf input) (input .settings .priority) (input .settings .locked) mode
+candidateFor mode input =
+    candidateOf (passedOf input) (input .settings .priority) (input .settings .locked) (input .settings .floor) mode
 
 -- what a choice looks at of all inputs
 abbrev pub candidatesOf : List Input → Bool → List Candidate

@@ -71,7 +71,8 @@ pub fn candidate_for(input: Input, mode: bool) -> Candidate
     let passed = input.passed_quality();
     let settings = input.settings;
     let priority = settings.priority;
-    candidate_of(passed, priority, settings.locked, mode)
+    let floor = settings.floor;
+    candidate_of(passed, priority, settings.locked, floor, mode)
 }
 
 // What a choice looks at of all inputs.

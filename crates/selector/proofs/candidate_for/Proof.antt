@@ -13,7 +13,7 @@ candidate-of-requires c κs = search needs
 
 returns : tie.Need-returns
 unfolding candidateFor
-returns c = rw (c .candidate-of .ensures, c .before .before .before .passed-quality .ensures)
+returns c = rw (c .candidate-of .ensures, c .before .before .before .before .passed-quality .ensures)
 
 pub candidate-for-spec : {M : Type 1} → statement M
 candidate-for-spec = tie.close (tie.spec passed-quality-requires candidate-of-requires returns)
