@@ -15,6 +15,7 @@ use Rattle.numbers.specs.Inputs.{inputCount}
 use Rattle.numbers.specs.Quality.{notTold, isFailed}
 use Rattle.numbers.specs.Truth.{alike}
 use Rattle.choice.specs.declared.Candidate.{Candidate}
+use Rattle.choice.specs.declared.Seen.{Seen}
 use Rattle.choice.specs.declared.Selection.{Selection}
 use Rattle.choice.specs.declared.Selection.the-variants.{Nothing, At}
 use Rattle.choice.specs.Candidate.{nobody, isWithin, isUsable, isAdmitted, rankedQuality, isEligible, isBetter, isLike, eligibleAmong, betterAmong, isLower, lowerAmong, anyLower}
@@ -124,30 +125,27 @@ alike-no one other e = rw e
 
 pub ruleset alike-laws = (alike-yes, alike-no)
 
-module _ (candidate other : Candidate) where
-  pub isLike-usable : (admitted usable : Bool) → candidate .quality .0 ≡ other .quality .0
-      → candidate .priority .0 ≡ other .priority .0
-      → admitted ≡ alike (candidate .admitted) (other .admitted) → admitted ≡ true
-      → usable ≡ alike (candidate .usable) (other .usable) → usable ≡ isLike candidate other
+module _ (seen other : Seen) where
+  pub isLike-locked : (locked : Bool) → seen .passed .0 ≡ other .passed .0 → seen .priority .0 ≡ other .priority .0
+      → seen .floor .0 ≡ other .floor .0 → locked ≡ alike (seen .locked) (other .locked) → locked ≡ isLike seen other
   unfolding isLike
-  isLike-usable admitted usable q p a t u = rw (eq-eqb _ _ q, eq-eqb _ _ p, ← a, t, u)
+  isLike-locked locked q p f l = rw (eq-eqb _ _ q, eq-eqb _ _ p, eq-eqb _ _ f, l)
 
-  pub isLike-admitted : (admitted : Bool) → candidate .quality .0 ≡ other .quality .0
-      → candidate .priority .0 ≡ other .priority .0
-      → admitted ≡ alike (candidate .admitted) (other .admitted) → admitted ≡ false → false ≡ isLike candidate other
+  pub isLike-floor : seen .passed .0 ≡ other .passed .0 → seen .priority .0 ≡ other .priority .0
+      → (seen .floor .0 ≡ other .floor .0 → ⊥) → false ≡ isLike seen other
   unfolding isLike
-  isLike-admitted admitted q p a t = rw (eq-eqb _ _ q, eq-eqb _ _ p, ← a, t)
+  isLike-floor q p n = rw (eq-eqb _ _ q, eq-eqb _ _ p, ne-eqb _ _ n)
 
-  pub isLike-priority : candidate .quality .0 ≡ other .quality .0
-      → (candidate .priority .0 ≡ other .priority .0 → ⊥) → false ≡ isLike candidate other
+  pub isLike-priority : seen .passed .0 ≡ other .passed .0 → (seen .priority .0 ≡ other .priority .0 → ⊥)
+      → false ≡ isLike seen other
   unfolding isLike
   isLike-priority q n = rw (eq-eqb _ _ q, ne-eqb _ _ n)
 
-  pub isLike-quality : (candidate .quality .0 ≡ other .quality .0 → ⊥) → false ≡ isLike candidate other
+  pub isLike-passed : (seen .passed .0 ≡ other .passed .0 → ⊥) → false ≡ isLike seen other
   unfolding isLike
-  isLike-quality n = rw (ne-eqb _ _ n)
+  isLike-passed n = rw (ne-eqb _ _ n)
 
-pub ruleset isLike-laws = (isLike-usable, isLike-admitted, isLike-priority, isLike-quality)
+pub ruleset isLike-laws = (isLike-locked, isLike-floor, isLike-priority, isLike-passed)
 
 -- ---- the candidate with a number
 

@@ -16,6 +16,7 @@ use Rattle.numbers.specs.Inputs.{inputCount}
 use Rattle.numbers.specs.Truth.{alike}
 use Rattle.numbers.specs.Quality.{prc, failed, isFailed}
 use Rattle.choice.specs.declared.Candidate.{Candidate}
+use Rattle.choice.specs.declared.Seen.{Seen}
 use Rattle.choice.specs.Candidate.{nobody, isWithin, isUsable, isAdmitted, candidateOf, isEligible, isBetter, isLike, eligibleAmong, betterAmong, isLower, lowerAmong, anyLower}
 use Rattle.choice.specs.Choice.{Ranking}
 use Rattle.choice.proofs.Laws.{isBetter-quality, isBetter-priority, isBetter-not}
@@ -177,25 +178,25 @@ alike-same true other e = sym e
 alike-same false true e = absurd (false≢true e)
 alike-same false false e = refl
 
--- what a choice sees alike is the same candidate
-pub isLike-same : (candidate other : Candidate) → isLike candidate other ≡ true → candidate ≡ other
+-- what a choice sees alike is the same to it
+pub isLike-same : (seen other : Seen) → isLike seen other ≡ true → seen ≡ other
 unfolding isLike
-isLike-same candidate other e =
-    let first = eqb (candidate .quality .0) (other .quality .0) in
-    let second = eqb (candidate .priority .0) (other .priority .0) in
-    let third = alike (candidate .admitted) (other .admitted) in
-    let fourth = alike (candidate .usable) (other .usable) in
+isLike-same seen other e =
+    let first = eqb (seen .passed .0) (other .passed .0) in
+    let second = eqb (seen .priority .0) (other .priority .0) in
+    let third = eqb (seen .floor .0) (other .floor .0) in
+    let fourth = alike (seen .locked) (other .locked) in
     let three = both-first (first && second && third) fourth e in
     let two = both-first (first && second) third three in
-    let q : candidate .quality .0 ≡ other .quality .0 = eqb-true _ _ (both-first first second two) in
-    let p : candidate .priority .0 ≡ other .priority .0 = eqb-true _ _ (both-second first second two) in
-    let a : candidate .admitted ≡ other .admitted = alike-same _ _ (both-second (first && second) third three) in
-    let u : candidate .usable ≡ other .usable = alike-same _ _ (both-second (first && second && third) fourth e) in
+    let q : seen .passed .0 ≡ other .passed .0 = eqb-true _ _ (both-first first second two) in
+    let p : seen .priority .0 ≡ other .priority .0 = eqb-true _ _ (both-second first second two) in
+    let f : seen .floor .0 ≡ other .floor .0 = eqb-true _ _ (both-second (first && second) third three) in
+    let l : seen .locked ≡ other .locked = alike-same _ _ (both-second (first && second && third) fourth e) in
     λ j. record {
-      quality = record { 0 = q j };
+      passed = record { 0 = q j };
       priority = record { 0 = p j };
-      admitted = a j;
-      usable = u j;
+      floor = record { 0 = f j };
+      locked = l j;
     }
 
 -- ---- anyLower

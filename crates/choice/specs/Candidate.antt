@@ -11,6 +11,7 @@ use Rattle.numbers.specs.Truth.{alike}
 use Rattle.numbers.specs.declared.Quality.{Quality}
 use Rattle.numbers.specs.Quality.{notTold, prc, isFailed}
 use Rattle.choice.specs.declared.Candidate.{Candidate}
+use Rattle.choice.specs.declared.Seen.{Seen}
 
 -- document 02, L9: "passed quality from 1 to the input's floor"
 unfoldable pub isWithin : Quality → Quality → Bool
@@ -20,6 +21,13 @@ isWithin floor passed = leb (prc .0) (passed .0) && leb (passed .0) (floor .0)
 unfoldable pub isUsable : Bool → Quality → Quality → Bool
 isUsable mode floor passed = not (isFailed passed) && cond mode (isWithin floor passed) true
 
+-- a choice sees two inputs alike: in all that it looks at
+unfoldable pub isLike : Seen → Seen → Bool
+isLike seen other =
+    eqb (seen .passed .0) (other .passed .0) && eqb (seen .priority .0) (other .priority .0) &&
+    eqb (seen .floor .0) (other .floor .0) &&
+    alike (seen .locked) (other .locked)
+
 -- "priority not 0, not locked"
 unfoldable pub isAdmitted : Priority → Bool → Bool
 isAdmitted priority locked = not (eqb (priority .0) 0) && not locked
@@ -28,7 +36,7 @@ isAdmitted priority locked = not (eqb (priority .0) 0) && not locked
 unfoldable pub rankedQuality : Bool → Quality → Quality
 rankedQuality mode passed = cond mode passed notTold
 
--- what a choice looks at of an input
+-- an input as a choice sees it: by what it looks at, and the quality mode
 unfoldable pub candidateOf : Quality → Priority → Bool → Quality → Bool → Candidate
 candidateOf passed priority locked floor mode =
     record {
@@ -48,13 +56,6 @@ unfoldable pub isBetter : Candidate → Candidate → Bool
 isBetter candidate other =
     ltb (candidate .quality .0) (other .quality .0) ||
     (eqb (candidate .quality .0) (other .quality .0) && ltb (candidate .priority .0) (other .priority .0))
-
--- a choice sees two alike
-unfoldable pub isLike : Candidate → Candidate → Bool
-isLike candidate other =
-    eqb (candidate .quality .0) (other .quality .0) && eqb (candidate .priority .0) (other .priority .0) &&
-    alike (candidate .admitted) (other .admitted) &&
-    alike (candidate .usable) (other .usable)
 
 -- stands where there is no such input
 abbrev pub nobody : Candidate

@@ -15,6 +15,14 @@ ghost use Rattle.numbers.specs.Truth.{alike};
 ghost use Rattle.choice.specs.Candidate.{nobody, isWithin, isUsable, isAdmitted, rankedQuality, candidateOf, isEligible, isBetter, isLike, eligibleAmong, betterAmong, isLower, anyLower};
 ghost use Rattle.choice.specs.Choice.{seeded, offered, choose};
 
+// What a choice looks at of an input: nothing else makes a candidate.
+pub struct Seen {
+    pub passed: Quality,
+    pub priority: Priority,
+    pub floor: Quality,
+    pub locked: bool,
+}
+
 // One input as a choice sees it: the quality by which it ranks (0 for all with quality mode off),
 // its priority, whether it is neither off nor locked, and whether its passed quality is usable.
 pub struct Candidate {
@@ -84,18 +92,33 @@ fn ranked_quality(mode: bool, passed: Quality) -> Quality
     NOT_TOLD
 }
 
-// What a choice looks at of an input.
-pub fn candidate_of(
-    passed: Quality,
-    priority: Priority,
-    locked: bool,
-    floor: Quality,
-    mode: bool,
-) -> Candidate
-    ensures { λ answer. ⌜ answer ≡ candidateOf passed priority locked floor mode ⌝ }
+impl Seen {
+    // Whether a choice sees no difference, and so makes the same of both.
+    pub fn is_like(self, other: Seen) -> bool
+        ensures { λ answer. ⌜ answer ≡ isLike self other ⌝ }
+    {
+        if self.passed.0 == other.passed.0 {
+            if self.priority.0 == other.priority.0 {
+                if self.floor.0 == other.floor.0 {
+                    return are_alike(self.locked, other.locked);
+                }
+                return false;
+            }
+            return false;
+        }
+        false
+    }
+}
+
+// An input as a choice sees it.
+pub fn candidate_of(seen: Seen, mode: bool) -> Candidate
+    ensures { λ answer. ⌜ answer ≡ candidateOf (seen .passed) (seen .priority) (seen .locked) (seen .floor) mode ⌝ }
 {
+    let passed = seen.passed;
+    let priority = seen.priority;
+    let floor = seen.floor;
     let quality = ranked_quality(mode, passed);
-    let admitted = is_admitted(priority, locked);
+    let admitted = is_admitted(priority, seen.locked);
     let usable = is_usable(mode, floor, passed);
     Candidate {
         quality,
@@ -124,22 +147,6 @@ impl Candidate {
         }
         if self.quality.0 == other.quality.0 {
             return self.priority.0 < other.priority.0;
-        }
-        false
-    }
-
-    // Whether a choice sees another alike, and so makes the same of both.
-    pub fn is_like(self, other: Candidate) -> bool
-        ensures { λ answer. ⌜ answer ≡ isLike self other ⌝ }
-    {
-        if self.quality.0 == other.quality.0 {
-            if self.priority.0 == other.priority.0 {
-                if are_alike(self.admitted, other.admitted) {
-                    return are_alike(self.usable, other.usable);
-                }
-                return false;
-            }
-            return false;
         }
         false
     }

@@ -8,6 +8,7 @@ use Rattle.numbers.specs.Inputs.{inputCount}
 use Rattle.input.specs.declared.Input.{Input}
 use Rattle.input.specs.Record.{freshInput, tick, passedOf}
 use Rattle.choice.specs.declared.Candidate.{Candidate}
+use Rattle.choice.specs.declared.Seen.{Seen}
 use Rattle.choice.specs.declared.Selection.the-variants as S
 use Rattle.choice.specs.Candidate.{candidateOf}
 use Rattle.decision.specs.declared.Decision.{Decision}
@@ -28,6 +29,16 @@ freshSelector =
     }
 
 -- what a choice looks at of an input
+abbrev pub seenOf : Input → Seen
+seenOf input =
+    record {
+      passed = passedOf input;
+      priority = input .settings .priority;
+      floor = input .settings .floor;
+      locked = input .settings .locked;
+    }
+
+-- an input as a choice sees it
 unfoldable pub candidateFor : Bool → Input → Candidate
 candidateFor mode input =
     candidateOf (passedOf input) (input .settings .priority) (input .settings .locked) (input .settings .floor) mode

@@ -4,6 +4,7 @@
 // No public function has a `requires`: a state with any numbers in it is answered for.
 use choice::Candidate;
 use choice::NOBODY;
+use choice::Seen;
 use choice::Selection;
 use choice::candidate_of;
 use decision::Switch;
@@ -22,7 +23,7 @@ ghost use mathlib.Core.Bool.{false};
 ghost use mathlib.Core.List.{map};
 ghost use lib.ListN.{getD};
 ghost use Rattle.input.specs.Record.{freshInput, settle, tick};
-ghost use Rattle.selector.specs.State.{candidateFor, candidatesOf, freshSelector, decided, ticked};
+ghost use Rattle.selector.specs.State.{seenOf, candidateFor, candidatesOf, freshSelector, decided, ticked};
 ghost use Rattle.selector.specs.Answer.{selectedNumber, switchNumber, switchInput, clockState, clockQuality, outgoingCode, selectedCandidate, codeFor, ports, answerOf, outgoingCodes};
 
 // Stands for no input in an answer.
@@ -65,14 +66,27 @@ pub fn input_at(inputs: [Input; 16], number: InputNumber) -> Input
 }
 
 // What a choice looks at of an input.
-pub fn candidate_for(input: Input, mode: bool) -> Candidate
-    ensures { λ answer. ⌜ answer ≡ candidateFor mode input ⌝ }
+pub fn seen_of(input: Input) -> Seen
+    ensures { λ answer. ⌜ answer ≡ seenOf input ⌝ }
 {
     let passed = input.passed_quality();
     let settings = input.settings;
     let priority = settings.priority;
     let floor = settings.floor;
-    candidate_of(passed, priority, settings.locked, floor, mode)
+    Seen {
+        passed,
+        priority,
+        floor,
+        locked: settings.locked,
+    }
+}
+
+// An input as a choice sees it.
+pub fn candidate_for(input: Input, mode: bool) -> Candidate
+    ensures { λ answer. ⌜ answer ≡ candidateFor mode input ⌝ }
+{
+    let seen = seen_of(input);
+    candidate_of(seen, mode)
 }
 
 // What a choice looks at of all inputs.

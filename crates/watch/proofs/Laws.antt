@@ -22,10 +22,10 @@ use Rattle.run.specs.declared.Run.{Run}
 use Rattle.run.proofs.Laws.{byBool}
 use Rattle.input.specs.declared.Input.{Input}
 use Rattle.input.specs.Record.{freshInput, passedOf}
-use Rattle.choice.specs.declared.Candidate.{Candidate}
+use Rattle.choice.specs.declared.Seen.{Seen}
 use Rattle.choice.specs.Candidate.{isLike}
 use Rattle.selector.specs.declared.Selector.{Selector}
-use Rattle.selector.specs.State.{candidateFor, decided}
+use Rattle.selector.specs.State.{seenOf, decided}
 use Rattle.selector.specs.Answer.{answerOf}
 use Rattle.selector.proofs.Laws.{getD-any}
 use Rattle.events.specs.Refusals.{earlyRefusal}
@@ -179,11 +179,10 @@ pub ruleset isServed-laws = (isServed-due, isServed-commands)
 
 -- ---- seenAlike
 
-pub seenAlike-by : (mode : Bool) (before after : Input) (candidate other : Candidate) (answer : Bool)
-    → candidate ≡ candidateFor mode before → other ≡ candidateFor mode after → answer ≡ isLike candidate other
-    → answer ≡ seenAlike mode before after
+pub seenAlike-by : (before after : Input) (seen other : Seen) (answer : Bool) → seen ≡ seenOf before
+    → other ≡ seenOf after → answer ≡ isLike seen other → answer ≡ seenAlike before after
 unfolding seenAlike
-seenAlike-by mode before after candidate other answer c o a = a ∙ (rw (c, o))
+seenAlike-by before after seen other answer s o a = a ∙ (rw (s, o))
 
 pub ruleset seenAlike-laws = (seenAlike-by)
 
@@ -215,7 +214,7 @@ module _ (before : Input) (mode : Bool) (due : ℕ) (event : Event) (read : Fram
     (own next : ℕ) (ranks : Bool)
     (g : argument ≡ recordedArgument (event .kind) (event .argument) read)
     (a : after ≡ inputAfter before (event .kind) argument (event .time) mode)
-    (o : own ≡ dueOf after mode) (d : next ≡ lesser due own) (r : ranks ≡ seenAlike mode before after) where
+    (o : own ≡ dueOf after mode) (d : next ≡ lesser due own) (r : ranks ≡ seenAlike before after) where
   pub ownTake-alike : ranks ≡ true
       → ownOf after (event .time) next accepted Nothing ≡ ownTake before mode due event read
   unfolding ownTake
@@ -351,7 +350,7 @@ module _ (watch : Watch) (event : Event) (read : FrameRead) (zeroed : Input) (pl
       unfolding completed ownTake quickState quickDue quickAnswer
       put-taken t =
           rw (here, there, ← dueStep-quick watch event read (sym own-early ∙ none) y, t)
-          (byBool (seenAlike (watch .state .mode) (ownBefore (watch .state) event) (ownAfter (watch .state) event read))
+          (byBool (seenAlike (ownBefore (watch .state) event) (ownAfter (watch .state) event read))
           (λ r. rw r)
           (λ r. rw r))
 

@@ -42,7 +42,7 @@ ownTake before mode due event read =
     let after =
     inputAfter before (event .kind) (recordedArgument (event .kind) (event .argument) read) (event .time) mode
     in
-    ownOf after (event .time) (lesser due (dueOf after mode)) accepted (cond (seenAlike mode before after) Nothing Choice)
+    ownOf after (event .time) (lesser due (dueOf after mode)) accepted (cond (seenAlike before after) Nothing Choice)
 
 -- one event: refused at once; or left to be served; or a tick, which moves the time alone; or taken
 unfoldable pub ownStep : Input → Bool → ℕ → ℕ → Event → FrameRead → Own

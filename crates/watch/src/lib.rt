@@ -22,7 +22,7 @@ use numbers::KIND_TICK;
 use run::Forecast;
 use run::Run;
 use selector::Selector;
-use selector::candidate_for;
+use selector::seen_of;
 ghost use mathlib.Core.Path.{_≡_};
 ghost use Rattle.watch.specs.Due.{sumOrNever, lesser, waitDue, expiryDue, runDue, dueOf, dueOfAll, dueAnew};
 ghost use Rattle.watch.specs.Watch.{freshWatch, commands, isServed, seenAlike, servedWatch, watchStep};
@@ -169,12 +169,12 @@ fn is_served(due: u64, kind: u8, time: u64) -> bool
 }
 
 // Whether a choice sees two records of an input alike.
-fn seen_alike(mode: bool, before: Input, after: Input) -> bool
-    ensures { λ answer. ⌜ answer ≡ seenAlike mode before after ⌝ }
+fn seen_alike(before: Input, after: Input) -> bool
+    ensures { λ answer. ⌜ answer ≡ seenAlike before after ⌝ }
 {
-    let candidate = candidate_for(before, mode);
-    let other = candidate_for(after, mode);
-    candidate.is_like(other)
+    let seen = seen_of(before);
+    let other = seen_of(after);
+    seen.is_like(other)
 }
 
 // The plain step, and then what is next due made anew.
@@ -209,7 +209,7 @@ fn own_take(before: Input, mode: bool, due: u64, event: Event, read: FrameRead) 
     let own = due_of(input, mode);
     let next = lesser(due, own);
     let mut left = Left::Choice;
-    if seen_alike(mode, before, input) {
+    if seen_alike(before, input) {
         left = Left::Nothing;
     }
     Own {

@@ -5,11 +5,11 @@ use borrow.Author.Needs.{needs}
 use Rattle.watch.proofs.seen_alike.Statement.{statement}
 use Rattle.watch.proofs.seen_alike.Tie as tie
 
-candidate-for-requires : tie.Need-candidate-for-requires
-candidate-for-requires c κs = search needs
+seen-of-requires : tie.Need-seen-of-requires
+seen-of-requires c κs = search needs
 
-candidate-for-requires-2 : tie.Need-candidate-for-requires-2
-candidate-for-requires-2 c κs = search needs
+seen-of-requires-2 : tie.Need-seen-of-requires-2
+seen-of-requires-2 c κs = search needs
 
 is-like-requires : tie.Need-is-like-requires
 is-like-requires c κs = search needs
@@ -19,4 +19,4 @@ returns c = search seenAlike-laws
 
 pub seen-alike-spec : {M : Type 1} → statement M
 seen-alike-spec =
-    tie.close (tie.spec candidate-for-requires candidate-for-requires-2 is-like-requires returns)
+    tie.close (tie.spec seen-of-requires seen-of-requires-2 is-like-requires returns)

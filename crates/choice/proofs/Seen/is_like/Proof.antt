@@ -1,15 +1,12 @@
--- `choice::Candidate::is_like` meets its contract: each way is a law.
+-- `choice::Seen::is_like` meets its contract: each way is a law.
 -- Assumes nothing.
 use Rattle.choice.proofs.Laws.{isLike-laws}
 use borrow.Author.Needs.{needs}
-use Rattle.choice.proofs.Candidate.is_like.Statement.{statement}
-use Rattle.choice.proofs.Candidate.is_like.Tie as tie
+use Rattle.choice.proofs.Seen.is_like.Statement.{statement}
+use Rattle.choice.proofs.Seen.is_like.Tie as tie
 
 are-alike-requires : tie.Need-are-alike-requires
 are-alike-requires c κs = search needs
-
-are-alike-requires-2 : tie.Need-are-alike-requires-2
-are-alike-requires-2 c κs = search needs
 
 returns : tie.Need-returns
 returns c = search isLike-laws
@@ -24,5 +21,4 @@ returns-4 : tie.Need-returns-4
 returns-4 c = search isLike-laws
 
 pub is-like-spec : {M : Type 1} → statement M
-is-like-spec =
-    tie.close (tie.spec are-alike-requires are-alike-requires-2 returns returns-2 returns-3 returns-4)
+is-like-spec = tie.close (tie.spec are-alike-requires returns returns-2 returns-3 returns-4)
