@@ -59,11 +59,13 @@ withDecision state decision =
       held = decision .held;
     }
 
+-- what "the switch judged, the choice made" come to
+abbrev pub decisionOf : Selector → Decision
+decisionOf state = decide (candidatesOf (state .inputs) (state .mode)) (state .switch) (state .selection) (state .held)
+
 -- "the switch judged, the choice made"
 unfoldable pub decided : Selector → Selector
-decided state =
-    withDecision state
-    (decide (candidatesOf (state .inputs) (state .mode)) (state .switch) (state .selection) (state .held))
+decided state = withDecision state (decisionOf state)
 
 -- the state with all inputs brought to a time
 abbrev pub broughtTo : Selector → ℕ → Selector
