@@ -68,8 +68,8 @@
  * cards and senders can be compared by memcmp() and summed by a checksum.
  *
  * Stack, in bytes, measured from the call on, with what C passes by value: nurrispane_fresh 3,032,
- * nurrispane_step 12,024, nurrispane_step_in_place 12,040, nurrispane_outgoing_codes 3,096,
- * nurrispane_write_frame 3,144, nurrispane_fresh_senders 1,560, nurrispane_ask_in_place 6,328.
+ * nurrispane_step 12,024, nurrispane_step_in_place 12,056, nurrispane_outgoing_codes 3,112,
+ * nurrispane_write_frame 3,160, nurrispane_fresh_senders 1,560, nurrispane_ask_in_place 6,328.
  * tests/card measures it anew and holds it to NURRISPANE_STACK.
  */
 #ifndef NURRISPANE_H
@@ -148,7 +148,8 @@ enum nurrispane_number {
     NURRISPANE_REFUSED_MANUAL_NOT_ELIGIBLE = 16,  /* manual: input not eligible */
     NURRISPANE_REFUSED_MANUAL_LOWER_QUALITY = 17, /* manual: an eligible input has lower quality */
     NURRISPANE_REFUSED_BUFFER_TOO_SHORT = 18,     /* frame buffer under 60 octets */
-    NURRISPANE_REFUSED_SOURCE_NOT_SIX = 19        /* source address not six octets */
+    NURRISPANE_REFUSED_SOURCE_NOT_SIX = 19,       /* source address not six octets */
+    NURRISPANE_REFUSED_OUTPUT_TOO_SHORT = 20      /* for programs that read logs: not given here */
 };
 
 /* The clock states. */
