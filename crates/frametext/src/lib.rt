@@ -80,18 +80,11 @@ fn flag_digit(event: bool) -> u8
     if event { b'1' } else { b'0' }
 }
 
-// The line of a frame that is accepted.
-fn code_line(code: u8, event: bool, source: [u8; 6]) -> MessageLine
-    ensures { λ answer. ⌜ answer ≡ inFront (codeText code event source) ⌝ }
+// The twelve digits of an address.
+fn address_digits(source: [u8; 6]) -> [u8; 12]
+    ensures { λ answer. ⌜ answer ≡ digitsOf source ⌝ }
 {
-    let text = [
-        digits::upper_digit(ACCEPTED),
-        digits::lower_digit(ACCEPTED),
-        SPACE,
-        digits::lower_digit(code),
-        SPACE,
-        flag_digit(event),
-        SPACE,
+    [
         digits::upper_digit(source[0]),
         digits::lower_digit(source[0]),
         digits::upper_digit(source[1]),
@@ -104,6 +97,34 @@ fn code_line(code: u8, event: bool, source: [u8; 6]) -> MessageLine
         digits::lower_digit(source[4]),
         digits::upper_digit(source[5]),
         digits::lower_digit(source[5]),
+    ]
+}
+
+// The line of a frame that is accepted.
+fn code_line(code: u8, event: bool, source: [u8; 6]) -> MessageLine
+    ensures { λ answer. ⌜ answer ≡ inFront (codeText code event source) ⌝ }
+{
+    let address = address_digits(source);
+    let text = [
+        digits::upper_digit(ACCEPTED),
+        digits::lower_digit(ACCEPTED),
+        SPACE,
+        digits::lower_digit(code),
+        SPACE,
+        flag_digit(event),
+        SPACE,
+        address[0],
+        address[1],
+        address[2],
+        address[3],
+        address[4],
+        address[5],
+        address[6],
+        address[7],
+        address[8],
+        address[9],
+        address[10],
+        address[11],
         LINE_FEED,
     ];
     MessageLine { text, length: 20 }
