@@ -63,7 +63,8 @@ loop-again c =
     let line = l .before .before .args .line .now in
     let left : l .loop .passed * 2 + 2 ≤ length line = omega arith in (
       search needs,
-      octets-next line (l .loop .passed) _ _ (c .before .before .before .loop-test .taken) (l .before .before .pre .1) (l .loop .inv .1)
+      octets-next line (l .loop .passed) _ _ (c .before .before .before .loop-test .taken)
+          (l .before .before .pre .1) (l .loop .inv .1)
           (c .octet-of .ensures ∙ sym (octetsOf-at (l .loop .passed) line left)),
     )
 
