@@ -63,9 +63,9 @@
  *   SSE2 registers included. It needs memcpy and memmove: no heap, no floating point, no operating
  *   system. It is 20 KB of code and constants, with no data that is written. No call waits.
  *
- * Sizes, in bytes: a card 664, aligned to 8; an input 40; an answer 6; the codes 16; the senders
- * 1,544, aligned to 8; one sender 96. There is no padding in any of them, so cards and senders can
- * be compared by memcmp() and summed by a checksum.
+ * Sizes, in bytes: a card 664, aligned to 8; an input 40; an answer 6; the codes 16; a frame that
+ * was read 9; the senders 1,544, aligned to 8; one sender 96. There is no padding in any of them, so
+ * cards and senders can be compared by memcmp() and summed by a checksum.
  *
  * Stack, in bytes, measured from the call on, with what C passes by value: nurrispane_fresh 3,032,
  * nurrispane_step 12,024, nurrispane_step_in_place 12,056, nurrispane_outgoing_codes 3,112,
@@ -252,6 +252,16 @@ struct nurrispane_senders {
 };
 
 /*
+ * What a received frame says. A frame that is refused tells its number and no more: all else is 0.
+ */
+struct nurrispane_frame {
+    uint8_t number;                           /* NURRISPANE_ACCEPTED, or the smallest of 8 to 13 */
+    uint8_t code;                             /* 0 to 15 */
+    uint8_t event;                            /* the event flag: 1 set, 0 not */
+    uint8_t source[NURRISPANE_SOURCE_OCTETS]; /* who sent it */
+};
+
+/*
  * A fresh card: time 0, quality mode on, no switch, nothing selected; each input a line with
  * priority 0, hold-off 300 ms, wait 5 minutes, sending on, its signal failing. Its answer is that
  * of an accepted event on such a state: 00 ff 00 04 00 ff.
@@ -279,6 +289,12 @@ void nurrispane_step_in_place(struct nurrispane_card *card, uint8_t kind, uint64
  * code of the clock quality.
  */
 struct nurrispane_codes nurrispane_outgoing_codes(struct nurrispane_card card);
+
+/*
+ * Reads a received frame, from its destination address on, without FCS, for whoever wants to know
+ * who sent it. A step reads the frame that it is lent by itself, and records its code alone.
+ */
+struct nurrispane_frame nurrispane_read_frame(const uint8_t *frame, size_t frame_length);
 
 /*
  * Writes the ESMC frame that tells `port`'s outgoing code into the first 60 octets of `buffer`,
@@ -356,6 +372,11 @@ NURRISPANE_HOLDS(offsetof(struct nurrispane_card, answer) == 654);
 NURRISPANE_HOLDS(offsetof(struct nurrispane_card, served) == 660);
 NURRISPANE_HOLDS(NURRISPANE_ALIGNMENT(struct nurrispane_card) == 8);
 NURRISPANE_HOLDS(sizeof(struct nurrispane_codes) == 16);
+NURRISPANE_HOLDS(sizeof(struct nurrispane_frame) == 9);
+NURRISPANE_HOLDS(offsetof(struct nurrispane_frame, number) == 0);
+NURRISPANE_HOLDS(offsetof(struct nurrispane_frame, code) == 1);
+NURRISPANE_HOLDS(offsetof(struct nurrispane_frame, event) == 2);
+NURRISPANE_HOLDS(offsetof(struct nurrispane_frame, source) == 3);
 NURRISPANE_HOLDS(sizeof(struct nurrispane_sender) == 96);
 NURRISPANE_HOLDS(offsetof(struct nurrispane_sender, times) == 0);
 NURRISPANE_HOLDS(offsetof(struct nurrispane_sender, asked) == 80);

@@ -190,7 +190,10 @@ fn tick(selector: &mut Selector, time: Time, counts: &mut Counts) {
     counts.add_if(Item::SixteenDueMoments, served >= 16);
     counts.add_if(Item::Forty8DueMoments, served == 48);
     counts.add_if(Item::SeveralSelections, selections > 1);
-    counts.add_if(Item::WinnerByTurn, ticked.selected != with_one_choice.selected);
+    counts.add_if(
+        Item::WinnerByTurn,
+        ticked.selected != with_one_choice.selected,
+    );
     let fell_between = ticked.switch != with_one_choice.switch;
     counts.add_if(Item::ManualCancelledBetween, fell_between);
     let locked_now = ticked.clock_state == ClockState::Locked;
@@ -218,7 +221,10 @@ fn count_due(selector: &Selector, counts: &mut Counts) {
         inputs_due += u64::from(expires || ends);
         let covered = !selector.quality_mode || input.fixed.is_some();
         counts.add_if(Item::ExpiryUnderCover, expires && covered);
-        counts.add_if(Item::NeedlessTimer, ends && input.raw.failed() == input.down);
+        counts.add_if(
+            Item::NeedlessTimer,
+            ends && input.raw.failed() == input.down,
+        );
     }
     counts.add_if(Item::NotDistinct, inputs_due > 1);
 }

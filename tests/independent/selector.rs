@@ -249,7 +249,10 @@ impl Input {
     /// ending, a wait ending". L4: "a frame expires whatever the mode or fixed quality, a
     /// timer ends at run start plus setting, needed or not"; readings: the present run's own.
     fn due(&self, after: Time) -> Time {
-        let expires = self.heard.frame.map_or(NEVER, |(_, came)| came + FRAME_LIFE);
+        let expires = self
+            .heard
+            .frame
+            .map_or(NEVER, |(_, came)| came + FRAME_LIFE);
         let timer = if self.raw.failed() {
             self.hold_off
         } else {

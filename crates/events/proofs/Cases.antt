@@ -3,7 +3,7 @@ use mathlib.Core.Path.{refl}
 use Rattle.numbers.specs.Quality.{qualityOfCode}
 use Rattle.numbers.specs.Kind.{kindOf, isArgumentOut, isInputOut}
 use Rattle.frame.specs.Octets.{same}
-use Rattle.frame.specs.Read.{rightLength, rightDestination, rightProtocol, rightOrganisation, rightVersion, rightTlv, frameNumber, readFrame}
+use Rattle.frame.specs.Read.{rightLength, rightDestination, rightProtocol, rightOrganisation, rightVersion, rightTlv, frameNumber, readCode}
 use Rattle.run.specs.Run.{isExpired, rawAt, runStart, isUpAfter, lastGood, atMoment, upBefore, broughtTo, passedQuality}
 use Rattle.input.specs.Record.{countAfter, lineAfter, heardAfter, settingsAfter, qualityNow, canExpire, forecast, settle, tick, afterEvent, takes, recordAfter}
 use Rattle.choice.specs.Candidate.{isUsable, isWithin, isAdmitted, rankedQuality, candidateOf, isEligible, isBetter, isLower, lowerAmong}
@@ -28,6 +28,6 @@ unfolding
     choose scanned offered seeded lowerAmong isLower isBetter isEligible candidateOf rankedQuality isAdmitted isUsable isWithin
     recordAfter takes afterEvent tick settle forecast canExpire qualityNow settingsAfter heardAfter lineAfter countAfter
     passedQuality broughtTo upBefore atMoment lastGood isUpAfter runStart rawAt isExpired
-    readFrame frameNumber rightLength rightDestination rightProtocol rightOrganisation rightVersion rightTlv same
+    readCode frameNumber rightLength rightDestination rightProtocol rightOrganisation rightVersion rightTlv same
     qualityOfCode
 most-reached = record { reached = refl }
