@@ -1,6 +1,5 @@
 -- `salvage::put_salvaged` meets its contract: what is printed where both fit, and where one does not.
 -- Assumes nothing.
-use Prim.Native.Nat.{_≤_}
 use mathlib.Core.Path.{sym}
 use native.Mathlib.Omega.{arith}
 use borrow.Author.Needs.{needs}
@@ -33,11 +32,13 @@ same-length-3 c = search needs
 
 returns : tie.Need-returns
 returns c =
-    printed-refused _ _ _ _ _ _ (c .before .before .before .before .before .before .before .before .before .before .before .salvage .ensures) _ _ _
+    printed-refused _ _ _ _ _ _ (c .before .before .before .before .before .before .before .before .before .before
+    .before .salvage .ensures) _ _ _
     (c .before .before .before .before .before .if1 .taken) (c .before .before .put-head .ensures)
 
 slice-reshare-prefix-put-head-2 : tie.Need-slice-reshare-prefix-put-head-2
-slice-reshare-prefix-put-head-2 c = reported-within _ _ _ _ _ _ (c .before .before .before .before .before .before .salvage .ensures) (c .if1 .left)
+slice-reshare-prefix-put-head-2 c = reported-within _ _ _ _ _ _ (c .before .before .before .before .before .before
+    .salvage .ensures) (c .if1 .left)
 
 slice-aggregate-put-head-2 : tie.Need-slice-aggregate-put-head-2
 slice-aggregate-put-head-2 c = sym (length-take-le _ _ (slice-reshare-prefix-put-head-2 (c .before)))
@@ -66,7 +67,8 @@ same-length-6 c = search needs
 
 returns-2 : tie.Need-returns-2
 returns-2 c =
-    printed-kept _ _ _ _ _ _ (c .before .before .before .before .before .before .before .before .before .before .before .salvage .ensures) _ _ _
+    printed-kept _ _ _ _ _ _ (c .before .before .before .before .before .before .before .before .before .before
+    .before .salvage .ensures) _ _ _
     (c .before .before .before .before .before .if1 .left) (c .before .before .put-head2 .ensures)
 
 pub put-salvaged-spec : {M : Type 1} → statement M
