@@ -78,7 +78,5 @@ fn hex_or_dash(octets: &[u8]) -> String {
     if octets.is_empty() {
         return "-".to_string();
     }
-    let mut digits = Vec::new();
-    hex::write_octets(octets, &mut digits);
-    digits.into_iter().map(char::from).collect()
+    hex::digits(octets)
 }
