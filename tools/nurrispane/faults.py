@@ -1,0 +1,164 @@
+"""The known faults: wrong copies of the independent program, and what each does to a log.
+
+tests/independent/wrong-copies*.txt list them: a name, the mode in which the fault shows if it isn't
+`replay`, and edits of the program's text. A copy is built once and kept below target/, under a name
+made of its text, so that it is built anew where anything of it has changed.
+"""
+
+import collections
+import hashlib
+import os
+import pathlib
+import shutil
+import subprocess
+import tempfile
+
+from nurrispane import answers, programs
+from nurrispane.files import ROOT, Trouble, reason
+
+SOURCES = ROOT / "tests" / "independent"
+BUILT = ROOT / "target" / "known-faults"
+# Not optimised: a build is quick, and no check is in it that the program doesn't have.
+FLAGS = "-C opt-level=0 -C debug-assertions=off -C overflow-checks=off -C strip=symbols --edition 2021 -A warnings"
+# A copy that takes longer has lost its way; that shows.
+PATIENCE = 60
+# What a card shows: its answers, and the codes on its ports. A fault's own mode is added.
+SHOWN = ("replay", "outgoing")
+
+Fault = collections.namedtuple("Fault", "name mode edits")
+# Where a fault shows first in a log: the line from 1, and what is right and what the fault says there.
+Found = collections.namedtuple("Found", "fault mode line right wrong")
+
+
+def lists():
+    """The files that list known faults, the independent program's own first."""
+    return sorted(SOURCES.glob("wrong-copies*.txt"), key=lambda path: len(path.name))
+
+
+def known():
+    """Every known fault, in the order of the lists."""
+    faults = []
+    for path in lists():
+        for text in path.read_text().splitlines():
+            mark, rest = text[:1], text[2:]
+            if mark == "#":
+                name, _, mode = rest.partition(" (")
+                faults.append(Fault(name, mode.rstrip(")") or "replay", []))
+            elif mark == "@":
+                faults[-1].edits.append((rest, [], []))
+            elif mark in ("<", ">"):
+                faults[-1].edits[-1][1 if mark == "<" else 2].append(rest)
+    return faults
+
+
+RIGHT = Fault("no fault", "replay", [])
+
+
+def sources(fault):
+    """The text of each file of the program with this fault."""
+    texts = {path.name: path.read_text() for path in sorted(SOURCES.glob("*.rs"))}
+    for name, old, new in fault.edits:
+        old = "\n".join(old)
+        if old not in texts.get(name, ""):
+            raise Trouble("known fault \"%s\": %s has no longer the text it changes" % (fault.name, name))
+        texts[name] = texts[name].replace(old, "\n".join(new), 1)
+    return texts
+
+
+def key(fault, added=None):
+    """A name made of the text of the program with this fault."""
+    parts = [part for named in sorted({**sources(fault), **(added or {})}.items()) for part in named]
+    return hashlib.sha256("\0".join([FLAGS] + parts).encode()).hexdigest()[:24]
+
+
+def path_of(fault, added=None):
+    return BUILT / key(fault, added)
+
+
+def build(fault, added=None):
+    """The path of the built program; `added` are files beside its own."""
+    program = path_of(fault, added)
+    if program.exists():
+        return program
+    if not shutil.which("rustc"):
+        raise Trouble("rustc is not there, so the known faults cannot be built")
+    try:
+        BUILT.mkdir(parents=True, exist_ok=True)
+        with tempfile.TemporaryDirectory(dir=BUILT) as directory:
+            for name, text in {**sources(fault), **(added or {})}.items():
+                (pathlib.Path(directory) / name).write_text(text)
+            made = os.path.join(directory, "made")
+            call = ["rustc", *FLAGS.split(), os.path.join(directory, "main.rs"), "-o", made]
+            said = subprocess.run(call, capture_output=True)
+            if said.returncode != 0:
+                what = said.stderr.decode(errors="replace").strip().splitlines()
+                raise Trouble("known fault \"%s\" does not compile: %s" % (fault.name, what[0] if what else "no reason"))
+            os.replace(made, program)
+    except OSError as error:
+        raise Trouble("known fault \"%s\" cannot be built: %s" % (fault.name, reason(error))) from error
+    return program
+
+
+def run(program, mode, data):
+    """What a copy says to a log, line by line; None where it doesn't end or has no such mode."""
+    try:
+        said = subprocess.run([str(program), mode], input=data, capture_output=True, timeout=PATIENCE)
+    except subprocess.TimeoutExpired:
+        return None
+    return said.stdout.split(b"\n")[:-1] if said.returncode == 0 else None
+
+
+class Reference:
+    """The right answers of a log: the proved programs' where there is one for the mode, and the independent
+    program's otherwise. Where both are there they have to agree."""
+
+    def __init__(self, data):
+        self.data, self.right = data, {}
+        self.independent = build(RIGHT)
+
+    def lines(self, mode):
+        """Line by line, or None where a log cannot show this mode."""
+        if mode not in self.right:
+            said = run(self.independent, mode, self.data)
+            if mode in SHOWN:
+                proved = programs.answers(mode, self.data)
+                place = first_difference(proved, said or [])
+                if place is not None:
+                    raise Trouble("line %d: the independent program and the proved %s differ" % (place + 1, mode))
+            self.right[mode] = said
+        return self.right[mode]
+
+
+def first_difference(one, other):
+    """The first place at which two lists differ, or None."""
+    for place, (first, second) in enumerate(zip(one, other)):
+        if first != second:
+            return place
+    return None if len(one) == len(other) else min(len(one), len(other))
+
+
+def modes(fault):
+    return SHOWN + ((fault.mode,) if fault.mode not in SHOWN else ())
+
+
+def find(fault, reference):
+    """Where a log shows a fault first: in its answers, otherwise in the outgoing codes or the fault's own mode. None
+    where it doesn't."""
+    program = build(fault)
+    for mode in modes(fault):
+        right = reference.lines(mode)
+        if right is None:
+            continue
+        wrong = run(program, mode, reference.data)
+        place = first_difference(right, wrong or [])
+        if place is not None:
+            at = lambda lines: lines[place] if lines is not None and place < len(lines) else b""
+            return Found(fault, mode, place + 1, at(right), at(wrong))
+    return None
+
+
+def in_words(mode, line):
+    """An answer, codes or a count as they are told."""
+    if line == b"":
+        return "nothing"
+    return answers.words(line) if mode == "replay" else "%s %s" % (mode, line.decode(errors="replace"))

@@ -1,0 +1,98 @@
+"""The proved programs, run on a log; what they answer is counted line by line."""
+
+import subprocess
+import sys
+import threading
+
+from nurrispane.files import ROOT, Trouble, name_of, reason, standard
+
+CHUNK = 1 << 16
+
+
+def ready(name):
+    """Proves and builds a program where that has not been done."""
+    built = subprocess.run([str(ROOT / ".ci" / "built"), name], stdin=subprocess.DEVNULL, capture_output=True)
+    if built.returncode != 0:
+        said = (built.stdout + built.stderr).decode(errors="replace").strip().splitlines()
+        raise Trouble(said[-1] if said else "%s is not built" % name)
+
+
+def command(name):
+    return [str(ROOT / ".ci" / "program"), name]
+
+
+class LineCount:
+    """How many lines some bytes have, handed over in pieces."""
+
+    def __init__(self):
+        self.ended, self.open = 0, False
+
+    def take(self, piece):
+        self.ended += piece.count(b"\n")
+        self.open = not piece.endswith(b"\n") if piece else self.open
+
+    def lines(self):
+        return self.ended + self.open
+
+
+def stream(name, source, sink):
+    """Hands a log from a file to a program and its output on to `sink`, piece by piece.
+
+    A line that is not answered, or an answer that is not whole, is trouble."""
+    ready(name)
+    asked, told, failed = LineCount(), LineCount(), []
+    process = subprocess.Popen(command(name), stdin=subprocess.PIPE, stdout=subprocess.PIPE)
+
+    def feed():
+        try:
+            while piece := source.read(CHUNK):
+                asked.take(piece)
+                process.stdin.write(piece)
+            process.stdin.close()
+        except BrokenPipeError:
+            pass  # the program ended early: the count tells
+        except OSError as error:
+            failed.append("the log cannot be read: %s" % reason(error))
+            process.kill()
+
+    feeder = threading.Thread(target=feed, daemon=True)
+    feeder.start()
+    try:
+        while piece := process.stdout.read1(CHUNK):
+            told.take(piece)
+            sink(piece)
+    except BaseException:
+        process.kill()
+        raise
+    feeder.join()
+    status = process.wait()
+    if failed:
+        raise Trouble(failed[0])
+    if status != 0:
+        raise Trouble("the program %s ended with status %d" % (name, status))
+    if told.open or told.ended != asked.lines():
+        raise Trouble("the program %s answered %d of %d lines" % (name, told.ended, asked.lines()))
+
+
+def answers(name, data):
+    """The program's output for a log, line by line."""
+    ready(name)
+    run = subprocess.run(command(name), input=data, capture_output=True)
+    asked = LineCount()
+    asked.take(data)
+    lines = run.stdout.split(b"\n")
+    if run.returncode != 0:
+        raise Trouble("the program %s ended with status %d" % (name, run.returncode))
+    if lines[-1] != b"" or len(lines) - 1 != asked.lines():
+        raise Trouble("the program %s answered %d of %d lines" % (name, len(lines) - 1, asked.lines()))
+    return lines[:-1]
+
+
+def opened(path):
+    """A log to read piece by piece; "-" is standard input."""
+    if str(path) == "-":
+        return standard(sys.stdin, "input")
+    try:
+        return open(path, "rb", buffering=0)
+    except OSError as error:
+        raise Trouble("%s cannot be read: %s" % (name_of(path), reason(error))) from error
