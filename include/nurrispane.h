@@ -2,18 +2,21 @@
  * The clock selector of a timing card, for C firmware.
  *
  * The firmware holds the selector's whole state as one plain struct and makes one call for each
- * event. What each function does with any card, event, frame and buffer is proved of its code
- * (crates/card); the library itself is what `rt staticlib card` writes, libcard.a. Words and
- * numbers are those of document 01.
+ * event; its senders, one a port, are another, with one call for each question whether a frame is
+ * to be sent. What each function does with any card, senders, event, frame and buffer is proved of
+ * its code (crates/card, crates/sender); the library itself is what `rt staticlib card` writes,
+ * libcard.a. Words and numbers are those of documents 01 and 02.
  *
  *     #include "nurrispane.h"
  *     void clock_follow(uint8_t input);
  *     void port_send(uint8_t port, const uint8_t *frame, size_t length);
  *     static struct nurrispane_card card;
+ *     static struct nurrispane_senders senders;
  *
  *     void on_start(void)
  *     {
  *         card = nurrispane_fresh();
+ *         senders = nurrispane_fresh_senders();
  *         nurrispane_step_in_place(&card, NURRISPANE_EVENT_PRIORITY, 0, 3, 1, NURRISPANE_NO_FRAME, 0);
  *     }
  *     void on_frame(uint64_t ms, uint8_t port, const uint8_t *frame, size_t length)
@@ -22,11 +25,14 @@
  *         if (card.answer.number == NURRISPANE_ACCEPTED)
  *             clock_follow(card.answer.selected);
  *     }
- *     void on_second(uint8_t port, const uint8_t source[6])
+ *     void on_timer(uint64_t ms, const uint8_t source[6])
  *     {
  *         uint8_t frame[NURRISPANE_FRAME_OCTETS];
- *         if (nurrispane_write_frame(card, port, 0, source, 6, frame, sizeof frame) == 0)
- *             port_send(port, frame, sizeof frame);
+ *         for (uint8_t port = 0; port < NURRISPANE_INPUTS; port++) {
+ *             nurrispane_ask_in_place(&senders, card, port, ms, source, 6, frame, sizeof frame);
+ *             if (senders.frame != NURRISPANE_HEARTBEAT_NOTHING)
+ *                 port_send(port, frame, sizeof frame);
+ *         }
  *     }
  *
  * What C owes
@@ -37,11 +43,14 @@
  *   with no pointer in it: copy it, keep it, send it to a standby card of the same byte order, go
  *   back to an older copy. A card that was filled in any other way is safe too: every field is a
  *   plain number and every value of it is answered for, but the answers may be wrong.
+ * - The senders. Likewise from nurrispane_fresh_senders() on, each call handing on what the last
+ *   one left, unchanged but for `number` and `frame`, which no function reads. They stand beside
+ *   the card and hold nothing of it: a question brings the card, and takes its state as it is.
  * - Pointers. None may be NULL, also where its length is 0 (NURRISPANE_NO_FRAME is there for that).
- *   Each must be good for as many octets as the length says, and `card` for sizeof *card. A card is
- *   aligned to 8, as C aligns it by itself; octets need no alignment.
+ *   Each must be good for as many octets as the length says, `card` for sizeof *card and `senders` for
+ *   sizeof *senders. Both are aligned to 8, as C aligns them by itself; octets need no alignment.
  * - Ownership. Nothing is kept after a call returns: no pointer, no static data. What is lent for
- *   writing (`card` in place, `buffer`) is nobody else's during the call and overlaps nothing else
+ *   writing (`card` or `senders` in place, `buffer`) is nobody else's during the call and overlaps nothing else
  *   that is lent. Calls on different cards may run at the same time; an interrupt may make calls on
  *   a card of its own.
  * - Time. Milliseconds from any zero, below 2^48 and never falling; else the event is refused. Each
@@ -52,14 +61,16 @@
  *   time that a call takes.
  * - The machine. libcard.a is for x86-64 with the System V calling convention, its red zone and its
  *   SSE2 registers included. It needs memcpy and memmove: no heap, no floating point, no operating
- *   system. It is 18 KB of code and constants, with no data that is written. No call waits.
+ *   system. It is 20 KB of code and constants, with no data that is written. No call waits.
  *
- * Sizes, in bytes: a card 536, aligned to 8; an input 32; an answer 6; the codes 16. There is no
- * padding in any of them, so cards can be compared by memcmp() and summed by a checksum.
+ * Sizes, in bytes: a card 536, aligned to 8; an input 32; an answer 6; the codes 16; the senders
+ * 1,544, aligned to 8; one sender 96. There is no padding in any of them, so cards and senders can
+ * be compared by memcmp() and summed by a checksum.
  *
  * Stack, in bytes, measured from the call on, with what C passes by value: nurrispane_fresh 3,032,
- * nurrispane_step 10,808, nurrispane_step_in_place 10,840, nurrispane_outgoing_codes 3,112,
- * nurrispane_write_frame 3,160. tests/card measures it anew and holds it to NURRISPANE_STACK.
+ * nurrispane_step 12,024, nurrispane_step_in_place 12,056, nurrispane_outgoing_codes 3,112,
+ * nurrispane_write_frame 3,160, nurrispane_fresh_senders 1,560, nurrispane_ask_in_place 6,328.
+ * tests/card measures it anew and holds it to NURRISPANE_STACK.
  */
 #ifndef NURRISPANE_H
 #define NURRISPANE_H
@@ -137,15 +148,15 @@ enum nurrispane_number {
     NURRISPANE_REFUSED_MANUAL_NOT_ELIGIBLE = 16,  /* manual: input not eligible */
     NURRISPANE_REFUSED_MANUAL_LOWER_QUALITY = 17, /* manual: an eligible input has lower quality */
     NURRISPANE_REFUSED_BUFFER_TOO_SHORT = 18,     /* frame buffer under 60 octets */
-    NURRISPANE_REFUSED_SOURCE_NOT_SIX = 19        /* source address not six octets */
+    NURRISPANE_REFUSED_SOURCE_NOT_SIX = 19,       /* source address not six octets */
+    NURRISPANE_REFUSED_OUTPUT_TOO_SHORT = 20      /* for programs that read logs: not given here */
 };
 
 /* The clock states. */
 enum nurrispane_clock_state {
     NURRISPANE_FREE_RUN = 0,
     NURRISPANE_HOLDOVER = 1,
-    NURRISPANE_LOCKED = 2,
-    NURRISPANE_MANUAL_INELIGIBLE = 3
+    NURRISPANE_LOCKED = 2
 };
 
 /* The operator's switch. */
@@ -213,6 +224,28 @@ struct nurrispane_codes {
     uint8_t codes[NURRISPANE_INPUTS];
 };
 
+/* One port's sender: to be read if need be, never to be written. */
+struct nurrispane_sender {
+    uint64_t times[10]; /* of the last ten frames, the latest first, ms */
+    uint64_t asked;     /* when the last question was accepted, ms */
+    uint32_t code;      /* that of the last frame */
+    uint32_t sent;      /* how many frames, 10 for any more */
+};
+
+/* What a question was answered with. */
+enum nurrispane_heartbeat {
+    NURRISPANE_HEARTBEAT_NOTHING = 0,
+    NURRISPANE_HEARTBEAT_INFORMATION = 1,
+    NURRISPANE_HEARTBEAT_EVENT = 2
+};
+
+/* The senders of the sixteen ports, and the answer to the last question. */
+struct nurrispane_senders {
+    struct nurrispane_sender ports[NURRISPANE_INPUTS];
+    uint32_t number; /* NURRISPANE_ACCEPTED, or the number of the refusal */
+    uint32_t frame;  /* enum nurrispane_heartbeat; NURRISPANE_HEARTBEAT_NOTHING for a refusal */
+};
+
 /*
  * A fresh card: time 0, quality mode on, no switch, nothing selected; each input a line with
  * priority 0, hold-off 300 ms, wait 5 minutes, sending on, its signal failing. Its answer is that
@@ -253,6 +286,28 @@ uint8_t nurrispane_write_frame(struct nurrispane_card card, uint8_t port, uint8_
                                const uint8_t *source, size_t source_length, uint8_t *buffer,
                                size_t buffer_length);
 
+/* Fresh senders: nothing sent, nothing asked, no frame answered. */
+struct nurrispane_senders nurrispane_fresh_senders(void);
+
+/*
+ * Asks `port`'s sender at a time whether a frame is to be sent, with the card as it stands; the
+ * time need not be the card's. An information frame the first time; an event frame when the port's
+ * outgoing code differs from that of its last frame; otherwise an information frame when 1,000 ms
+ * or more have passed since its last frame; and nothing while ten of its frames are less than 1,000
+ * ms old. `senders->frame` says which. A frame stands in the first 60 octets of `buffer`, as
+ * nurrispane_write_frame() has it, and what is past these stays; otherwise the buffer stays as it
+ * was. Each port has its own sender, which no question to another port touches.
+ *
+ * Refused, due or not, with the smallest of these in `senders->number`, and then sender and buffer
+ * stay as they were: NURRISPANE_REFUSED_TIME_TOO_LARGE, NURRISPANE_REFUSED_TIME_BEFORE_STATE for a
+ * time earlier than the port's last question that was not refused,
+ * NURRISPANE_REFUSED_INPUT_OUT_OF_RANGE for a port above 15, NURRISPANE_REFUSED_BUFFER_TOO_SHORT,
+ * NURRISPANE_REFUSED_SOURCE_NOT_SIX.
+ */
+void nurrispane_ask_in_place(struct nurrispane_senders *senders, struct nurrispane_card card,
+                             uint8_t port, uint64_t time, const uint8_t *source,
+                             size_t source_length, uint8_t *buffer, size_t buffer_length);
+
 /* The layout that the library was built with. */
 NURRISPANE_HOLDS(sizeof(struct nurrispane_input) == 32);
 NURRISPANE_HOLDS(offsetof(struct nurrispane_input, framed) == 0);
@@ -292,6 +347,16 @@ NURRISPANE_HOLDS(offsetof(struct nurrispane_card, answer) == 526);
 NURRISPANE_HOLDS(offsetof(struct nurrispane_card, served) == 532);
 NURRISPANE_HOLDS(NURRISPANE_ALIGNMENT(struct nurrispane_card) == 8);
 NURRISPANE_HOLDS(sizeof(struct nurrispane_codes) == 16);
+NURRISPANE_HOLDS(sizeof(struct nurrispane_sender) == 96);
+NURRISPANE_HOLDS(offsetof(struct nurrispane_sender, times) == 0);
+NURRISPANE_HOLDS(offsetof(struct nurrispane_sender, asked) == 80);
+NURRISPANE_HOLDS(offsetof(struct nurrispane_sender, code) == 88);
+NURRISPANE_HOLDS(offsetof(struct nurrispane_sender, sent) == 92);
+NURRISPANE_HOLDS(sizeof(struct nurrispane_senders) == 1544);
+NURRISPANE_HOLDS(offsetof(struct nurrispane_senders, ports) == 0);
+NURRISPANE_HOLDS(offsetof(struct nurrispane_senders, number) == 1536);
+NURRISPANE_HOLDS(offsetof(struct nurrispane_senders, frame) == 1540);
+NURRISPANE_HOLDS(NURRISPANE_ALIGNMENT(struct nurrispane_senders) == 8);
 
 #undef NURRISPANE_HOLDS
 #undef NURRISPANE_ALIGNMENT

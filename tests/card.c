@@ -1,7 +1,8 @@
 /*
  * Holds the library to include/nurrispane.h: every field lies where the header says, the two forms
  * of a step agree, a refusal keeps what it must, any card is safe, frames are written as they are
- * read, and no call takes more stack than the header says. tests/card builds and runs it.
+ * read, senders answer as document 02 says, and no call takes more stack than the header says.
+ * tests/card builds and runs it.
  */
 #include <stdio.h>
 #include <stdlib.h>
@@ -261,7 +262,9 @@ static void check_events(void)
         CHECK(card.answer.number < 18);
         numbers[card.answer.number]++;
         if (card.answer.number >= 2 && card.answer.number <= 13) {
+            CHECK(card.served == 0);
             before.answer = card.answer;
+            before.served = card.served;
             CHECK(same(&card, &before));
         } else {
             CHECK(card.time == call.time);
@@ -305,6 +308,135 @@ static void check_cards(void)
     }
 }
 
+/* ---- senders, against the words of document 02: every frame ever sent is kept and looked at */
+
+#define RANDOM_QUESTIONS 40000
+
+static struct {
+    uint64_t time;
+    uint8_t code;
+} sent[NURRISPANE_INPUTS][RANDOM_QUESTIONS];
+
+static unsigned sent_count[NURRISPANE_INPUTS];
+static uint64_t asked[NURRISPANE_INPUTS];
+
+static unsigned number_due(unsigned port, uint64_t time, size_t source, size_t room)
+{
+    if (time >> 48)
+        return NURRISPANE_REFUSED_TIME_TOO_LARGE;
+    if (port < NURRISPANE_INPUTS && time < asked[port])
+        return NURRISPANE_REFUSED_TIME_BEFORE_STATE;
+    if (port >= NURRISPANE_INPUTS)
+        return NURRISPANE_REFUSED_INPUT_OUT_OF_RANGE;
+    if (room < NURRISPANE_FRAME_OCTETS)
+        return NURRISPANE_REFUSED_BUFFER_TOO_SHORT;
+    return source == NURRISPANE_SOURCE_OCTETS ? NURRISPANE_ACCEPTED
+                                              : NURRISPANE_REFUSED_SOURCE_NOT_SIX;
+}
+
+static unsigned frame_due(unsigned port, uint64_t time, uint8_t code)
+{
+    unsigned count = sent_count[port], later = 0;
+
+    for (unsigned i = 0; i < count; i++)
+        later += sent[port][i].time + 1000 > time;
+    if (later >= 10)
+        return NURRISPANE_HEARTBEAT_NOTHING;
+    if (count == 0)
+        return NURRISPANE_HEARTBEAT_INFORMATION;
+    if (sent[port][count - 1].code != code)
+        return NURRISPANE_HEARTBEAT_EVENT;
+    return time >= sent[port][count - 1].time + 1000 ? NURRISPANE_HEARTBEAT_INFORMATION
+                                                     : NURRISPANE_HEARTBEAT_NOTHING;
+}
+
+static void check_senders(void)
+{
+    static const uint8_t sources[8] = {2, 0, 0, 9, 9, 1, 7, 7};
+    unsigned long numbers[20] = {0}, frames[3] = {0};
+    struct nurrispane_senders senders = nurrispane_fresh_senders();
+    uint64_t time = 0;
+
+    for (int i = 0; i < NURRISPANE_INPUTS; i++) {
+        for (int at = 0; at < 10; at++)
+            CHECK(senders.ports[i].times[at] == 0);
+        CHECK(senders.ports[i].asked == 0 && senders.ports[i].code == 0);
+        CHECK(senders.ports[i].sent == 0);
+    }
+    CHECK(senders.number == NURRISPANE_ACCEPTED && senders.frame == NURRISPANE_HEARTBEAT_NOTHING);
+
+    card = nurrispane_fresh();
+    for (int i = 0; i < RANDOM_QUESTIONS; i++) {
+        struct nurrispane_senders before;
+        uint8_t buffer[80], kept[80], wanted[80];
+        unsigned port = below(20) ? below(3) : below(256), number, frame;
+        size_t source = below(20) ? 6 : below(9), room = below(20) ? 60 + below(21) : below(81);
+        uint64_t at;
+        uint8_t code;
+
+        if (below(6) == 0) {
+            struct call call = any_call(&card);
+
+            if (call.time < card.time + 400)
+                card = stepped(card, &call);
+        }
+        time += below(3) ? below(120) : below(2) ? below(4) : below(1100);
+        at = below(30) ? time : below(2) ? time - (time < 50 ? 0 : below(50)) : random_number();
+        number = number_due(port, at, source, room);
+        code = port < 16 ? nurrispane_outgoing_codes(card).codes[port] : 0;
+        frame = number == NURRISPANE_ACCEPTED ? frame_due(port, at, code) : 0;
+        for (size_t o = 0; o < sizeof kept; o++)
+            kept[o] = (uint8_t)below(256);
+        memcpy(buffer, kept, sizeof buffer);
+        memcpy(wanted, kept, sizeof wanted);
+        if (frame)
+            CHECK(nurrispane_write_frame(card, (uint8_t)port, frame == NURRISPANE_HEARTBEAT_EVENT,
+                                         sources, source, wanted, room) == NURRISPANE_ACCEPTED);
+        before = senders;
+        nurrispane_ask_in_place(&senders, card, (uint8_t)port, at, sources, source, buffer, room);
+        CHECK(senders.number == number && senders.frame == frame);
+        CHECK(memcmp(buffer, wanted, sizeof buffer) == 0);
+        numbers[number]++;
+        if (number != NURRISPANE_ACCEPTED) {
+            CHECK(memcmp(&before.ports, &senders.ports, sizeof before.ports) == 0);
+            continue;
+        }
+        frames[frame]++;
+        asked[port] = at;
+        if (frame) {
+            sent[port][sent_count[port]].time = at;
+            sent[port][sent_count[port]++].code = code;
+        }
+        before.ports[port] = senders.ports[port];
+        CHECK(memcmp(&before.ports, &senders.ports, sizeof before.ports) == 0);
+        if (at > time)
+            time = at;
+        if (time >> 47) {
+            senders = nurrispane_fresh_senders();
+            memset(sent_count, 0, sizeof sent_count);
+            memset(asked, 0, sizeof asked);
+            card = nurrispane_fresh();
+            time = 0;
+        }
+    }
+    CHECK(numbers[0] > 0 && numbers[3] > 0 && numbers[4] > 0 && numbers[5] > 0);
+    CHECK(numbers[18] > 0 && numbers[19] > 0);
+    CHECK(frames[0] > 0 && frames[1] > 0 && frames[2] > 0);
+
+    for (int i = 0; i < RANDOM_CARDS; i++) {
+        struct nurrispane_card wild;
+        uint8_t buffer[60];
+
+        for (size_t at = 0; at < sizeof wild; at++)
+            ((uint8_t *)&wild)[at] = (uint8_t)below(256);
+        for (size_t at = 0; at < sizeof senders; at++)
+            ((uint8_t *)&senders)[at] = (uint8_t)(below(3) ? below(20) : below(256));
+        nurrispane_ask_in_place(&senders, wild, (uint8_t)below(18), random_number() >> below(64),
+                                sources, 6, buffer, sizeof buffer);
+        CHECK(senders.number < 20 && senders.frame < 3);
+    }
+}
+
 /* ---- stack: a call is run on a painted stack, and the lowest byte that changed is looked for */
 
 #define STACK_SIZE 65536
@@ -315,6 +447,7 @@ static ucontext_t here, there;
 static struct call stack_call;
 static struct nurrispane_card stack_card;
 static struct nurrispane_codes stack_codes;
+static struct nurrispane_senders stack_senders;
 static uint8_t stack_frame[NURRISPANE_FRAME_OCTETS];
 
 static void run_nothing(void)
@@ -348,6 +481,17 @@ static void run_write(void)
     nurrispane_write_frame(card, 1, 0, stack_call.frame, 6, stack_frame, sizeof stack_frame);
 }
 
+static void run_fresh_senders(void)
+{
+    stack_senders = nurrispane_fresh_senders();
+}
+
+static void run_ask(void)
+{
+    nurrispane_ask_in_place(&stack_senders, card, 1, stack_call.time, stack_call.frame, 6,
+                            stack_frame, sizeof stack_frame);
+}
+
 static size_t stack_of(void (*run)(void))
 {
     size_t low = 0;
@@ -373,13 +517,16 @@ static void check_stack(void)
                 {"step", run_step},
                 {"step_in_place", run_step_in_place},
                 {"outgoing_codes", run_codes},
-                {"write_frame", run_write}};
-    size_t most[5] = {0}, nothing = stack_of(run_nothing);
+                {"write_frame", run_write},
+                {"fresh_senders", run_fresh_senders},
+                {"ask_in_place", run_ask}};
+    enum { RUNS = sizeof runs / sizeof *runs };
+    size_t most[RUNS] = {0}, nothing = stack_of(run_nothing);
 
     card = nurrispane_fresh();
     for (int i = 0; i < 2000; i++) {
         stack_call = any_call(&card);
-        for (int r = 0; r < 5; r++) {
+        for (int r = 0; r < RUNS; r++) {
             size_t used;
 
             stack_card = card;
@@ -390,7 +537,7 @@ static void check_stack(void)
         card = stepped(card, &stack_call);
     }
     printf("stack:");
-    for (int r = 0; r < 5; r++) {
+    for (int r = 0; r < RUNS; r++) {
         printf("%s %s %zu", r ? "," : "", runs[r].name, most[r]);
         CHECK(most[r] <= NURRISPANE_STACK);
     }
@@ -404,10 +551,12 @@ int main(void)
     check_frames();
     check_events();
     check_cards();
+    check_senders();
     check_stack();
-    printf("sizes: card %zu, input %zu, answer %zu, codes %zu bytes\n",
+    printf("sizes: card %zu, input %zu, answer %zu, codes %zu, senders %zu, sender %zu bytes\n",
            sizeof(struct nurrispane_card), sizeof(struct nurrispane_input),
-           sizeof(struct nurrispane_answer), sizeof(struct nurrispane_codes));
+           sizeof(struct nurrispane_answer), sizeof(struct nurrispane_codes),
+           sizeof(struct nurrispane_senders), sizeof(struct nurrispane_sender));
     printf("%lu checks hold\n", checks);
     return 0;
 }

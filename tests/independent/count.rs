@@ -25,7 +25,6 @@ items! {
     FreeRun "clock-free-run"
     Holdover "clock-holdover"
     Locked "clock-locked"
-    Contradiction "clock-03"
     NoneToForced "switch-none-to-forced"
     NoneToManual "switch-none-to-manual"
     ForcedToNone "switch-forced-to-none"
@@ -43,7 +42,13 @@ items! {
     SelectionAtTick "selection-changed-at-tick"
     SelectionTwice "selection-changed-at-tick-and-at-event"
     LockedAtTickOnly "locked-first-at-tick-only"
+    OneDueMoment "one-due-moment-in-one-tick"
     SeveralDueMoments "several-due-moments-in-one-tick"
+    SixteenDueMoments "16-due-moments-or-more-in-one-tick"
+    Forty8DueMoments "48-due-moments-in-one-tick"
+    NotDistinct "due-moments-of-several-inputs-in-one-ms"
+    NeedlessTimer "due-moment-of-a-timer-that-changes-nothing"
+    ExpiryUnderCover "due-moment-of-a-frame-under-mode-off-or-fixed-quality"
     SeveralSelections "selection-changed-twice-in-one-tick"
     WinnerByTurn "one-choice-at-the-tick-would-select-another"
     ManualCancelledBetween "manual-cancelled-between-events-would-stand-at-tick"
@@ -160,6 +165,7 @@ fn tick(selector: &mut Selector, time: Time, counts: &mut Counts) {
     let (mut served, mut selections, mut locked_between) = (0, 0, false);
     while selector.next_due() <= time {
         let before = Shown::of(selector);
+        count_due(selector, counts);
         selector.serve_next_due();
         let after = Shown::of(selector);
         count_choice(&before, &after, selector, counts);
@@ -170,7 +176,10 @@ fn tick(selector: &mut Selector, time: Time, counts: &mut Counts) {
     selector.tick(time);
     with_one_choice.tick_with_one_choice(time);
     let ticked = Shown::of(selector);
+    counts.add_if(Item::OneDueMoment, served == 1);
     counts.add_if(Item::SeveralDueMoments, served > 1);
+    counts.add_if(Item::SixteenDueMoments, served >= 16);
+    counts.add_if(Item::Forty8DueMoments, served == 48);
     counts.add_if(Item::SeveralSelections, selections > 1);
     counts.add_if(Item::WinnerByTurn, ticked.selected != with_one_choice.selected);
     let fell_between = ticked.switch != with_one_choice.switch;
@@ -180,6 +189,29 @@ fn tick(selector: &mut Selector, time: Time, counts: &mut Counts) {
         Item::LockedBetweenOnly,
         locked_between && !locked_now && !first.was_locked,
     );
+}
+
+/// What ends in the next due moment, seen before it is served.
+fn count_due(selector: &Selector, counts: &mut Counts) {
+    let moment = selector.next_due();
+    let mut inputs_due = 0;
+    for input in &selector.inputs {
+        let expires = input
+            .heard
+            .frame
+            .is_some_and(|(_, came)| came + FRAME_LIFE == moment);
+        let timer = if input.raw.failed() {
+            input.hold_off
+        } else {
+            input.wait
+        };
+        let ends = input.run_began + timer == moment;
+        inputs_due += u64::from(expires || ends);
+        let covered = !selector.quality_mode || input.fixed.is_some();
+        counts.add_if(Item::ExpiryUnderCover, expires && covered);
+        counts.add_if(Item::NeedlessTimer, ends && input.raw.failed() == input.down);
+    }
+    counts.add_if(Item::NotDistinct, inputs_due > 1);
 }
 
 /// What the choices of one line are compared by.
@@ -368,7 +400,6 @@ fn count_line(before: &Shown, ticked: &Shown, selector: &Selector, counts: &mut 
         ClockState::FreeRun => Item::FreeRun,
         ClockState::Holdover => Item::Holdover,
         ClockState::Locked => Item::Locked,
-        ClockState::Contradiction => Item::Contradiction,
     });
     if let Switch::Forced(input) = selector.switch {
         let passed = selector.inputs[usize::from(input.0)].passed();

@@ -4,6 +4,7 @@
 use std::io::{self, Write};
 
 use crate::damaged::Damaged;
+use crate::headers::Headers;
 use crate::hex;
 use crate::nasty::Nasty;
 use crate::random::Random;
@@ -31,6 +32,7 @@ pub fn generate(kind: &str, seed: &str, lines: &str, output: &mut impl Write) ->
         "realistic" => write_lines(Realistic::new(random), lines, output),
         "nasty" => write_lines(Nasty::new(random, lines), lines, output),
         "sparse" => write_lines(Sparse::new(random), lines, output),
+        "headers" => write_lines(Headers::new(random), lines, output),
         "damaged" => write_damaged(Damaged::new(random, lines), lines, output),
         _ => Err(not_understood(kind)),
     }

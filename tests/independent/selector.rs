@@ -14,6 +14,9 @@ pub type Time = u64;
 /// Later than any time a log can carry.
 pub const NEVER: Time = Time::MAX;
 
+/// A count of due moments. L4: "never above 48", wait, expiry and hold-off of each input.
+pub type DueMoments = u32;
+
 /// The four bits of an SSM.
 pub type Code = u8;
 
@@ -247,7 +250,8 @@ impl Input {
     }
 
     /// The next due moment of this input after a time. L3: "a frame expiring, a hold-off
-    /// ending, a wait ending"; a timer belongs to the present run.
+    /// ending, a wait ending". L4: "a frame expires whatever the mode or fixed quality, a
+    /// timer ends at run start plus setting, needed or not"; readings: the present run's own.
     fn due(&self, after: Time) -> Time {
         let expires = self.heard.frame.map_or(NEVER, |(_, came)| came + FRAME_LIFE);
         let timer = if self.raw.failed() {
@@ -328,8 +332,6 @@ pub enum ClockState {
     FreeRun = 0,
     Holdover = 1,
     Locked = 2,
-    /// "03 is answered should a manual switch be found standing on an ineligible input."
-    Contradiction = 3,
 }
 
 /// The place of an input in the choice: lower is better, equal is "full equals".
@@ -375,12 +377,16 @@ impl Selector {
 
     /// The tick that each accepted event is first. L3: it "serves each due moment in time
     /// order", those later than the state's time and not later than its own. A choice at
-    /// its own time with nothing due would only repeat the one just before.
-    pub fn tick(&mut self, now: Time) {
+    /// its own time with nothing due would only repeat the one just before. Answers L4's
+    /// "number of due moments served by a tick".
+    pub fn tick(&mut self, now: Time) -> DueMoments {
+        let mut served = 0;
         while self.next_due() <= now {
             self.serve_next_due();
+            served += 1;
         }
         self.time = now;
+        served
     }
 
     pub fn next_due(&self) -> Time {
@@ -569,15 +575,14 @@ impl Selector {
 
     /// "02 locked if an input is selected and its passed quality is usable [...];
     /// otherwise 01 holdover if it was locked after any earlier choice, 00 free run if
-    /// not." Readings: 03 is looked for after the choice, so it never occurs.
+    /// not." (L7 took 03 away: a standing manual switch is on an eligible input.)
     fn clock_state_when(&self, locked: bool) -> ClockState {
-        match self.switch {
-            Switch::Manual(input) if self.ranks[input.index()] == NOT_ELIGIBLE => {
-                ClockState::Contradiction
-            }
-            _ if locked => ClockState::Locked,
-            _ if self.was_locked => ClockState::Holdover,
-            _ => ClockState::FreeRun,
+        if locked {
+            ClockState::Locked
+        } else if self.was_locked {
+            ClockState::Holdover
+        } else {
+            ClockState::FreeRun
         }
     }
 

@@ -37,12 +37,15 @@ pub struct Sparse {
     plan: VecDeque<Planned>,
     /// Milliseconds in which something of the episode ends.
     ends: Vec<Time>,
+    /// Whether all sixteen inputs meet now and then.
+    crowded: bool,
 }
 
 impl Sparse {
     pub fn new(mut random: Random) -> Sparse {
         let mut sparse = Sparse {
             group: some_inputs(&mut random),
+            crowded: random.percent(30),
             random,
             now: 0,
             hold_offs: [300; GROUP],
@@ -118,10 +121,11 @@ impl Sparse {
 
     fn plan_episode(&mut self) {
         self.ends.clear();
-        match self.random.below(13) {
+        match self.random.below(13 + u64::from(self.crowded)) {
             0..=3 => self.episode_waits_in_turn(),
             4 | 5 => self.episode_goes_as_others_come(),
             12 => self.episode_silent_as_another_comes(),
+            13 => self.episode_all_sixteen(),
             6 | 7 => self.episode_up_between_two_events(),
             8 => self.episode_silent_in_turn(),
             9 => self.episode_fails_in_turn(),
@@ -309,6 +313,40 @@ impl Sparse {
         self.step(frame, 0x02, n, 2);
         self.step(frame, 0x08, n, 0);
         self.ends(gone);
+    }
+
+    /// All sixteen have a wait, a frame and the hold-off after it to end, 48 at most, in
+    /// milliseconds of their own or together.
+    fn episode_all_sixteen(&mut self) {
+        let alone = self.random.percent(60);
+        self.step(0, 0x0d, 0, 0);
+        for n in 0..16 {
+            if alone {
+                self.step(0, 0x06, n, 300);
+            }
+            self.step(0, 0x10, n, 1);
+            self.step(0, 0x08, n, 0);
+            self.step(0, 0x07, n, 1);
+            self.step(0, 0x01, n, 1);
+        }
+        self.ethernet = [true; GROUP];
+        let (mut good, mut heard) = (2_000, 2_000 + MINUTE - 1_000);
+        if alone {
+            self.hold_offs = [300; GROUP];
+        }
+        for n in 0..16 {
+            self.step(good, 0x01, n, 0);
+            self.step(heard, 0x02, n, 2);
+            good += if alone { 1 } else { self.random.below(3) };
+            heard += if alone { 1 } else { self.random.below(3) };
+        }
+        // Nobody is heard until then, so that mode off covers it.
+        if self.random.percent(80) {
+            self.step(heard, 0x0d, 0, 1);
+        }
+        self.ends(good + MINUTE);
+        self.ends(heard + FRAME_LIFE);
+        self.ends(heard + FRAME_LIFE + 300);
     }
 
     /// Inputs that are up, some of them equals, fail one after another.

@@ -1,28 +1,40 @@
 -- A selector comes back from its numbers, so calls in a row are steps in a row. Assumes nothing.
 use Prim.Native.Nat.{ℕ, _≤_}
 use mathlib.Core.Bool.{Bool, true, false}
-use mathlib.Core.List.{List, [], _∷_, map}
+use mathlib.Core.List.{List, [], _∷_, _++_, map}
 use mathlib.Core.Path.{_≡_, refl, sym, _∙_, ap, subst}
+use native.Mathlib.Omega.{arith}
+use lib.ListN.{getD, drop}
 use Rattle.numbers.specs.Kind.{flag}
+use Rattle.numbers.specs.Refusal.{accepted}
+use Rattle.frame.specs.Write.{writtenLength, frameOctets}
 use Rattle.input.specs.declared.Input.{Input}
 use Rattle.choice.specs.declared.Selection.{Selection}
 use Rattle.choice.specs.declared.Selection.the-variants as S
 use Rattle.decision.specs.declared.Switch.{Switch}
 use Rattle.decision.specs.declared.Switch.the-variants as W
 use Rattle.selector.specs.declared.Selector.{Selector}
-use Rattle.selector.specs.Answer.{selectedNumber, switchNumber, switchInput, answerOf, outgoingCodes}
-use Rattle.events.specs.declared.Stepped.{Stepped}
+use Rattle.selector.specs.Clock.{selectedNumber, switchNumber, switchInput}
+use Rattle.selector.specs.Answer.{answerOf, outgoingCodes}
+use Rattle.selector.proofs.Ports.{getD-ports}
 use Rattle.events.specs.Step.{step}
-use Rattle.events.specs.Sequence.{Given, Sequence, stateAfter, numberAfter, countAfter}
+use Rattle.events.specs.Given.{Given, Sequence}
+use Rattle.events.specs.Sequence.{stateAfter, numberAfter, countAfter}
 use Rattle.events.specs.Due.{mostDue}
+use Rattle.events.specs.Past.{pastOf}
+use Rattle.events.specs.Told.{answerBy, codeBy, codesBy}
+use Rattle.events.specs.Demand1.{tickAt}
+use Rattle.events.proofs.Happened.{happened}
 use Rattle.events.proofs.Demand1.{demand-1-events}
+use Rattle.events.proofs.Demand2.{demand-2-answers}
 use Rattle.events.proofs.Demand3.{demand-3}
 use Rattle.events.proofs.Demand4.{demand-4}
 use Rattle.card.specs.declared.Card.{Card}
 use Rattle.card.specs.declared.CardAnswer.{CardAnswer}
 use Rattle.card.specs.Flat.{isSet, inputOf, flatInput, flatAnswer, switchOf, selectionOf, isSelected, selectorOf, cardOf}
 use Rattle.card.specs.Card.{freshCard, steppedCard, stepCard, cardCodes}
-use Rattle.card.specs.Calls.{called, cardAfter, latestNumber, latestCount, withAnswer, CardRight, Demand1Card, Demand3Card, Demand4Card}
+use Rattle.card.specs.Calls.{called, cardAfter, latestNumber, latestCount, withNumber, latestBy, CardRight, Demand1Card, Demand2Card, Demand3Card, Demand4Card}
+use Rattle.card.proofs.Ports.{port-written}
 
 -- ---- back from its numbers
 
@@ -63,9 +75,10 @@ selectorOf-cardOf number count state =
     )
 
 -- No call reads the answer in a card.
-pub selectorOf-withAnswer : (card : Card) (answer : CardAnswer) → selectorOf (withAnswer card answer) ≡ selectorOf card
+pub selectorOf-withNumber : (card : Card) (number count : ℕ)
+    → selectorOf (withNumber card number count) ≡ selectorOf card
 unfolding selectorOf
-selectorOf-withAnswer card answer = refl
+selectorOf-withNumber card number count = refl
 
 -- ---- calls in a row
 
@@ -102,55 +115,106 @@ card-right sequence =
       codes = ap outgoingCodes (cardAfter-state sequence);
     }
 
--- one more call, of the step that it stands for
-cardAfter-step : (sequence : Sequence) (given : Given) (after : Stepped)
-    → step (stateAfter sequence) (given .event) (given .frame) ≡ after
-    → cardAfter (given ∷ sequence) ≡ steppedCard after
-unfolding stateAfter numberAfter countAfter latestNumber latestCount
-cardAfter-step sequence given after is = cardAfter-whole (given ∷ sequence) ∙ ap steppedCard is
+-- another number beside the same selector
+withNumber-cardOf : (number other count later : ℕ) (state : Selector)
+    → withNumber (cardOf number count state) other later ≡ cardOf other later state
+unfolding cardOf answerOf
+withNumber-cardOf number other count later state = refl
 
--- another answer beside the same selector
-withAnswer-cardOf : (sequence : Sequence) (number : ℕ)
-    → cardOf number 0 (stateAfter sequence)
-    ≡ withAnswer (cardAfter sequence) (flatAnswer (answerOf number (stateAfter sequence)))
-unfolding cardOf
-withAnswer-cardOf sequence number = rw (cardAfter-whole sequence)
+-- the card after calls, with another number and count, is that of the state after them
+withNumber-after : (sequence : Sequence) (number count : ℕ)
+    → withNumber (cardAfter sequence) number count ≡ cardOf number count (stateAfter sequence)
+withNumber-after sequence number count =
+    ap (λ (card : Card). withNumber card number count) (cardAfter-whole sequence)
+    ∙ withNumber-cardOf _ number _ count (stateAfter sequence)
 
--- DEMAND 1 in C's hands: a refusal leaves there what the table says.
+module _ (sequence : Sequence) (given : Given) where
+  -- one more call
+  cardAfter-call : cardAfter (given ∷ sequence)
+      ≡ cardOf (numberAfter given sequence) (countAfter given sequence) (stateAfter (given ∷ sequence))
+  unfolding latestNumber latestCount
+  cardAfter-call = cardAfter-whole (given ∷ sequence)
+
+  cardAfter-served : cardAfter (given ∷ sequence) .served ≡ countAfter given sequence
+  unfolding cardOf
+  cardAfter-served = ap (λ (card : Card). card .served) cardAfter-call
+
+-- DEMAND 1 in C's hands, after every sequence of calls and any further one.
 pub demand-1-card : (sequence : Sequence) (given : Given) → Demand1Card sequence given
+unfolding cardOf answerOf
 demand-1-card sequence given =
-    let demand1 = demand-1-events (stateAfter sequence) (given .event) (given .frame) in
+    let demand1 = demand-1-events sequence given in
+    let demand4 = demand-4 sequence given in
+    let ticked = tickAt (given .event .time) ∷ sequence in
     record {
-      before = λ number first.
-          cardAfter-step sequence given _ (demand1 .before number first) ∙ withAnswer-cardOf sequence number;
-      after = λ number none first. cardAfter-step sequence given _ (demand1 .after number none first);
+      number = ap (λ (card : Card). card .answer .number) (cardAfter-call sequence given);
+      demand1 = demand1;
+      before = λ low.
+          cardAfter-call sequence given
+          ∙ ap (λ (count : ℕ). cardOf (numberAfter given sequence) count (stateAfter (given ∷ sequence))) (demand4 .none low)
+          ∙ ap (cardOf (numberAfter given sequence) 0) (demand1 .before low .0)
+          ∙ sym (withNumber-after sequence (numberAfter given sequence) 0);
+      after = λ high.
+          cardAfter-call sequence given
+          ∙ ap (λ (count : ℕ). cardOf (numberAfter given sequence) count (stateAfter (given ∷ sequence)))
+          (demand4 .ticks (λ low. omega (arith, low .most, high .least))
+          ∙ sym (cardAfter-served sequence (tickAt (given .event .time))))
+          ∙ ap (cardOf (numberAfter given sequence) (cardAfter ticked .served)) (demand1 .after high .0)
+          ∙ sym (withNumber-after ticked (numberAfter given sequence) (cardAfter ticked .served));
+      taken = λ none.
+          ap (λ (card : Card). card .answer) (cardAfter-call sequence given)
+          ∙ ap flatAnswer
+          (ap (λ (number : ℕ). answerOf number (stateAfter (given ∷ sequence))) none
+          ∙ demand-2-answers (given ∷ sequence) .answer accepted
+          ∙ ap (answerBy accepted) (demand1 .taken none));
+    }
+
+-- ---- by what has happened
+
+latestNumber-by : (sequence : Sequence) → latestNumber sequence ≡ latestBy sequence
+unfolding latestNumber latestBy
+latestNumber-by [] = refl
+latestNumber-by (given ∷ earlier) = happened earlier .number given
+
+cardAfter-codes : (sequence : Sequence) → outgoingCodes (selectorOf (cardAfter sequence)) ≡ codesBy (pastOf sequence)
+cardAfter-codes sequence = ap outgoingCodes (cardAfter-state sequence) ∙ demand-2-answers sequence .outgoing
+
+-- DEMAND 2 in C's hands, after every sequence of calls.
+pub demand-2-card : (sequence : Sequence) → Demand2Card sequence
+unfolding cardCodes
+demand-2-card sequence =
+    record {
+      answer =
+          cardAfter-answer sequence
+          ∙ ap flatAnswer
+          (demand-2-answers sequence .answer (latestNumber sequence)
+          ∙ ap (λ (number : ℕ). answerBy number (pastOf sequence)) (latestNumber-by sequence));
+      codes = cardAfter-codes sequence;
+      frame = λ port event source before answer after write accepts.
+          let written = port-written (cardAfter sequence) port event source before answer after write accepts in
+          written .1
+          ∙ ap (λ (code : ℕ). frameOctets source event code ++ drop writtenLength before)
+          (ap (λ (codes : List ℕ). getD codes port 0) (cardAfter-codes sequence)
+          ∙ getD-ports (codeBy (pastOf sequence)) 0 port (omega (arith, written .0)));
     }
 
 -- L4 in C's hands, after every sequence of calls and any further one.
 pub demand-4-card : (sequence : Sequence) (given : Given) → Demand4Card sequence given
-unfolding latestCount cardOf
 demand-4-card sequence given =
-    let same : cardAfter (given ∷ sequence) .served ≡ countAfter given sequence =
-    ap (λ (card : Card). card .served) (cardAfter-whole (given ∷ sequence))
-    in
     let demand4 = demand-4 sequence given in
     record {
-      served = same ∙ demand4 .exact;
-      most = subst (λ (count : ℕ). count ≤ mostDue) (sym same) (demand4 .most);
+      served = cardAfter-served sequence given ∙ demand4 .exact;
+      most = subst (λ (count : ℕ). count ≤ mostDue) (sym (cardAfter-served sequence given)) (demand4 .most);
     }
 
 -- DEMAND 3 in C's hands, after every sequence of calls.
 pub demand-3-card : (sequence : Sequence) → Demand3Card sequence
 unfolding answerOf
 demand-3-card sequence =
-    let demand3 = demand-3 sequence in
     record {
       state = cardAfter-state sequence;
-      demand3 = demand3;
-      selected =
-          ap (λ (answer : CardAnswer). answer .selected) (cardAfter-answer sequence)
-          ∙ ap selectedNumber (demand3 .selection);
-      switch =
-          ap (λ (answer : CardAnswer). answer .switch) (cardAfter-answer sequence) ∙ ap switchNumber (demand3 .switch);
-      on = ap (λ (answer : CardAnswer). answer .on) (cardAfter-answer sequence) ∙ ap switchInput (demand3 .switch);
+      demand3 = demand-3 sequence;
+      selected = ap (λ (answer : CardAnswer). answer .selected) (cardAfter-answer sequence);
+      switch = ap (λ (answer : CardAnswer). answer .switch) (cardAfter-answer sequence);
+      on = ap (λ (answer : CardAnswer). answer .on) (cardAfter-answer sequence);
     }

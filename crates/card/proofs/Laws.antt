@@ -15,11 +15,12 @@ use Rattle.choice.specs.declared.Selection.{Selection}
 use Rattle.choice.specs.declared.Selection.the-variants as S
 use Rattle.decision.specs.declared.Switch.the-variants as W
 use Rattle.selector.specs.declared.Selector.{Selector}
+use Rattle.selector.specs.Clock.{switchForced, switchManual}
 use Rattle.selector.specs.Answer.{answerOf, outgoingCodes}
 use Rattle.numbers.specs.Inputs.{lastInput}
 use Rattle.card.specs.declared.Card.{Card}
 use Rattle.card.specs.declared.CardInput.{CardInput}
-use Rattle.card.specs.Flat.{flatInput, flatAnswer, switchForced, switchManual, switchOf, selectionOf, isSelected, selectorOf, cardOf}
+use Rattle.card.specs.Flat.{flatInput, flatAnswer, switchOf, selectionOf, isSelected, selectorOf, cardOf}
 use Rattle.card.specs.Card.{portCode, numberOfWrite, WritePort}
 
 -- ---- switchOf

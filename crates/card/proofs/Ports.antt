@@ -1,24 +1,20 @@
 -- What is written for a port, whatever the card holds. Assumes nothing.
-use Prim.Native.Nat.{ℕ, zero, suc, _≤_}
-use mathlib.Core.Bool.{Bool, true, false, not, _||_, cond}
-use mathlib.Core.List.{List, [], _∷_, map}
+use Prim.Native.Nat.{ℕ, _≤_}
+use mathlib.Core.Bool.{Bool, false}
+use mathlib.Core.List.{List, _++_}
 use mathlib.Core.Logic.{_≢_}
-use mathlib.Core.Path.{_≡_, refl, sym, _∙_}
+use mathlib.Core.Path.{_≡_, refl, sym, _∙_, ap}
 use native.Mathlib.Omega.{arith}
 use lib.Dec.{eqb, ltb}
-use lib.ListN.{length, getD}
-use borrow.Author.Tests.{le-ltb}
-use Rattle.numbers.specs.declared.Quality.{Quality}
-use Rattle.numbers.specs.Quality.{codeDnu, codeOfQuality}
+use lib.ListN.{length, drop}
+use borrow.Author.Tests.{ltb-false, le-ltb}
 use Rattle.numbers.specs.Refusal.{accepted}
 use Rattle.frame.specs.declared.FrameWrite.{FrameWrite}
 use Rattle.frame.specs.declared.FrameWrite.the-variants.{Written, Refused}
-use Rattle.frame.specs.Write.{writtenLength, sourceLength, writeAnswer, contentAfter}
+use Rattle.frame.specs.Write.{writtenLength, sourceLength, frameOctets, writeAnswer, contentAfter}
 use Rattle.frame.proofs.RoundTrip.{demand-2-round-trip}
-use Rattle.input.specs.declared.Input.{Input}
-use Rattle.input.specs.Record.{freshInput}
 use Rattle.run.proofs.Laws.{byBool}
-use Rattle.selector.specs.Answer.{selectedNumber, qualityOf, outgoingCode, codeFor, outgoingCodes, ports}
+use Rattle.sender.proofs.Codes.{codeOfPort-small}
 use Rattle.numbers.specs.Inputs.{lastInput}
 use Rattle.card.specs.declared.Card.{Card}
 use Rattle.card.specs.Flat.{selectorOf}
@@ -27,45 +23,9 @@ use Rattle.card.specs.Ports.{portNumber, PortFrame}
 
 -- ---- an outgoing code is one of the sixteen
 
-cond-small : (test : Bool) (one other : ℕ) → one ≤ 15 → other ≤ 15 → cond test one other ≤ 15
-cond-small true one other a b = a
-cond-small false one other a b = b
-
-codeOfQuality-small : (told : Quality) → codeOfQuality told ≤ 15
-unfolding codeOfQuality
-codeOfQuality-small told =
-    cond-small (eqb (told .0) 1) _ _ (omega arith)
-    (cond-small (eqb (told .0) 2) _ _ (omega arith)
-    (cond-small (eqb (told .0) 3) _ _ (omega arith)
-    (cond-small (eqb (told .0) 4) _ _ (omega arith) (omega arith))))
-
-outgoingCode-small : (mode sending selected : Bool) (code : ℕ) → code ≤ 15
-    → outgoingCode mode sending selected code ≤ 15
-unfolding outgoingCode
-outgoingCode-small mode sending selected code small =
-    cond-small (not mode || not sending || selected) codeDnu code (omega arith) small
-
-codeFor-small : (inputs : List Input) (mode : Bool) (selected : ℕ) (told : Quality) (port : ℕ)
-    → codeFor inputs mode selected (codeOfQuality told) port ≤ 15
-unfolding codeFor
-codeFor-small inputs mode selected told port =
-    outgoingCode-small mode (getD inputs port freshInput .settings .sending) (eqb selected port) _
-    (codeOfQuality-small told)
-
-getD-small : (code : ℕ → ℕ) → ((port : ℕ) → code port ≤ 15) → (list : List ℕ) (port : ℕ)
-    → getD (map code list) port 0 ≤ 15
-getD-small code small [] port = omega arith
-getD-small code small (first ∷ list) zero = small first
-getD-small code small (first ∷ list) (suc port) = getD-small code small list port
-
 -- whatever the card holds
-pub portCode-small : (card : Card) (port : ℕ) → portCode card port ≤ 15
-unfolding outgoingCodes
-portCode-small card port =
-    let state = selectorOf card in
-    getD-small _ (codeFor-small (state .inputs) (state .mode) (selectedNumber (state .selection)) (qualityOf state))
-    ports
-    port
+portCode-small : (card : Card) (port : ℕ) → portCode card port ≤ 15
+portCode-small card port = codeOfPort-small (selectorOf card) port
 
 -- ---- what writing comes to
 
@@ -131,3 +91,16 @@ module _ (card : Card) (port : ℕ) (event : Bool) (source before : List ℕ) (a
             .front
             (writeAnswer-written before source _ (portCode-small card port) (sym (there-answered there) ∙ accepts));
       })
+
+  -- what is written is the frame with the port's code, and the octets after it are kept
+  pub port-written : answer ≡ accepted
+      → (port ≤ lastInput) × (after ≡ frameOctets source event (portCode card port) ++ drop writtenLength before)
+  port-written accepts =
+      byBool (ltb lastInput port)
+      (λ past. let five : answer ≡ 5 = write .answered ∙ (rw past) in absurd (omega arith))
+      (λ there. (
+        ltb-false lastInput port there,
+        there-content there
+            ∙ ap (λ (written : FrameWrite). contentAfter written before source event (portCode card port))
+            (writeAnswer-written before source _ (portCode-small card port) (sym (there-answered there) ∙ accepts)),
+      ))

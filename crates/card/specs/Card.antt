@@ -5,7 +5,6 @@ use mathlib.Core.Bool.{Bool, cond}
 use mathlib.Core.List.{List}
 use mathlib.Core.Path.{_≡_}
 use lib.Dec.{ltb}
-use lib.ListN.{getD}
 use Rattle.numbers.specs.declared.Event.{Event}
 use Rattle.numbers.specs.Inputs.{lastInput}
 use Rattle.numbers.specs.Refusal.{accepted, inputOutOfRange}
@@ -16,6 +15,7 @@ use Rattle.selector.specs.State.{freshSelector}
 use Rattle.selector.specs.Answer.{outgoingCodes}
 use Rattle.events.specs.declared.Stepped.{Stepped}
 use Rattle.events.specs.Step.{step}
+use Rattle.sender.specs.Heartbeat.{codeOfPort}
 use Rattle.card.specs.declared.Card.{Card}
 use Rattle.card.specs.declared.CardCodes.{CardCodes}
 use Rattle.card.specs.Flat.{selectorOf, cardOf}
@@ -43,7 +43,7 @@ cardCodes card = record { codes = outgoingCodes (selectorOf card) }
 
 -- the code that goes out of a port
 abbrev pub portCode : Card → ℕ → ℕ
-portCode card port = getD (outgoingCodes (selectorOf card)) port 0
+portCode card port = codeOfPort (selectorOf card) port
 
 -- the number that each answer of writing says: 0 written
 abbrev pub numberOfWrite : FrameWrite → ℕ

@@ -14,7 +14,8 @@ use Rattle.choice.specs.declared.Selection.the-variants as S
 use Rattle.decision.specs.declared.Switch.{Switch}
 use Rattle.decision.specs.declared.Switch.the-variants as W
 use Rattle.selector.specs.declared.Selector.{Selector}
-use Rattle.selector.specs.Answer.{selectedNumber, switchNumber, switchInput, answerOf}
+use Rattle.selector.specs.Clock.{switchForced, switchManual, selectedNumber, switchNumber, switchInput}
+use Rattle.selector.specs.Answer.{answerOf}
 use Rattle.card.specs.declared.Card.{Card}
 use Rattle.card.specs.declared.CardAnswer.{CardAnswer}
 use Rattle.card.specs.declared.CardInput.{CardInput}
@@ -77,14 +78,6 @@ flatInput input =
       failed = flag (input .run .failed);
       up = flag (input .run .up);
     }
-
--- "01 forced"
-abbrev pub switchForced : ℕ
-switchForced = 1
-
--- "02 manual"
-abbrev pub switchManual : ℕ
-switchManual = 2
 
 -- "switch (00 none, 01 forced, 02 manual), its input", read back; any other kind is none
 unfoldable pub switchOf : ℕ → InputNumber → Switch

@@ -1,6 +1,7 @@
 -- `Flat`: a selector as numbers, and back. `Card`: what each exported function answers and leaves. `Calls`: what C
--- holds after calls in a row. `Ports`: what is written for a port.
+-- holds after calls in a row. `Ports`: what is written for a port. `Asking`: the senders beside the card.
 pub mod Flat
 pub mod Card
 pub mod Calls
 pub mod Ports
+pub mod Asking

@@ -13,14 +13,21 @@ use borrow.Author.Tests.{ltb-true, ltb-false, leb-true, eqb-false, lt-ltb, le-lt
 use Rattle.numbers.specs.declared.Priority.{Priority}
 use Rattle.numbers.specs.declared.Quality.{Quality}
 use Rattle.numbers.specs.Inputs.{inputCount}
-use Rattle.numbers.specs.Quality.{failed}
+use Rattle.numbers.specs.Quality.{prc, sec, failed}
 use Rattle.choice.specs.declared.Candidate.{Candidate}
-use Rattle.choice.specs.Candidate.{nobody, isUsable, isAdmitted, candidateOf, isEligible, Eligible, isBetter, eligibleAmong, betterAmong, isLower, lowerAmong, anyLower}
+use Rattle.choice.specs.Candidate.{nobody, isUsable, isAdmitted, candidateOf, isEligible, isBetter, eligibleAmong, betterAmong, isLower, lowerAmong, anyLower}
 use Rattle.choice.specs.Choice.{Ranking}
 use Rattle.choice.proofs.Laws.{isBetter-quality, isBetter-priority, isBetter-not}
 use Rattle.choice.proofs.Choosing.{byBool, both-first, both-second, contra}
 
 -- ---- isEligible
+
+-- what an eligible input has to be, by its own quality and settings
+pub record EligibleParts (passed : Quality) (priority : Priority) (locked mode : Bool) : Type 0 where
+  pub notOff : priority .0 ≡ 0 → ⊥
+  pub notLocked : locked ≡ false
+  pub notFailed : passed .0 ≡ failed .0 → ⊥
+  pub usable : mode ≡ true → (prc .0 ≤ passed .0) × (passed .0 ≤ sec .0)
 
 module _ (passed : Quality) (priority : Priority) (locked : Bool) where
   usable-parts : (mode : Bool) → isUsable mode passed ≡ true
@@ -40,14 +47,14 @@ module _ (passed : Quality) (priority : Priority) (locked : Bool) where
 
   -- "Eligible: priority not 0, not locked, passed quality not 7, and with quality mode on passed quality 1 to 4"
   pub eligible-exact : (mode : Bool)
-      → (isEligible (candidateOf passed priority locked mode) ≡ true) ↔ Eligible passed priority locked mode
+      → (isEligible (candidateOf passed priority locked mode) ≡ true) ↔ EligibleParts passed priority locked mode
   unfolding isEligible candidateOf isAdmitted
   eligible-exact mode = (parts, whole)
     where
       on : Bool
       on = not (eqb (priority .0) 0)
 
-      parts : ((on && not locked) && isUsable mode passed) ≡ true → Eligible passed priority locked mode
+      parts : ((on && not locked) && isUsable mode passed) ≡ true → EligibleParts passed priority locked mode
       parts x =
           let admitted : (on && not locked) ≡ true = both-first (on && not locked) (isUsable mode passed) x in
           let usable = usable-parts mode (both-second (on && not locked) (isUsable mode passed) x) in
@@ -58,7 +65,7 @@ module _ (passed : Quality) (priority : Priority) (locked : Bool) where
             usable = usable .1;
           }
 
-      whole : Eligible passed priority locked mode → ((on && not locked) && isUsable mode passed) ≡ true
+      whole : EligibleParts passed priority locked mode → ((on && not locked) && isUsable mode passed) ≡ true
       whole e =
           rw (ne-eqb (priority .0) 0 (e .notOff), e .notLocked) (usable-whole mode (e .notFailed) (e .usable))
 

@@ -1,15 +1,14 @@
 -- Document 01, "Choosing": eligible and better. Cited by `src/lib.rt`.
 -- Assumes nothing.
-use Prim.Native.Nat.{ℕ, zero, suc, _≤_}
+use Prim.Native.Nat.{ℕ, zero, suc}
 use mathlib.Core.Bool.{Bool, true, false, not, _&&_, _||_, cond}
 use mathlib.Core.List.{List}
-use mathlib.Core.Path.{_≡_}
 use lib.Dec.{leb, ltb, eqb}
 use lib.ListN.{getD}
 use Rattle.numbers.specs.declared.Priority.{Priority}
 use Rattle.numbers.specs.Inputs.{inputCount}
 use Rattle.numbers.specs.declared.Quality.{Quality}
-use Rattle.numbers.specs.Quality.{notTold, prc, sec, failed, isFailed}
+use Rattle.numbers.specs.Quality.{notTold, prc, sec, isFailed}
 use Rattle.choice.specs.declared.Candidate.{Candidate}
 
 -- "usable (1 to 4 with mode on, not 7 with mode off)"
@@ -37,14 +36,6 @@ candidateOf passed priority locked mode =
 -- "Eligible: priority not 0, not locked, passed quality not 7, and with quality mode on passed quality 1 to 4"
 unfoldable pub isEligible : Candidate → Bool
 isEligible candidate = candidate .admitted && candidate .usable
-
--- "priority not 0, not locked, passed quality not 7, and with quality mode on passed quality 1 to 4", said of one
--- input; `eligible-exact`: `isEligible (candidateOf ..)` exactly where it holds
-pub record Eligible (passed : Quality) (priority : Priority) (locked mode : Bool) : Type 0 where
-  pub notOff : priority .0 ≡ 0 → ⊥
-  pub notLocked : locked ≡ false
-  pub notFailed : passed .0 ≡ failed .0 → ⊥
-  pub usable : mode ≡ true → (prc .0 ≤ passed .0) × (passed .0 ≤ sec .0)
 
 -- "Better: lower passed quality (mode on only), then lower priority number"
 unfoldable pub isBetter : Candidate → Candidate → Bool

@@ -14,8 +14,8 @@ use Rattle.choice.proofs.Ranks.{isBetter-ranking}
 use Rattle.decision.specs.declared.Switch.{Switch}
 use Rattle.decision.specs.declared.Switch.the-variants as W
 use Rattle.decision.specs.Decision.{judged, selectedBy, isClockLocked, isHeld, decide}
-use Rattle.decision.specs.Choices.{ChoiceMoment, Choices, Commands, commanded, decidedOver}
-use Rattle.decision.proofs.Standing.{stands, judged-stands, commanded-other}
+use Rattle.decision.specs.Choices.{ChoiceMoment, Choices, commanded, decidedOver}
+use Rattle.decision.proofs.Standing.{Commands, stands, judged-stands, commanded-other}
 
 -- a switch that stands by these candidates stands by them again
 pub judged-again : (candidates : List Candidate) (switch : Switch)

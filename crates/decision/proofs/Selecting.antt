@@ -19,9 +19,26 @@ use Rattle.choice.proofs.Ranks.{isBetter-ranking, lower-none}
 use Rattle.decision.specs.declared.Switch.{Switch}
 use Rattle.decision.specs.declared.Switch.the-variants as W
 use Rattle.decision.specs.Decision.{forcedMayStand, manualMayStand, judged, selectedBy, isClockLocked, isHeld, decide}
-use Rattle.decision.specs.Choices.{ChoiceMoment, Choices, commanded, decidedOver, choicesAgo, Passes, SelectionRight, LatestRight, Locked, HeldRight}
+use Rattle.decision.specs.Choices.{ChoiceMoment, Choices, forcedOn, manualOn, commanded, decidedOver, choicesAgo, Locked, HeldRight}
 use Rattle.decision.proofs.Laws.{selectedBy-forced, selectedBy-manual}
-use Rattle.decision.proofs.Standing.{manual-passes, switch-right}
+use Rattle.decision.proofs.Standing.{Passes, manual-passes, switch-right}
+
+-- ---- what has to hold, over candidates
+
+-- the selection after the latest choice: the switch's own input, or, with no switch, the right choice
+pub record SelectionRight (choice : ChoiceMoment) (earlier : Choices) : Type 0 where
+  pub free : decidedOver (choice ∷ earlier) .switch ≡ W.Nothing
+      → Chosen (eligibleAmong (choice .candidates)) (betterAmong (choice .candidates)) (decidedOver earlier .selection)
+      (decidedOver (choice ∷ earlier) .selection)
+  pub forced : (on : ℕ) → decidedOver (choice ∷ earlier) .switch ≡ forcedOn on
+      → decidedOver (choice ∷ earlier) .selection ≡ selected on
+  pub manual : (on : ℕ) → decidedOver (choice ∷ earlier) .switch ≡ manualOn on
+      → (decidedOver (choice ∷ earlier) .selection ≡ selected on) × (eligibleAmong (choice .candidates) on ≡ true)
+
+-- the latest choice is right; before any choice nothing is selected
+abbrev pub LatestRight : Choices → Type 0
+LatestRight [] = decidedOver [] .selection ≡ Nothing
+LatestRight (choice ∷ earlier) = SelectionRight choice earlier
 
 -- ---- manualMayStand
 

@@ -1,4 +1,4 @@
--- The switch stands exactly as document 01 says, "Choosing", after any sequence of choices.
+-- The switch stands exactly as document 01 says, "Choosing", after any sequence of choices, over candidates.
 -- A forced and a manual switch are argued alike: what is used of each is a `Setting`.
 -- Assumes nothing.
 use Prim.Native.Nat.{ℕ, zero, suc, _≤_, _<_}
@@ -15,14 +15,47 @@ use Rattle.choice.specs.declared.Candidate.{Candidate}
 use Rattle.decision.specs.declared.Switch.{Switch}
 use Rattle.decision.specs.declared.Switch.the-variants as W
 use Rattle.decision.specs.Decision.{forcedMayStand, manualMayStand, judged, decide}
-use Rattle.decision.specs.Choices.{Choices, commanded, decidedOver, choicesAgo, FollowsOn, Commands, Passes, Stands, StandsForced, StandsManual, SwitchRight}
+use Rattle.decision.specs.Choices.{Choices, forcedOn, manualOn, Command, commanded, decidedOver, choicesAgo}
 
--- the switches on an input
-abbrev pub forcedOn : ℕ → Switch
-forcedOn on = W.Forced (record { 0 = on })
+-- ---- what has to hold, over candidates
 
-abbrev pub manualOn : ℕ → Switch
-manualOn on = W.Manual (record { 0 = on })
+-- the latest choice follows an event of a kind on an input
+abbrev pub FollowsOn : ℕ → ℕ → Choices → Type 0
+FollowsOn kind on [] = ⊥
+FollowsOn kind on (choice ∷ earlier) = (choice .kind ≡ kind) × (choice .on ≡ on)
+
+-- the latest choice follows a command to the switch
+abbrev pub Commands : Choices → Type 0
+Commands [] = ⊥
+Commands (choice ∷ earlier) = Command (choice .kind)
+
+-- at the latest choice an input passes a test
+abbrev pub Passes : (List Candidate → ℕ → Bool) → ℕ → Choices → Type 0
+Passes test on [] = ⊥
+Passes test on (choice ∷ earlier) = test (choice .candidates) on ≡ true
+
+-- `Stands` of `events/specs/Demand3` over candidates: some choice follows the switch's command; no later one follows a
+-- command to the switch; and its input has passed the switch's test at that choice and at every later one
+pub record StandsAmong (kind : ℕ) (test : List Candidate → ℕ → Bool) (on : ℕ) (choices : Choices) : Type 0 where
+  pub count : ℕ
+  pub given : FollowsOn kind on (choicesAgo count choices)
+  pub unreplaced : (back : ℕ) → back < count → Commands (choicesAgo back choices) → ⊥
+  pub unbroken : (back : ℕ) → back ≤ count → Passes test on (choicesAgo back choices)
+
+-- a forced switch stands, over candidates
+abbrev pub ForcedAmong : ℕ → Choices → Type 0
+ForcedAmong on choices = StandsAmong kindForced forcedMayStand on choices
+
+-- a manual switch stands, over candidates
+abbrev pub ManualAmong : ℕ → Choices → Type 0
+ManualAmong on choices = StandsAmong kindManual manualMayStand on choices
+
+-- the switch after the choices stands exactly as the sentences say
+pub record SwitchRight (choices : Choices) : Type 0 where
+  pub forced : (on : ℕ) → decidedOver choices .switch ≡ forcedOn on → ForcedAmong on choices
+  pub forcedOnly : (on : ℕ) → ForcedAmong on choices → decidedOver choices .switch ≡ forcedOn on
+  pub manual : (on : ℕ) → decidedOver choices .switch ≡ manualOn on → ManualAmong on choices
+  pub manualOnly : (on : ℕ) → ManualAmong on choices → decidedOver choices .switch ≡ manualOn on
 
 -- ---- switches are told apart
 
@@ -62,10 +95,6 @@ judged-stands candidates (W.Forced on) = refl
 judged-stands candidates (W.Manual on) = refl
 
 -- ---- commanded
-
--- an event of this kind is a command to the switch
-abbrev pub Command : ℕ → Type 0
-Command kind = (kind ≡ kindForced) ⊎ ((kind ≡ kindManual) ⊎ (kind ≡ kindClearSwitch))
 
 -- any other event leaves the switch
 pub commanded-other : (kind on : ℕ) (switch : Switch) → (Command kind → ⊥) → commanded kind on switch ≡ switch
@@ -129,7 +158,7 @@ module _ (kind : ℕ) (test : List Candidate → ℕ → Bool) (switchOn : ℕ �
           )
 
   -- the switch that is there stands
-  switch-stands : (choices : Choices) (on : ℕ) → decidedOver choices .switch ≡ switchOn on → Stands kind test on choices
+  switch-stands : (choices : Choices) (on : ℕ) → decidedOver choices .switch ≡ switchOn on → StandsAmong kind test on choices
   unfolding decidedOver decide choicesAgo
   switch-stands [] on x = absurd (setting .notNothing on x)
   switch-stands (choice ∷ earlier) on x =
@@ -141,7 +170,7 @@ module _ (kind : ℕ) (test : List Candidate → ℕ → Bool) (switchOn : ℕ �
       judgedHere =
           judged-only (choice .candidates) (commanded (choice .kind) (choice .on) (decidedOver earlier .switch)) on x
 
-      now : (choice .kind ≡ kind) × (choice .on ≡ on) → Stands kind test on (choice ∷ earlier)
+      now : (choice .kind ≡ kind) × (choice .on ≡ on) → StandsAmong kind test on (choice ∷ earlier)
       now y =
           record {
             count = 0;
@@ -150,7 +179,7 @@ module _ (kind : ℕ) (test : List Candidate → ℕ → Bool) (switchOn : ℕ �
             unbroken = elim [ zero ↦ λ h. judgedHere .1 | suc back ↦ λ h. absurd (omega arith) ];
           }
 
-      later : (Command (choice .kind) → ⊥) → Stands kind test on earlier → Stands kind test on (choice ∷ earlier)
+      later : (Command (choice .kind) → ⊥) → StandsAmong kind test on earlier → StandsAmong kind test on (choice ∷ earlier)
       later n s =
           record {
             count = suc (s .count);
@@ -224,16 +253,16 @@ switch-right choices =
 
 module _ (choices : Choices) (on other : ℕ) where
   -- a forced switch stands on one input only
-  pub standsForced-unique : StandsForced on choices → StandsForced other choices → on ≡ other
-  standsForced-unique s t =
+  pub forcedAmong-unique : ForcedAmong on choices → ForcedAmong other choices → on ≡ other
+  forcedAmong-unique s t =
       forced-injective on other (sym (switch-right choices .forcedOnly on s) ∙ switch-right choices .forcedOnly other t)
 
   -- a manual switch too
-  pub standsManual-unique : StandsManual on choices → StandsManual other choices → on ≡ other
-  standsManual-unique s t =
+  pub manualAmong-unique : ManualAmong on choices → ManualAmong other choices → on ≡ other
+  manualAmong-unique s t =
       manual-injective on other (sym (switch-right choices .manualOnly on s) ∙ switch-right choices .manualOnly other t)
 
   -- and never both stand
-  pub standsForced-alone : StandsForced on choices → StandsManual other choices → ⊥
-  standsForced-alone s t =
+  pub forcedAmong-alone : ForcedAmong on choices → ManualAmong other choices → ⊥
+  forcedAmong-alone s t =
       forced-manual on other (sym (switch-right choices .forcedOnly on s) ∙ switch-right choices .manualOnly other t)

@@ -1,3 +1,4 @@
--- Laws of digits: of runs of them, and of what they stand for.
+-- Laws of digits: of runs of them, of what they stand for, and of decimal text.
 pub mod Runs
 pub mod Values
+pub mod Decimals

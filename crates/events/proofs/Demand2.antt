@@ -1,16 +1,13 @@
 -- DEMAND 2, for what is answered of a state after any sequence of events. Assumes nothing.
 use Prim.Native.Nat.{ℕ, _<_}
-use mathlib.Core.Bool.{Bool, true, false, not, true≢false}
-use mathlib.Core.List.{List, [], _∷_}
+use mathlib.Core.Bool.{Bool, true}
+use mathlib.Core.List.{List, [], _∷_, map}
 use mathlib.Core.Path.{_≡_, refl, sym, _∙_, ap}
-use native.Mathlib.Omega.{arith}
-use lib.Dec.{eqb, ltb}
+use lib.Dec.{eqb}
 use lib.ListN.{getD}
-use borrow.Author.Tests.{ltb-true, ltb-false}
 use Rattle.numbers.specs.declared.InputNumber.{InputNumber}
 use Rattle.numbers.specs.Inputs.{inputCount}
 use Rattle.numbers.specs.Quality.{codeOfQuality}
-use Rattle.run.proofs.Laws.{byBool}
 use Rattle.input.specs.declared.Input.{Input}
 use Rattle.input.specs.declared.Settings.{Settings}
 use Rattle.input.specs.Recorded.{History, modeOn, timeOf, isSending}
@@ -20,44 +17,21 @@ use Rattle.input.proofs.Demand2.{passed-now}
 use Rattle.choice.specs.declared.Candidate.{Candidate}
 use Rattle.choice.specs.declared.Selection.{Selection}
 use Rattle.choice.specs.declared.Selection.the-variants as S
-use Rattle.choice.specs.Candidate.{nobody, isEligible, eligibleAmong}
-use Rattle.decision.specs.declared.Switch.{Switch}
-use Rattle.decision.specs.declared.Switch.the-variants as W
-use Rattle.decision.specs.Decision.{forcedMayStand, manualMayStand}
-use Rattle.decision.specs.Choices.{Choices, choicesAgo, Passes}
-use Rattle.decision.proofs.Standing.{switch-right}
-use Rattle.decision.proofs.Selecting.{manualMayStand-eligible, eligible-admitted, selected-admitted}
+use Rattle.decision.specs.Decision.{forcedMayStand}
+use Rattle.decision.proofs.Selecting.{selected-admitted}
 use Rattle.selector.specs.declared.Selector.{Selector}
 use Rattle.selector.specs.State.{candidateFor}
-use Rattle.selector.specs.Answer.{switchFails, clockState, clockQuality, outgoingCode, selectedNumber, switchNumber, switchInput, selectedCandidate, candidateAt, qualityOf, answerOf, codeFor, outgoingCodes}
-use Rattle.selector.proofs.Laws.{getD-past}
+use Rattle.selector.specs.Clock.{clockState, clockQuality, outgoingCode, selectedNumber, switchNumber, switchInput}
+use Rattle.selector.specs.Answer.{selectedCandidate, candidateAt, qualityOf, answerOf, codeFor, outgoingCodes}
 use Rattle.selector.proofs.Ports.{getD-ports, ports-same}
 use Rattle.events.specs.Sequence.{Sequence, stateAfter}
-use Rattle.events.specs.Past.{candidateBy, candidatesBy, pastOf, recorded, choicesOf}
-use Rattle.events.specs.Told.{shown, selectedBy, qualityBy, answerBy, codeBy}
+use Rattle.events.specs.Past.{Made, candidateBy, candidatesBy, seen, pastOf, recorded, madeIn}
+use Rattle.events.specs.Told.{shown, candidateSelected, qualityBy, answerBy, codeBy}
 use Rattle.events.specs.Demand2.{Demand2}
-use Rattle.events.specs.Demand3.{MadeAt}
 use Rattle.events.proofs.Agrees.{Agrees, sequence-agrees, settings-at, candidate-recorded}
+use Rattle.events.proofs.Stated.{admitted-inside, passes-made}
 
--- an input that is neither off nor locked is one of the sixteen
-admitted-inside : (history : History) (time number : ℕ) → forcedMayStand (candidatesBy history time) number ≡ true
-    → number < inputCount
-admitted-inside history time number x =
-    byBool (ltb number inputCount) (ltb-true number inputCount)
-    (λ e.
-    let none : getD (candidatesBy history time) number nobody ≡ nobody =
-    getD-past (candidatesBy history time) number nobody (ltb-false number inputCount e)
-    in
-    absurd (true≢false (sym x ∙ ap (λ (candidate : Candidate). candidate .admitted) none)))
-
--- a test at the latest choice is a test of the inputs as the recorded events show them
-passes-made : (test : List Candidate → ℕ → Bool) (number time : ℕ) (history : History) (choices : Choices)
-    → MadeAt history time choices → Passes test number choices → test (candidatesBy history time) number ≡ true
-passes-made test number time history [] made passes = absurd passes
-passes-made test number time history (choice ∷ earlier) made passes =
-    ap (λ (candidates : List Candidate). test candidates number) (sym made) ∙ passes
-
-module _ (state : Selector) (history : History) (choices : Choices) (agrees : Agrees state history choices) where
+module _ (state : Selector) (history : History) (made : List Made) (agrees : Agrees state history made) where
   -- an input of the state, as a choice sees it, is that of the recorded events
   candidate-at : (number : ℕ) → number < inputCount
       → candidateAt (state .inputs) (state .mode) number ≡ candidateBy history (state .time) number
@@ -73,37 +47,8 @@ module _ (state : Selector) (history : History) (choices : Choices) (agrees : Ag
   selected-inside : (number : InputNumber) → state .selection ≡ S.At number → number .0 < inputCount
   selected-inside number x =
       admitted-inside history (timeOf history) (number .0)
-      (passes-made forcedMayStand (number .0) (timeOf history) history choices (agrees .made)
-      (selected-admitted choices (number .0) (sym (agrees .selection) ∙ x)))
-
-  -- a manual switch stands on an eligible input
-  manual-eligible : (on : InputNumber) → state .switch ≡ W.Manual on
-      → isEligible (candidateAt (state .inputs) (state .mode) (on .0)) ≡ true
-  unfolding choicesAgo
-  manual-eligible on x =
-      let stands : manualMayStand (candidatesBy history (timeOf history)) (on .0) ≡ true =
-      passes-made manualMayStand (on .0) (timeOf history) history choices (agrees .made)
-      (switch-right choices .manual (on .0) (sym (agrees .switch) ∙ x) .unbroken 0 (omega arith))
-      in
-      let eligible : eligibleAmong (candidatesBy history (timeOf history)) (on .0) ≡ true =
-      manualMayStand-eligible (candidatesBy history (timeOf history)) (on .0) stands
-      in
-      let inside : on .0 < inputCount =
-      admitted-inside history (timeOf history) (on .0) (eligible-admitted (candidatesBy history (timeOf history)) (on .0) eligible)
-      in
-      ap isEligible (candidate-at (on .0) inside) ∙
-      ap (λ (time : ℕ). isEligible (candidateBy history time (on .0))) (agrees .time) ∙
-      ap isEligible (sym (getD-ports (candidateBy history (timeOf history)) nobody (on .0) inside)) ∙
-      eligible
-
-  never-fails : switchFails (state .inputs) (state .mode) (state .switch) ≡ false
-  unfolding switchFails
-  never-fails = go (state .switch) refl
-    where
-      go : (switch : Switch) → state .switch ≡ switch → switchFails (state .inputs) (state .mode) switch ≡ false
-      go W.Nothing x = refl
-      go (W.Forced on) x = refl
-      go (W.Manual on) x = ap not (manual-eligible on x)
+      (passes-made forcedMayStand (number .0) (timeOf history) history made (agrees .madeAt)
+      (selected-admitted (map seen made) (number .0) (sym (agrees .selection) ∙ x)))
 
 -- ---- after a sequence
 
@@ -111,7 +56,7 @@ module _ (sequence : Sequence) where
   abbrev after : Selector
   after = stateAfter sequence
 
-  agreed : Agrees after (recorded sequence) (choicesOf sequence)
+  agreed : Agrees after (recorded sequence) (madeIn sequence)
   agreed = sequence-agrees sequence
 
   selected-shown : (selection : Selection) → after .selection ≡ selection
@@ -119,15 +64,12 @@ module _ (sequence : Sequence) where
   unfolding selectedCandidate
   selected-shown S.Nothing x = refl
   selected-shown (S.At number) x =
-      candidate-at after (recorded sequence) (choicesOf sequence) agreed (number .0)
-      (selected-inside after (recorded sequence) (choicesOf sequence) agreed number x) ∙
+      candidate-at after (recorded sequence) (madeIn sequence) agreed (number .0)
+      (selected-inside after (recorded sequence) (madeIn sequence) agreed number x) ∙
       ap (λ (time : ℕ). candidateBy (recorded sequence) time (number .0)) (agreed .time)
 
-  selected-by : selectedCandidate (after .inputs) (after .mode) (after .selection) ≡ selectedBy (pastOf sequence)
+  selected-by : selectedCandidate (after .inputs) (after .mode) (after .selection) ≡ candidateSelected (pastOf sequence)
   selected-by = selected-shown (after .selection) refl ∙ ap (shown (pastOf sequence)) (agreed .selection)
-
-  never-03 : switchFails (after .inputs) (after .mode) (after .switch) ≡ false
-  never-03 = never-fails after (recorded sequence) (choicesOf sequence) agreed
 
   quality-by : qualityOf after ≡ qualityBy (pastOf sequence)
   quality-by =
@@ -139,7 +81,7 @@ module _ (sequence : Sequence) where
   answer-by number = λ j. record {
     number = number;
     selected = selectedNumber (agreed .selection j);
-    state = clockState (never-03 j) (selected-by j .usable) (agreed .held j);
+    state = clockState (selected-by j .usable) (agreed .held j);
     quality = quality-by j .0;
     switch = switchNumber (agreed .switch j);
     on = switchInput (agreed .switch j);
@@ -171,5 +113,4 @@ demand-2-answers sequence =
           (codeOfQuality (qualityOf (stateAfter sequence))))
           (codeBy (pastOf sequence))
           (code-by sequence);
-      never03 = never-03 sequence;
     }

@@ -10,8 +10,9 @@ use Rattle.due.specs.Each as Each
 use Rattle.due.specs.Each.{each, one, dueIn}
 use Rattle.due.proofs.Jump.{nextDue-later, dueIn-before, dueIn-next}
 use Rattle.events.specs.Sequence.{Sequence, stateAfter}
-use Rattle.events.specs.Due.{isDue, NextRight}
-use Rattle.events.specs.Past.{recorded, choicesOf}
+use Rattle.events.specs.Due.{isDue}
+use Rattle.events.specs.NextDue.{NextRight}
+use Rattle.events.specs.Past.{recorded, madeIn}
 use Rattle.events.proofs.Calm.{sequence-calm}
 use Rattle.events.proofs.Extra.{sequence-ever}
 use Rattle.events.proofs.Agrees.{due-each, sequence-agrees}
@@ -42,7 +43,7 @@ module _ (sequence : Sequence) where
   unfolding dueIn
   counted count =
       ap (λ (test : Bool). dueIn count state + one test)
-      (due-each state (recorded sequence) (choicesOf sequence) (sequence-agrees sequence) count)
+      (due-each state (recorded sequence) (madeIn sequence) (sequence-agrees sequence) count)
 
   none-due : (count : ℕ) → suc (last + count) < nextDue state → isDue (recorded sequence) (suc (last + count)) ≡ false
   none-due count before =

@@ -3,19 +3,15 @@
 -- `Demand3`.
 -- Assumes nothing.
 use Prim.Native.Nat.{ℕ}
-use mathlib.Core.Bool.{false}
 use mathlib.Core.Path.{_≡_}
-use Rattle.selector.specs.Answer.{switchFails, answerOf, outgoingCodes}
+use Rattle.selector.specs.Answer.{answerOf, outgoingCodes}
 use Rattle.events.specs.Sequence.{Sequence, stateAfter}
 use Rattle.events.specs.Past.{pastOf}
 use Rattle.events.specs.Told.{answerBy, codesBy}
 
 -- after a sequence of events
 pub record Demand2 (sequence : Sequence) : Type 0 where
-  -- the whole answer is by what has happened; the number in it is in `Demand3`
+  -- the whole answer is by what has happened; the number in it is in `Demand1`
   pub answer : (number : ℕ) → answerOf number (stateAfter sequence) ≡ answerBy number (pastOf sequence)
   -- all sixteen codes are too
   pub outgoing : outgoingCodes (stateAfter sequence) ≡ codesBy (pastOf sequence)
-  -- "03 is answered should a manual switch be found standing on an ineligible input": none ever is
-  pub never03 :
-      switchFails (stateAfter sequence .inputs) (stateAfter sequence .mode) (stateAfter sequence .switch) ≡ false

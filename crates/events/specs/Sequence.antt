@@ -1,20 +1,11 @@
 -- Any sequence of events from a fresh start, refused ones included: the state that the code is in after it, and the
 -- number that the code answers. `Past` has what document 01 says of the same sequence. Assumes nothing.
 use Prim.Native.Nat.{ℕ}
-use mathlib.Core.List.{List, [], _∷_}
-use Rattle.numbers.specs.declared.Event.{Event}
+use mathlib.Core.List.{[], _∷_}
 use Rattle.selector.specs.declared.Selector.{Selector}
 use Rattle.selector.specs.State.{freshSelector}
 use Rattle.events.specs.Step.{step}
-
--- an event and the frame lent with it
-pub record Given : Type 0 where
-  pub event : Event
-  pub frame : List ℕ
-
--- a sequence of events, the latest first
-abbrev pub Sequence : Type 0
-Sequence = List Given
+pub use Rattle.events.specs.Given.{Given, Sequence}
 
 -- the state after a sequence of events from a fresh start
 unfoldable pub stateAfter : Sequence → Selector

@@ -2,7 +2,6 @@
 -- sixteen codes that go out after it.
 -- Assumes nothing.
 use Prim.Native.Nat.{ℕ}
-use mathlib.Core.Bool.{false}
 use mathlib.Core.List.{List, map}
 use lib.Dec.{eqb}
 use Rattle.numbers.specs.declared.Answer.{Answer}
@@ -13,14 +12,8 @@ use Rattle.choice.specs.declared.Candidate.{Candidate}
 use Rattle.choice.specs.declared.Selection.{Selection}
 use Rattle.choice.specs.declared.Selection.the-variants as S
 use Rattle.choice.specs.Candidate.{nobody}
-use Rattle.decision.specs.declared.Decision.{Decision}
-use Rattle.decision.specs.Choices.{decidedOver}
-use Rattle.selector.specs.Answer.{clockState, clockQuality, outgoingCode, selectedNumber, switchNumber, switchInput, ports}
-use Rattle.events.specs.Past.{Past, candidateBy}
-
--- the switch that stands, what is selected, and whether the clock was ever locked, after the choices made
-abbrev pub decidedBy : Past → Decision
-decidedBy past = decidedOver (past .choices)
+use Rattle.selector.specs.Clock.{clockState, clockQuality, outgoingCode, selectedNumber, switchNumber, switchInput, ports}
+use Rattle.events.specs.Past.{Past, candidateBy, decidedBy}
 
 -- an input as the recorded events show it at the time of the last of them; none where nothing is selected
 abbrev pub shown : Past → Selection → Candidate
@@ -28,31 +21,30 @@ shown past S.Nothing = nobody
 shown past (S.At number) = candidateBy (past .history) (timeOf (past .history)) (number .0)
 
 -- the selected input
-abbrev pub selectedBy : Past → Candidate
-selectedBy past = shown past (decidedBy past .selection)
+abbrev pub candidateSelected : Past → Candidate
+candidateSelected past = shown past (decidedBy (past .made) .selection)
 
 -- "Clock quality: 0 with mode off; the passed quality when locked; otherwise 4"
 abbrev pub qualityBy : Past → Quality
-qualityBy past = clockQuality (modeOn (past .history)) (selectedBy past)
+qualityBy past = clockQuality (modeOn (past .history)) (candidateSelected past)
 
--- "Answer line: number .., selected input or ff, clock state, clock quality, switch .., its input or ff". A manual
--- switch never stands on an ineligible input, so the state is never 03
+-- "Answer line: number .., selected input or ff, clock state, clock quality, switch .., its input or ff"
 abbrev pub answerBy : ℕ → Past → Answer
 answerBy number past =
     record {
       number = number;
-      selected = selectedNumber (decidedBy past .selection);
-      state = clockState false (selectedBy past .usable) (decidedBy past .held);
+      selected = selectedNumber (decidedBy (past .made) .selection);
+      state = clockState (candidateSelected past .usable) (decidedBy (past .made) .held);
       quality = qualityBy past .0;
-      switch = switchNumber (decidedBy past .switch);
-      on = switchInput (decidedBy past .switch);
+      switch = switchNumber (decidedBy (past .made) .switch);
+      on = switchInput (decidedBy (past .made) .switch);
     }
 
 -- "1111 if mode is off, if its sending is off, or if it is the selected input; otherwise the code of the clock quality"
 unfoldable pub codeBy : Past → ℕ → ℕ
 codeBy past port =
     outgoingCode (modeOn (past .history)) (isSending port (past .history))
-    (eqb (selectedNumber (decidedBy past .selection)) port)
+    (eqb (selectedNumber (decidedBy (past .made) .selection)) port)
     (codeOfQuality (qualityBy past))
 
 -- "Outgoing code, for each of the sixteen ports"

@@ -8,10 +8,10 @@ use native.Mathlib.Omega.{arith}
 use lib.Dec.{eqb, leb}
 use lib.ListN.{length}
 use borrow.Author.Tests.{eq-eqb, ne-eqb, eqb-true, leb-true, le-leb, lt-leb}
-use Rattle.numbers.specs.Refusal.{accepted, frameLength}
+use Rattle.numbers.specs.Refusal.{accepted, frameLength, frameDestination, frameProtocol, frameOrganisation, frameVersion, frameTlv}
 use Rattle.frame.specs.declared.FrameRead.the-variants.{Code, Refused}
 use Rattle.frame.specs.Octets.{shortestFrame, longestFrame}
-use Rattle.frame.specs.Read.{rightLength, frameNumber, frameCode, readFrame, numberOfRead}
+use Rattle.frame.specs.Read.{rightLength, rightDestination, rightProtocol, rightOrganisation, rightVersion, rightTlv, frameNumber, frameCode, readFrame, numberOfRead}
 
 module _ (frame : List ℕ) where
   -- ---- rightLength
@@ -41,6 +41,40 @@ module _ (frame : List ℕ) where
           → shortestFrame ≤ length frame
       go true long number = leb-true _ _ long
       go false short number = let wrong : _≡_ {A = ℕ} frameLength accepted = rw short at number in absurd (omega arith)
+
+  -- the number in each case, by the first part that is not right
+  pub frameNumber-length : rightLength frame ≡ false → frameLength ≡ frameNumber frame
+  unfolding frameNumber
+  frameNumber-length wrong = rw wrong
+
+  module _ (sized : rightLength frame ≡ true) where
+    pub frameNumber-destination : rightDestination frame ≡ false → frameDestination ≡ frameNumber frame
+    unfolding frameNumber
+    frameNumber-destination wrong = rw (sized, wrong)
+
+    module _ (addressed : rightDestination frame ≡ true) where
+      pub frameNumber-protocol : rightProtocol frame ≡ false → frameProtocol ≡ frameNumber frame
+      unfolding frameNumber
+      frameNumber-protocol wrong = rw (sized, addressed, wrong)
+
+      module _ (slow : rightProtocol frame ≡ true) where
+        pub frameNumber-organisation : rightOrganisation frame ≡ false → frameOrganisation ≡ frameNumber frame
+        unfolding frameNumber
+        frameNumber-organisation wrong = rw (sized, addressed, slow, wrong)
+
+        module _ (standard : rightOrganisation frame ≡ true) where
+          pub frameNumber-version : rightVersion frame ≡ false → frameVersion ≡ frameNumber frame
+          unfolding frameNumber
+          frameNumber-version wrong = rw (sized, addressed, slow, standard, wrong)
+
+          module _ (known : rightVersion frame ≡ true) where
+            pub frameNumber-tlv : rightTlv frame ≡ false → frameTlv ≡ frameNumber frame
+            unfolding frameNumber
+            frameNumber-tlv wrong = rw (sized, addressed, slow, standard, known, wrong)
+
+            pub frameNumber-none : rightTlv frame ≡ true → accepted ≡ frameNumber frame
+            unfolding frameNumber
+            frameNumber-none right = rw (sized, addressed, slow, standard, known, right)
 
   -- ---- readFrame
 

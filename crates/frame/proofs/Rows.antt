@@ -5,13 +5,13 @@ use mathlib.Core.Bool.{Bool, true, false, _&&_, false≢true}
 use mathlib.Core.List.{List, [], _∷_, _++_, append-assoc}
 use mathlib.Core.Logic.{_≢_}
 use mathlib.Core.Path.{_≡_, refl, sym, ap, _∙_}
-use native.Mathlib.Nat.{add-suc, add-assoc, zero-add}
+use native.Mathlib.Nat.{add-assoc, zero-add}
 use native.Mathlib.Numerals.{add-one}
 use native.Mathlib.Omega.{arith}
-use borrow.Author.Tests.{eq-eqb, ne-eqb, eqb-true}
+use borrow.Author.Tests.{eq-eqb, eqb-true}
 use lib.Dec.{eqb}
 use lib.ListN.{length, getD, set, take, drop, length-append}
-use lib.Seq.{slice, slice-cons, slice-empty, drop-cons, drop-length, paste, paste-suc, length-paste, take-paste, drop-paste, take-length, drop-drop}
+use lib.Seq.{paste, paste-suc, length-paste, take-paste, drop-paste, take-length, drop-drop}
 use Rattle.frame.specs.Octets.{same}
 use Rattle.frame.specs.Write.{putOctets}
 
@@ -46,43 +46,6 @@ same-other one other differ = go (same one other) refl
     go : (test : Bool) → same one other ≡ test → same one other ≡ false
     go true equal = absurd (differ (same-true one other equal))
     go false unequal = unequal
-
--- ---- same, along a frame
-
-module _ (frame wanted : List ℕ) (start passed : ℕ) (fits : start + length wanted ≤ length frame) where
-  -- what is left of a row decides once the octet at hand is right
-  pub same-next :
-      passed < length wanted
-      → getD frame (start + passed) 0 ≡ getD wanted passed 0
-      → same (slice (start + (passed + 1)) (start + length wanted) frame) (drop (passed + 1) wanted)
-      ≡ same (slice (start + passed) (start + length wanted) frame) (drop passed wanted)
-  unfolding same
-  same-next left equal =
-      let inside : start + passed < start + length wanted = omega arith in
-      rw (
-        slice-cons (start + passed) (start + length wanted) frame 0,
-        drop-cons wanted passed 0,
-        eq-eqb _ _ equal,
-        add-one,
-        add-suc,
-      )
-
-  -- an octet that differs decides at once
-  pub same-differs :
-      passed < length wanted
-      → (getD frame (start + passed) 0 ≡ getD wanted passed 0 → ⊥)
-      → same (slice (start + passed) (start + length wanted) frame) (drop passed wanted) ≡ false
-  unfolding same
-  same-differs left differs =
-      let inside : start + passed < start + length wanted = omega arith in
-      rw (slice-cons (start + passed) (start + length wanted) frame 0, drop-cons wanted passed 0, ne-eqb _ _ differs)
-
-  -- a row that is gone through is the same
-  pub same-end :
-      passed ≡ length wanted
-      → same (slice (start + passed) (start + length wanted) frame) (drop passed wanted) ≡ true
-  unfolding same
-  same-end all = rw (all, slice-empty (start + length wanted) frame, drop-length wanted)
 
 -- ---- a row put into a buffer, octet by octet
 

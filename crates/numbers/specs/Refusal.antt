@@ -1,4 +1,4 @@
--- Document 01, "Numbers of refusal": the table, row by row.
+-- Document 01, "Numbers of refusal": the table, row by row; then the number that document 02 adds.
 -- Assumes nothing.
 use Prim.Native.Nat.{ℕ}
 
@@ -75,3 +75,7 @@ bufferTooShort = 18
 -- "source address not six octets"
 abbrev pub sourceNotSix : ℕ
 sourceNotSix = 19
+
+-- L6: "A list longer than the room lent for it"; L8: "Output lent too short for either the log or the report"
+abbrev pub outputTooShort : ℕ
+outputTooShort = 20

@@ -32,7 +32,7 @@ pub struct Run {
 }
 
 // Whether `length` ms have gone by at `time` since `start`.
-fn has_elapsed(start: u64, length: u64, time: u64) -> bool
+pub fn has_elapsed(start: u64, length: u64, time: u64) -> bool
     ensures { λ answer. ⌜ answer ≡ leb (start + length) time ⌝ }
 {
     if start <= time {

@@ -19,7 +19,7 @@ use Rattle.decision.specs.declared.Switch.the-variants as W
 use Rattle.selector.specs.State.{candidateFor}
 use Rattle.selector.proofs.Filled.{filled, filled-turn}
 use Rattle.selector.proofs.Ports.{port-number}
-use Rattle.selector.specs.Answer.{noInput, freeRun, holdover, locked, manualIneligible, selectedCandidate, switchFails, clockState, clockQuality, outgoingCode, selectedNumber, switchNumber, switchInput, codeFor, ports}
+use Rattle.selector.specs.Answer.{noInput, freeRun, holdover, locked, selectedCandidate, clockState, clockQuality, outgoingCode, selectedNumber, switchNumber, switchInput, codeFor, ports}
 
 -- ---- getD
 
@@ -62,57 +62,22 @@ module _ (inputs : List Input) (mode : Bool) (selection : Selection) where
 
 pub ruleset selectedCandidate-laws = (selectedCandidate-nothing, selectedCandidate-at)
 
--- ---- switchFails
-
-module _ (inputs : List Input) (mode : Bool) (switch : Switch) where
-  pub switchFails-nothing : switch ≡ W.Nothing → false ≡ switchFails inputs mode switch
-  unfolding switchFails
-  switchFails-nothing s = rw s
-
-  pub switchFails-forced : (on : InputNumber) → switch ≡ W.Forced on → false ≡ switchFails inputs mode switch
-  unfolding switchFails
-  switchFails-forced on s = rw s
-
-  pub switchFails-manual : (on : InputNumber) (input : Input) (candidate : Candidate) (able : Bool)
-      → switch ≡ W.Manual on
-      → input ≡ getD inputs (on .0) freshInput → candidate ≡ candidateFor mode input → able ≡ isEligible candidate
-      → able ≡ true
-      → false ≡ switchFails inputs mode switch
-  unfolding switchFails
-  switchFails-manual on input candidate able s i c a t = rw (s, ← i, ← c, ← a, t)
-
-  pub switchFails-ineligible : (on : InputNumber) (input : Input) (candidate : Candidate) (able : Bool)
-      → switch ≡ W.Manual on
-      → input ≡ getD inputs (on .0) freshInput → candidate ≡ candidateFor mode input → able ≡ isEligible candidate
-      → able ≡ false
-      → true ≡ switchFails inputs mode switch
-  unfolding switchFails
-  switchFails-ineligible on input candidate able s i c a t = rw (s, ← i, ← c, ← a, t)
-
-pub ruleset switchFails-laws = (switchFails-nothing, switchFails-forced, switchFails-manual, switchFails-ineligible)
-
 -- ---- clockState, clockQuality, outgoingCode
 
-module _ (fails isClockLocked held : Bool) where
-  pub clockState-fails : fails ≡ true → manualIneligible ≡ clockState fails isClockLocked held
+module _ (isClockLocked held : Bool) where
+  pub clockState-locked : isClockLocked ≡ true → locked ≡ clockState isClockLocked held
   unfolding clockState
-  clockState-fails f = rw f
+  clockState-locked l = rw l
 
-  pub clockState-locked : fails ≡ false → isClockLocked ≡ true → locked ≡ clockState fails isClockLocked held
+  pub clockState-holdover : isClockLocked ≡ false → held ≡ true → holdover ≡ clockState isClockLocked held
   unfolding clockState
-  clockState-locked f l = rw (f, l)
+  clockState-holdover l h = rw (l, h)
 
-  pub clockState-holdover : fails ≡ false → isClockLocked ≡ false → held ≡ true
-      → holdover ≡ clockState fails isClockLocked held
+  pub clockState-free : isClockLocked ≡ false → held ≡ false → freeRun ≡ clockState isClockLocked held
   unfolding clockState
-  clockState-holdover f l h = rw (f, l, h)
+  clockState-free l h = rw (l, h)
 
-  pub clockState-free : fails ≡ false → isClockLocked ≡ false → held ≡ false
-      → freeRun ≡ clockState fails isClockLocked held
-  unfolding clockState
-  clockState-free f l h = rw (f, l, h)
-
-pub ruleset clockState-laws = (clockState-fails, clockState-locked, clockState-holdover, clockState-free)
+pub ruleset clockState-laws = (clockState-locked, clockState-holdover, clockState-free)
 
 module _ (mode : Bool) (candidate : Candidate) where
   pub clockQuality-off : mode ≡ false → notTold ≡ clockQuality mode candidate

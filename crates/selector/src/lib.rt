@@ -23,7 +23,7 @@ ghost use mathlib.Core.List.{map};
 ghost use lib.ListN.{getD};
 ghost use Rattle.input.specs.Record.{freshInput, settle, tick};
 ghost use Rattle.selector.specs.State.{candidateFor, candidatesOf, freshSelector, decided, ticked};
-ghost use Rattle.selector.specs.Answer.{selectedNumber, switchNumber, switchInput, switchFails, clockState, clockQuality, outgoingCode, selectedCandidate, codeFor, ports, answerOf, outgoingCodes};
+ghost use Rattle.selector.specs.Answer.{selectedNumber, switchNumber, switchInput, clockState, clockQuality, outgoingCode, selectedCandidate, codeFor, ports, answerOf, outgoingCodes};
 
 // Stands for no input in an answer.
 const NO_INPUT: u8 = 255;
@@ -34,8 +34,6 @@ const FREE_RUN: u8 = 0;
 const HOLDOVER: u8 = 1;
 
 const LOCKED: u8 = 2;
-
-const MANUAL_INELIGIBLE: u8 = 3;
 
 // The switches.
 pub const SWITCH_NONE: u8 = 0;
@@ -180,12 +178,11 @@ impl Selector {
         let switch = self.switch;
         let selection = self.selection;
         let candidate = selected_candidate(inputs, self.mode, selection);
-        let fails = switch_fails(inputs, self.mode, switch);
         let quality = clock_quality(self.mode, candidate);
         Answer {
             number,
             selected: selected_number(selection),
-            state: clock_state(fails, candidate.usable, self.held),
+            state: clock_state(candidate.usable, self.held),
             quality: quality.0,
             switch: switch_number(switch),
             on: switch_input(switch),
@@ -234,30 +231,9 @@ fn selected_candidate(inputs: [Input; 16], mode: bool, selection: Selection) -> 
     }
 }
 
-// Whether a manual switch stands on an ineligible input.
-fn switch_fails(inputs: [Input; 16], mode: bool, switch: Switch) -> bool
-    ensures { λ answer. ⌜ answer ≡ switchFails inputs mode switch ⌝ }
+fn clock_state(locked: bool, held: bool) -> u8
+    ensures { λ answer. ⌜ answer ≡ clockState locked held ⌝ }
 {
-    match switch {
-        Switch::Nothing => false,
-        Switch::Forced(_) => false,
-        Switch::Manual(on) => {
-            let input = input_at(inputs, on);
-            let candidate = candidate_for(input, mode);
-            if candidate.is_eligible() {
-                return false;
-            }
-            true
-        }
-    }
-}
-
-fn clock_state(fails: bool, locked: bool, held: bool) -> u8
-    ensures { λ answer. ⌜ answer ≡ clockState fails locked held ⌝ }
-{
-    if fails {
-        return MANUAL_INELIGIBLE;
-    }
     if locked {
         return LOCKED;
     }

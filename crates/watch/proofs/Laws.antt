@@ -27,7 +27,8 @@ use Rattle.selector.specs.State.{decided}
 use Rattle.selector.specs.Answer.{answerOf}
 use Rattle.selector.proofs.Laws.{getD-any}
 use Rattle.events.specs.Refusals.{earlyRefusal}
-use Rattle.events.specs.Step.{inputAfter, recordedArgument, earlyNumber}
+use Rattle.events.specs.Step.{inputAfter, earlyNumber}
+use Rattle.events.specs.Given.{recordedArgument}
 use Rattle.events.proofs.Refused.{earlyRefusal-outside, accepted-input}
 use Rattle.watch.specs.declared.Left.{Left}
 use Rattle.watch.specs.declared.Left.the-variants.{Nothing, Choice, Service}

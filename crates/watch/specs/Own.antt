@@ -18,7 +18,8 @@ use Rattle.selector.specs.declared.Selector.{Selector}
 use Rattle.selector.specs.State.{decided}
 use Rattle.selector.specs.Answer.{answerOf}
 use Rattle.events.specs.Refusals.{earlyRefusal}
-use Rattle.events.specs.Step.{inputAfter, recordedArgument}
+use Rattle.events.specs.Step.{inputAfter}
+use Rattle.events.specs.Given.{recordedArgument}
 use Rattle.watch.specs.declared.Left.{Left}
 use Rattle.watch.specs.declared.Left.the-variants.{Nothing, Choice, Service}
 use Rattle.watch.specs.declared.Own.{Own}

@@ -5,7 +5,8 @@ use mathlib.Core.List.{[], _∷_}
 use mathlib.Core.Path.{_≡_}
 use Rattle.frame.specs.Read.{readFrame}
 use Rattle.selector.specs.Answer.{answerOf}
-use Rattle.events.specs.Sequence.{Given, Sequence, stateAfter, numberAfter}
+use Rattle.events.specs.Given.{Given, Sequence}
+use Rattle.events.specs.Sequence.{stateAfter, numberAfter}
 use Rattle.watch.specs.declared.Watch.{Watch}
 use Rattle.watch.specs.Watch.{freshWatch, watchStep}
 

@@ -17,7 +17,8 @@ use Rattle.input.specs.Record.{freshInput, passedOf}
 use Rattle.selector.specs.declared.Selector.{Selector}
 use Rattle.selector.specs.State.{freshSelector, decided}
 use Rattle.selector.specs.Answer.{answerOf}
-use Rattle.events.specs.Step.{inputAfter, recordedArgument, earlyNumber, stepRead}
+use Rattle.events.specs.Step.{inputAfter, earlyNumber, stepRead}
+use Rattle.events.specs.Given.{recordedArgument}
 use Rattle.watch.specs.declared.Watch.{Watch}
 use Rattle.watch.specs.Due.{never, lesser, dueOf, dueOfAll, dueAnew}
 

@@ -1,106 +1,63 @@
--- `frame::frame_number` meets its contract: its tests are those of `frameNumber`, in the same order.
+-- `frame::frame_number` meets its contract: a test of several parts says of each what its own test would say.
 -- Assumes nothing.
 use Prim.Native.Nat.{ℕ}
-use mathlib.Core.Bool.{Bool, true, false, cond, not}
+use mathlib.Core.Bool.{Bool, true, false, _&&_, false≢true}
 use mathlib.Core.List.{List}
-use mathlib.Core.Path.{_≡_, sym, ap, _∙_}
+use mathlib.Core.Path.{_≡_, refl, sym, ap, _∙_}
+use native.Mathlib.Omega.{arith}
 use borrow.Author.Tests.{eq-eqb, ne-eqb, not-true, not-false}
-use Rattle.numbers.specs.Refusal.{accepted, frameDestination, frameProtocol, frameOrganisation, frameVersion, frameTlv}
 use Rattle.frame.specs.Octets.{upperHalf}
-use Rattle.frame.specs.Read.{rightDestination, rightProtocol, rightOrganisation, rightVersion, rightTlv, frameNumber}
-use Rattle.frame.proofs.ReadLaws.{rightLength-right, rightLength-short, rightLength-long}
+use Rattle.frame.specs.Read.{rightLength, rightDestination, rightProtocol, rightOrganisation, rightVersion}
+use Rattle.frame.proofs.ReadLaws.{rightLength-right, rightLength-short, rightLength-long, frameNumber-length, frameNumber-destination, frameNumber-protocol, frameNumber-organisation, frameNumber-version, frameNumber-tlv, frameNumber-none}
+use Rattle.frame.proofs.Header.{protocol-and-organisation}
 use borrow.Author.Needs.{needs}
 use Rattle.frame.proofs.frame_number.Statement.{statement}
 use Rattle.frame.proofs.frame_number.Tie as tie
 
--- ---- a test that is passed leaves the rest, one that is not gives its number
+-- ---- two parts together
 
-passed : (test : Bool) (number rest : ℕ) → test ≡ true → cond (not test) number rest ≡ rest
-passed test number rest right = rw right
+both-true : (one other : Bool) → (one && other) ≡ true → (one ≡ true) × (other ≡ true)
+both-true true other both = (refl, both)
+both-true false other both = absurd (false≢true both)
 
-failed : (test : Bool) (number rest : ℕ) → test ≡ false → cond (not test) number rest ≡ number
-failed test number rest wrong = rw wrong
+second-false : (one other : Bool) → one ≡ true → (one && other) ≡ false → other ≡ false
+second-false one other first both = rw first at both
 
--- ---- what is left of `frameNumber` from each test on
+-- ---- what is known of the frame where a test is passed
 
-abbrev fromTlv : List ℕ → ℕ
-fromTlv frame = cond (not (rightTlv frame)) frameTlv accepted
+abbrev frameOf : tie.Else2 → List ℕ
+frameOf c = c .before .before .before .args .frame .now
 
-abbrev fromVersion : List ℕ → ℕ
-fromVersion frame = cond (not (rightVersion frame)) frameVersion (fromTlv frame)
+length-right : (c : tie.Else2) → rightLength (frameOf c) ≡ true
+length-right c = rightLength-right _ (c .before .if1 .left) (c .if2 .left)
 
-abbrev fromOrganisation : List ℕ → ℕ
-fromOrganisation frame = cond (not (rightOrganisation frame)) frameOrganisation (fromVersion frame)
-
-abbrev fromProtocol : List ℕ → ℕ
-fromProtocol frame = cond (not (rightProtocol frame)) frameProtocol (fromOrganisation frame)
-
-abbrev fromDestination : List ℕ → ℕ
-fromDestination frame = cond (not (rightDestination frame)) frameDestination (fromProtocol frame)
-
--- ---- the frame where each test is passed, and what is left there
-
-abbrev frame2 : tie.Else2 → List ℕ
-frame2 c = c .before .before .before .args .frame .now
-
-length-passed : (c : tie.Else2) → frameNumber (frame2 c) ≡ fromDestination (frame2 c)
-unfolding frameNumber
-length-passed c = passed _ _ _ (rightLength-right _ (c .before .if1 .left) (c .if2 .left))
-
-abbrev frame3 : tie.Else3 → List ℕ
-frame3 c = frame2 (c .before .before .before)
-
-destination-passed : (c : tie.Else3) → frameNumber (frame3 c) ≡ fromProtocol (frame3 c)
+destination-right : (c : tie.Else3) → rightDestination (frameOf (c .before .before .before)) ≡ true
 unfolding rightDestination
-destination-passed c =
-    length-passed (c .before .before .before)
-    ∙ passed _ _ _ (sym (c .before .has-octets .ensures) ∙ not-false _ (c .if3 .left))
+destination-right c = sym (c .before .has-octets .ensures) ∙ not-false _ (c .if3 .left)
 
-abbrev frame4 : tie.Else4 → List ℕ
-frame4 c = frame3 (c .before .before .before)
+abbrev frameOf2 : tie.After-has-octets2 → List ℕ
+frameOf2 c = frameOf (c .before .before .before .before .before)
 
-protocol-passed : (c : tie.Else4) → frameNumber (frame4 c) ≡ fromOrganisation (frame4 c)
+both-found : (c : tie.After-has-octets2)
+    → c .has-octets2 .result ≡ (rightProtocol (frameOf2 c) && rightOrganisation (frameOf2 c))
+both-found c = c .has-octets2 .ensures ∙ protocol-and-organisation (frameOf2 c) (omega arith)
+
+protocol-found : (c : tie.After-has-octets3)
+    → rightProtocol (frameOf2 (c .before .before .before)) ≡ c .has-octets3 .result
 unfolding rightProtocol
-protocol-passed c =
-    destination-passed (c .before .before .before)
-    ∙ passed _ _ _ (sym (c .before .has-octets2 .ensures) ∙ not-false _ (c .if4 .left))
+protocol-found c = sym (c .has-octets3 .ensures)
 
-abbrev frame5 : tie.Else5 → List ℕ
-frame5 c = frame4 (c .before .before .before)
-
-organisation-passed : (c : tie.Else5) → frameNumber (frame5 c) ≡ fromVersion (frame5 c)
-unfolding rightOrganisation
-organisation-passed c =
-    protocol-passed (c .before .before .before)
-    ∙ passed _ _ _ (sym (c .before .has-octets3 .ensures) ∙ not-false _ (c .if5 .left))
-
-abbrev frame6 : tie.Else6 → List ℕ
-frame6 c = frame5 (c .before .before)
-
-version-passed : (c : tie.Else6) → frameNumber (frame6 c) ≡ fromTlv (frame6 c)
-unfolding rightVersion
-version-passed c =
-    organisation-passed (c .before .before)
-    ∙ passed _ _ _ (eq-eqb _ _ (ap upperHalf (sym (c .before .octet .ensures)) ∙ c .if6 .left))
-
-abbrev frame7 : tie.Else7 → List ℕ
-frame7 c = frame6 (c .before .before .before)
-
-tlv-passed : (c : tie.Else7) → frameNumber (frame7 c) ≡ accepted
-unfolding rightTlv
-tlv-passed c =
-    version-passed (c .before .before .before)
-    ∙ passed _ _ _ (sym (c .before .has-octets4 .ensures) ∙ not-false _ (c .if7 .left))
+rows-right : (c : tie.Else4)
+    → (rightProtocol (frameOf2 (c .before)) ≡ true) × (rightOrganisation (frameOf2 (c .before)) ≡ true)
+rows-right c = both-true _ _ (sym (both-found (c .before)) ∙ not-false _ (c .if4 .left))
 
 -- ---- the needs
 
 returns : tie.Need-returns
-unfolding frameNumber
-returns c = sym (failed _ _ _ (rightLength-short _ (c .if1 .taken)))
+returns c = frameNumber-length _ (rightLength-short _ (c .if1 .taken))
 
 returns-2 : tie.Need-returns-2
-unfolding frameNumber
-returns-2 c = sym (failed _ _ _ (rightLength-long _ (c .if2 .taken)))
+returns-2 c = frameNumber-length _ (rightLength-long _ (c .if2 .taken))
 
 slice-aggregate-has-octets : tie.Need-slice-aggregate-has-octets
 slice-aggregate-has-octets c = search needs
@@ -111,9 +68,8 @@ has-octets-requires c κs = search needs
 returns-3 : tie.Need-returns-3
 unfolding rightDestination
 returns-3 c =
-    sym
-    (length-passed (c .before .before .before)
-    ∙ failed _ _ _ (sym (c .before .has-octets .ensures) ∙ not-true _ (c .if3 .taken)))
+    let sized = c .before .before .before in
+    frameNumber-destination _ (length-right sized) (sym (c .before .has-octets .ensures) ∙ not-true _ (c .if3 .taken))
 
 slice-aggregate-has-octets-2 : tie.Need-slice-aggregate-has-octets-2
 slice-aggregate-has-octets-2 c = search needs
@@ -121,12 +77,8 @@ slice-aggregate-has-octets-2 c = search needs
 has-octets-requires-2 : tie.Need-has-octets-requires-2
 has-octets-requires-2 c κs = search needs
 
-returns-4 : tie.Need-returns-4
-unfolding rightProtocol
-returns-4 c =
-    sym
-    (destination-passed (c .before .before .before)
-    ∙ failed _ _ _ (sym (c .before .has-octets2 .ensures) ∙ not-true _ (c .if4 .taken)))
+array-share-prefix-has-octets : tie.Need-array-share-prefix-has-octets
+array-share-prefix-has-octets c = search needs
 
 slice-aggregate-has-octets-3 : tie.Need-slice-aggregate-has-octets-3
 slice-aggregate-has-octets-3 c = search needs
@@ -134,12 +86,24 @@ slice-aggregate-has-octets-3 c = search needs
 has-octets-requires-3 : tie.Need-has-octets-requires-3
 has-octets-requires-3 c κs = search needs
 
+returns-4 : tie.Need-returns-4
+returns-4 c =
+    let asked = c .before in
+    let addressed = asked .before .before .before .before .before in
+    frameNumber-protocol _ (length-right (addressed .before .before .before)) (destination-right addressed)
+    (protocol-found asked ∙ not-true _ (c .if5 .taken))
+
 returns-5 : tie.Need-returns-5
-unfolding rightOrganisation
 returns-5 c =
-    sym
-    (protocol-passed (c .before .before .before)
-    ∙ failed _ _ _ (sym (c .before .has-octets3 .ensures) ∙ not-true _ (c .if5 .taken)))
+    let asked = c .before in
+    let wrong = asked .before .before in
+    let addressed = wrong .before .before .before in
+    let slow = protocol-found asked ∙ not-false _ (c .if5 .left) in
+    frameNumber-organisation _ (length-right (addressed .before .before .before)) (destination-right addressed) slow
+    (second-false _ _ slow (sym (both-found (wrong .before)) ∙ not-true _ (wrong .if4 .taken)))
+
+has-version-and-tlv-requires : tie.Need-has-version-and-tlv-requires
+has-version-and-tlv-requires c κs = search needs
 
 octet-requires : tie.Need-octet-requires
 octet-requires c κs = search needs
@@ -147,25 +111,31 @@ octet-requires c κs = search needs
 returns-6 : tie.Need-returns-6
 unfolding rightVersion
 returns-6 c =
-    sym
-    (organisation-passed (c .before .before)
-    ∙ failed _ _ _ (ne-eqb _ _ (λ equal. c .if6 .taken (ap upperHalf (c .before .octet .ensures) ∙ equal))))
-
-slice-aggregate-has-octets-4 : tie.Need-slice-aggregate-has-octets-4
-slice-aggregate-has-octets-4 c = search needs
-
-has-octets-requires-4 : tie.Need-has-octets-requires-4
-has-octets-requires-4 c κs = search needs
+    let wrong = c .before .before in
+    let right = wrong .before .before in
+    let addressed = right .before .before .before in
+    frameNumber-version _ (length-right (addressed .before .before .before)) (destination-right addressed)
+    (rows-right right .0) (rows-right right .1)
+    (ne-eqb _ _ (λ equal. c .if7 .taken (ap upperHalf (c .before .octet .ensures) ∙ equal)))
 
 returns-7 : tie.Need-returns-7
-unfolding rightTlv
+unfolding rightVersion
 returns-7 c =
-    sym
-    (version-passed (c .before .before .before)
-    ∙ failed _ _ _ (sym (c .before .has-octets4 .ensures) ∙ not-true _ (c .if7 .taken)))
+    let wrong = c .before .before in
+    let right = wrong .before .before in
+    let addressed = right .before .before .before in
+    let known = eq-eqb _ _ (ap upperHalf (sym (c .before .octet .ensures)) ∙ c .if7 .left) in
+    frameNumber-tlv _ (length-right (addressed .before .before .before)) (destination-right addressed)
+    (rows-right right .0) (rows-right right .1) known
+    (second-false _ _ known (sym (wrong .before .has-version-and-tlv .ensures) ∙ not-true _ (wrong .if6 .taken)))
 
 returns-8 : tie.Need-returns-8
-returns-8 c = sym (tlv-passed c)
+returns-8 c =
+    let right = c .before .before in
+    let addressed = right .before .before .before in
+    let last = both-true _ _ (sym (c .before .has-version-and-tlv .ensures) ∙ not-false _ (c .if6 .left)) in
+    frameNumber-none _ (length-right (addressed .before .before .before)) (destination-right addressed)
+    (rows-right right .0) (rows-right right .1) (last .0) (last .1)
 
 pub frame-number-spec : {M : Type 1} → statement M
 frame-number-spec =
@@ -178,13 +148,13 @@ frame-number-spec =
     returns-3
     slice-aggregate-has-octets-2
     has-octets-requires-2
-    returns-4
+    array-share-prefix-has-octets
     slice-aggregate-has-octets-3
     has-octets-requires-3
+    returns-4
     returns-5
+    has-version-and-tlv-requires
     octet-requires
     returns-6
-    slice-aggregate-has-octets-4
-    has-octets-requires-4
     returns-7
     returns-8)

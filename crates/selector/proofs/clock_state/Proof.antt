@@ -13,8 +13,5 @@ returns-2 c = search clockState-laws
 returns-3 : tie.Need-returns-3
 returns-3 c = search clockState-laws
 
-returns-4 : tie.Need-returns-4
-returns-4 c = search clockState-laws
-
 pub clock-state-spec : {M : Type 1} → statement M
-clock-state-spec = tie.close (tie.spec returns returns-2 returns-3 returns-4)
+clock-state-spec = tie.close (tie.spec returns returns-2 returns-3)

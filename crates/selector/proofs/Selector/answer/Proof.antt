@@ -8,9 +8,6 @@ use Rattle.selector.proofs.Selector.answer.Tie as tie
 selected-candidate-requires : tie.Need-selected-candidate-requires
 selected-candidate-requires c κs = search needs
 
-switch-fails-requires : tie.Need-switch-fails-requires
-switch-fails-requires c κs = search needs
-
 clock-quality-requires : tie.Need-clock-quality-requires
 clock-quality-requires c κs = search needs
 
@@ -35,8 +32,7 @@ returns c =
       c .before .before .clock-state .ensures,
       c .before .before .before .selected-number .ensures,
       c .before .before .before .before .clock-quality .ensures,
-      c .before .before .before .before .before .switch-fails .ensures,
-      c .before .before .before .before .before .before .selected-candidate .ensures,
+      c .before .before .before .before .before .selected-candidate .ensures,
     )
 
 pub answer-spec : {M : Type 1} → statement M
@@ -44,7 +40,6 @@ answer-spec =
     tie.close
     (tie.spec
     selected-candidate-requires
-    switch-fails-requires
     clock-quality-requires
     selected-number-requires
     clock-state-requires

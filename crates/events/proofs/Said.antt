@@ -1,0 +1,209 @@
+-- Rows 14 to 17 of the table, by the tests that the definitions compute and in the words of demand 3. Assumes nothing.
+use Prim.Native.Nat.{ℕ, suc, _<_}
+use mathlib.Core.Bool.{Bool, true, false, not, _&&_, true≢false, false≢true}
+use mathlib.Core.List.{List, [], _∷_}
+use mathlib.Core.Logic.{_⊎_, inl, inr, _↔_, Iff·trans}
+use mathlib.Core.Path.{_≡_, refl, sym, _∙_, ap, subst}
+use native.Mathlib.Omega.{arith}
+use lib.Dec.{eqb}
+use lib.ListN.{getD}
+use borrow.Author.Tests.{eqb-true, eq-eqb, not-true}
+use Rattle.numbers.specs.Inputs.{inputCount}
+use Rattle.numbers.specs.Kind.{kindForced, kindManual}
+use Rattle.numbers.specs.Refusal.{forcedBarred, manualForcedStands, manualNotEligible, manualLowerQuality}
+use Rattle.input.specs.Recorded.{History}
+use Rattle.choice.specs.Candidate.{nobody, eligibleAmong, anyLower}
+use Rattle.choice.proofs.Choosing.{byBool, both-first, both-second, contra}
+use Rattle.choice.proofs.Ranks.{lower-found, lower-some}
+use Rattle.decision.specs.declared.Switch.{Switch}
+use Rattle.decision.specs.declared.Switch.the-variants as W
+use Rattle.decision.specs.Decision.{forcedMayStand}
+use Rattle.decision.specs.Choices.{forcedOn}
+use Rattle.decision.proofs.Standing.{nothing-forced, forced-manual}
+use Rattle.events.specs.Refusals.{Refusal, refusal, isForcedSwitch}
+use Rattle.events.specs.Sequence.{Given}
+use Rattle.events.specs.Past.{Made, Past, candidatesBy, decidedBy, tickChoices, rowsAfter}
+use Rattle.events.specs.Demand1.{RowApplies, RowsSaid}
+use Rattle.events.specs.Demand3.{Admitted, Eligible, LowerQuality, StandsForced}
+use Rattle.events.proofs.Refused.{RisingFrom, rising-row, applies-least}
+use Rattle.events.proofs.Stated.{admitted-exact, eligible-stated, lower-stated}
+use Rattle.events.proofs.Demand3.{decided-right}
+
+-- ---- tests
+
+both-exact : {A B : Type 0} (a b : Bool) → (a ≡ true) ↔ A → (b ≡ true) ↔ B → ((a && b) ≡ true) ↔ (A × B)
+both-exact a b x y =
+    (λ z. (x .0 (both-first a b z), y .0 (both-second a b z)), λ z. rw (x .1 (z .0), y .1 (z .1)))
+
+not-exact : {A : Type 0} (a : Bool) → (a ≡ true) ↔ A → (not a ≡ true) ↔ (A → ⊥)
+not-exact a x = (
+  λ n p. true≢false (sym (x .1 p) ∙ not-true a n),
+  λ n. byBool a (λ e. absurd (n (x .0 e))) (λ e. rw e),
+)
+
+kind-exact : (kind other : ℕ) → (eqb kind other ≡ true) ↔ (kind ≡ other)
+kind-exact kind other = (eqb-true kind other, eq-eqb kind other)
+
+forced-exact : (switch : Switch) → (isForcedSwitch switch ≡ true) ↔ ((on : ℕ) × (switch ≡ forcedOn on))
+unfolding isForcedSwitch
+forced-exact W.Nothing = (λ x. absurd (false≢true x), λ x. absurd (nothing-forced (x .0) (x .1)))
+forced-exact (W.Forced on) = (λ x. (on .0, refl), λ x. refl)
+forced-exact (W.Manual on) = (λ x. absurd (false≢true x), λ x. absurd (forced-manual (x .0) (on .0) (sym (x .1))))
+
+-- ---- a row among the others
+
+-- it applies where it stands, and no later one has its number
+row-here : (number next : ℕ) (applies : Bool) (rows : List Refusal) → number < next → RisingFrom next rows
+    → RowApplies number (refusal number applies ∷ rows) ↔ (applies ≡ true)
+row-here number next applies rows later from = (to, λ x. inl (x, refl))
+  where
+    to : RowApplies number (refusal number applies ∷ rows) → applies ≡ true
+    to (inl x) = x .0
+    to (inr x) = absurd (omega (arith, later, applies-least next number rows (from .least) x))
+
+-- or it stands further on
+row-later : {A : Type 0} (number first : ℕ) (applies : Bool) (rows : List Refusal) → first < number
+    → RowApplies number rows ↔ A → RowApplies number (refusal first applies ∷ rows) ↔ A
+row-later {A} number first applies rows later exact = (to, λ x. inr (exact .1 x))
+  where
+    to : RowApplies number (refusal first applies ∷ rows) → A
+    to (inl x) = absurd (omega (arith, later, x .1))
+    to (inr x) = exact .0 x
+
+-- ---- the rows in words
+
+module _ (past : Past) (given : Given) where
+  abbrev history : History
+  history = past .history
+
+  abbrev time : ℕ
+  time = given .event .time
+
+  abbrev kind : ℕ
+  kind = given .event .kind
+
+  abbrev input : ℕ
+  input = given .event .input
+
+  abbrev made : List Made
+  made = tickChoices history time (past .made)
+
+  -- the tests of the four rows
+  said-14 : ((eqb kind kindForced && not (forcedMayStand (candidatesBy history time) input)) ≡ true) ↔
+      ((kind ≡ kindForced) × (Admitted history input → ⊥))
+  said-14 = both-exact _ _ (kind-exact kind kindForced) (not-exact _ (admitted-exact history time input))
+
+  said-15 : ((eqb kind kindManual && isForcedSwitch (decidedBy made .switch)) ≡ true) ↔
+      ((kind ≡ kindManual) × ((on : ℕ) × StandsForced on made))
+  said-15 =
+      both-exact _ _ (kind-exact kind kindManual) (
+        λ x. let found = forced-exact (decidedBy made .switch) .0 x in
+            (found .0, decided-right history time made refl .forced (found .0) .0 (found .1)),
+        λ x.
+            forced-exact (decidedBy made .switch) .1
+            (x .0, decided-right history time made refl .forced (x .0) .1 (x .1)),
+      )
+
+  said-16 : ((eqb kind kindManual && not (eligibleAmong (candidatesBy history time) input)) ≡ true) ↔
+      ((kind ≡ kindManual) × (Eligible history time input → ⊥))
+  said-16 = both-exact _ _ (kind-exact kind kindManual) (not-exact _ (eligible-stated history time input))
+
+  said-17 : input < inputCount
+      → ((eqb kind kindManual &&
+      anyLower (candidatesBy history time) (getD (candidatesBy history time) input nobody .quality)) ≡ true) ↔
+      ((kind ≡ kindManual) × ((other : ℕ) × (Eligible history time other × LowerQuality history time other input)))
+  said-17 inside =
+      both-exact _ _ (kind-exact kind kindManual) (
+        λ x. let found =
+            lower-found (candidatesBy history time) (getD (candidatesBy history time) input nobody .quality) x
+            in (
+              found .0,
+              (
+                eligible-stated history time (found .0) .0 (found .2 .isEligible),
+                lower-stated history time (found .0) input (found .1) inside .0 (found .2 .isLower),
+              ),
+            ),
+        λ x.
+            lower-some (candidatesBy history time) (getD (candidatesBy history time) input nobody .quality) (x .0)
+            (x .1 .0 .admitted .isInput)
+            (record {
+              isEligible = eligible-stated history time (x .0) .1 (x .1 .0);
+              isLower = lower-stated history time (x .0) input (x .1 .0 .admitted .isInput) inside .1 (x .1 .1);
+            }),
+      )
+
+-- ---- the four rows
+
+module _ (a b c d : Bool) where
+  abbrev from17 : List Refusal
+  from17 = refusal manualLowerQuality d ∷ []
+
+  abbrev from16 : List Refusal
+  from16 = refusal manualNotEligible c ∷ from17
+
+  abbrev from15 : List Refusal
+  from15 = refusal manualForcedStands b ∷ from16
+
+  abbrev from14 : List Refusal
+  from14 = refusal forcedBarred a ∷ from15
+
+  rising-17 : RisingFrom manualLowerQuality from17
+  rising-17 = rising-row manualLowerQuality manualLowerQuality d [] (omega arith) (record { least = tt; rising = tt })
+
+  rising-16 : RisingFrom manualNotEligible from16
+  rising-16 = rising-row manualNotEligible manualLowerQuality c from17 (omega arith) rising-17
+
+  rising-15 : RisingFrom manualForcedStands from15
+  rising-15 = rising-row manualForcedStands manualNotEligible b from16 (omega arith) rising-16
+
+  row-14 : RowApplies forcedBarred from14 ↔ (a ≡ true)
+  row-14 = row-here forcedBarred manualForcedStands a from15 (omega arith) rising-15
+
+  row-15 : RowApplies manualForcedStands from14 ↔ (b ≡ true)
+  row-15 =
+      row-later manualForcedStands forcedBarred a from15 (omega arith)
+      (row-here manualForcedStands manualNotEligible b from16 (omega arith) rising-16)
+
+  row-16 : RowApplies manualNotEligible from14 ↔ (c ≡ true)
+  row-16 =
+      row-later manualNotEligible forcedBarred a from15 (omega arith)
+      (row-later manualNotEligible manualForcedStands b from16 (omega arith)
+      (row-here manualNotEligible manualLowerQuality c from17 (omega arith) rising-17))
+
+  row-17 : RowApplies manualLowerQuality from14 ↔ (d ≡ true)
+  row-17 =
+      row-later manualLowerQuality forcedBarred a from15 (omega arith)
+      (row-later manualLowerQuality manualForcedStands b from16 (omega arith)
+      (row-later manualLowerQuality manualNotEligible c from17 (omega arith)
+      (row-here manualLowerQuality (suc manualLowerQuality) d [] (omega arith) (record { least = tt; rising = tt }))))
+
+-- rows 14 to 17 apply as said, whatever has happened
+pub rows-said : (past : Past) (given : Given) → RowsSaid past given
+rows-said past given =
+    record {
+      fourteen = Iff·trans (row-14 a b c d) (said-14 past given);
+      fifteen = Iff·trans (row-15 a b c d) (said-15 past given);
+      sixteen = Iff·trans (row-16 a b c d) (said-16 past given);
+      seventeen = λ inside. Iff·trans (row-17 a b c d) (said-17 past given inside);
+    }
+  where
+    a : Bool
+    a =
+        eqb (given .event .kind) kindForced &&
+        not (forcedMayStand (candidatesBy (past .history) (given .event .time)) (given .event .input))
+
+    b : Bool
+    b =
+        eqb (given .event .kind) kindManual &&
+        isForcedSwitch (decidedBy (tickChoices (past .history) (given .event .time) (past .made)) .switch)
+
+    c : Bool
+    c =
+        eqb (given .event .kind) kindManual &&
+        not (eligibleAmong (candidatesBy (past .history) (given .event .time)) (given .event .input))
+
+    d : Bool
+    d =
+        eqb (given .event .kind) kindManual &&
+        anyLower (candidatesBy (past .history) (given .event .time))
+        (getD (candidatesBy (past .history) (given .event .time)) (given .event .input) nobody .quality)

@@ -1,0 +1,104 @@
+-- A question as a line of text, `? PORT TIME LENGTH SOURCE`: the paper of readings of document 02, "Programs". Cited by
+-- `src/lib.rt`. A character is its number in ASCII. Assumes nothing.
+use Prim.Native.Nat.{ℕ, suc, _+_, _*_, _-_, _%_, _^_}
+use mathlib.Core.Bool.{Bool, true, not, _&&_, cond}
+use mathlib.Core.List.{List, [], _∷_}
+use lib.Dec.{eqb, leb, ltb}
+use lib.ListN.{length, getD, take, drop}
+use Rattle.digits.specs.Digits.{numeral0, isNumeral, allDigits}
+use Rattle.questions.specs.declared.NumberRead.{NumberRead}
+use Rattle.questions.specs.declared.NumberRead.the-variants as N
+use Rattle.questions.specs.declared.PartRead.{PartRead}
+use Rattle.questions.specs.declared.PartRead.the-variants as P
+use Rattle.questions.specs.declared.QuestionRead.{QuestionRead}
+use Rattle.questions.specs.declared.QuestionRead.the-variants as Q
+
+-- "one space between its parts"
+abbrev pub space : ℕ
+space = 32
+
+-- the mark that a question begins with
+abbrev pub mark : ℕ
+mark = 63
+
+-- "`-` for no octets"
+abbrev pub dash : ℕ
+dash = 45
+
+-- how many characters a text's first part has: those before the first space, or all
+unfoldable pub partLength : List ℕ → ℕ
+partLength [] = 0
+partLength (character ∷ rest) = cond (eqb character space) 0 (suc (partLength rest))
+
+-- a text's first part
+abbrev pub firstPart : List ℕ → List ℕ
+firstPart text = take (partLength text) text
+
+-- whether a space ends it
+abbrev pub hasMore : List ℕ → Bool
+hasMore text = ltb (partLength text) (length text)
+
+-- what follows that space
+abbrev pub otherParts : List ℕ → List ℕ
+otherParts text = drop (suc (partLength text)) text
+
+-- decimal digits
+unfoldable pub allNumerals : List ℕ → Bool
+allNumerals [] = true
+allNumerals (character ∷ rest) = isNumeral character && allNumerals rest
+
+-- the number that decimal digits say behind a number before them
+unfoldable pub numberSaidAfter : ℕ → List ℕ → ℕ
+numberSaidAfter number [] = number
+numberSaidAfter number (numeral ∷ rest) = numberSaidAfter (number * 10 + (numeral - numeral0)) rest
+
+-- the number that decimal digits say
+abbrev pub numberSaid : List ℕ → ℕ
+numberSaid text = numberSaidAfter 0 text
+
+-- "its numbers are decimal digits, below 2^64"
+unfoldable pub isNumber : List ℕ → Bool
+isNumber text = not (eqb (length text) 0) && allNumerals text && ltb (numberSaid text) (2 ^ 64)
+
+-- "SOURCE is an even number of lowercase digits, 2 to 64, or `-` for no octets"
+unfoldable pub isSource : List ℕ → Bool
+isSource text =
+    cond (eqb (length text) 1) (eqb (getD text 0 0) dash)
+    (leb 2 (length text) && leb (length text) 64 && eqb (length text % 2) 0 && allDigits text)
+
+-- whether a text begins with the mark alone
+unfoldable pub isMarked : List ℕ → Bool
+isMarked text = eqb (partLength text) 1 && eqb (getD text 0 0) mark
+
+-- a part that is a number and that a space ends
+abbrev pub isNumberPart : List ℕ → Bool
+isNumberPart text = isNumber (firstPart text) && hasMore text
+
+-- "Any other line that begins with `?`" is none
+unfoldable pub readQuestion : List ℕ → QuestionRead
+readQuestion line =
+    let first = otherParts line in
+    let second = otherParts first in
+    let third = otherParts second in
+    let source = otherParts third in
+    cond
+    (isMarked line && hasMore line && isNumberPart first && isNumberPart second && isNumberPart third && isSource source)
+    (Q.Question (numberSaid (firstPart first)) (numberSaid (firstPart second)) (numberSaid (firstPart third))
+    (length line - length source))
+    Q.Nothing
+
+-- ---- the code's parts of it
+
+-- where the part from a place ends
+abbrev pub partEnd : List ℕ → ℕ → ℕ
+partEnd text start = start + partLength (drop start text)
+
+-- a number, if a text is one
+unfoldable pub readNumber : List ℕ → NumberRead
+readNumber text = cond (isNumber text) (N.Number (numberSaid text)) N.Nothing
+
+-- the number from a place that a space ends, and the place after the space
+unfoldable pub readPart : List ℕ → ℕ → PartRead
+readPart line start =
+    cond (isNumberPart (drop start line)) (P.Number (numberSaid (firstPart (drop start line))) (partEnd line start + 1))
+    P.Nothing
