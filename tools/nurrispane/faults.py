@@ -22,8 +22,10 @@ BUILT = ROOT / "target" / "known-faults"
 FLAGS = "-C opt-level=0 -C debug-assertions=off -C overflow-checks=off -C strip=symbols --edition 2021 -A warnings"
 # A copy that takes longer has lost its way; that shows.
 PATIENCE = 60
-# What a card shows: its answers, and the codes on its ports. A fault's own mode is added.
+# What every card shows: its answers, and the codes on its ports.
 SHOWN = ("replay", "outgoing")
+# The modes that take a log. The count of due moments is asked for where a fault shows in nothing else.
+LOG_MODES = SHOWN + ("counts",)
 
 Fault = collections.namedtuple("Fault", "name mode edits")
 # Where a fault shows first in a log: the line from 1, and what is right and what the fault says there.
@@ -109,23 +111,20 @@ def run(program, mode, data):
 
 
 class Reference:
-    """The right answers of a log: the proved programs' where there is one for the mode, and the independent
-    program's otherwise. Where both are there they have to agree."""
+    """The right answers of a log: the proved programs', with which the independent program has to agree."""
 
     def __init__(self, data):
         self.data, self.right = data, {}
         self.independent = build(RIGHT)
 
     def lines(self, mode):
-        """Line by line, or None where a log cannot show this mode."""
+        """Line by line."""
         if mode not in self.right:
-            said = run(self.independent, mode, self.data)
-            if mode in SHOWN:
-                proved = programs.answers(mode, self.data)
-                place = first_difference(proved, said or [])
-                if place is not None:
-                    raise Trouble("line %d: the independent program and the proved %s differ" % (place + 1, mode))
-            self.right[mode] = said
+            proved = programs.answers(mode, self.data)
+            place = first_difference(proved, run(self.independent, mode, self.data) or [])
+            if place is not None:
+                raise Trouble("line %d: the independent program and the proved %s differ" % (place + 1, mode))
+            self.right[mode] = proved
         return self.right[mode]
 
 
@@ -138,7 +137,8 @@ def first_difference(one, other):
 
 
 def modes(fault):
-    return SHOWN + ((fault.mode,) if fault.mode not in SHOWN else ())
+    """The modes in which a log may show a fault."""
+    return [mode for mode in LOG_MODES if mode in SHOWN or mode == fault.mode]
 
 
 def find(fault, reference):
@@ -146,19 +146,16 @@ def find(fault, reference):
     where it doesn't."""
     program = build(fault)
     for mode in modes(fault):
-        right = reference.lines(mode)
-        if right is None:
-            continue
-        wrong = run(program, mode, reference.data)
-        place = first_difference(right, wrong or [])
+        right, wrong = reference.lines(mode), run(program, mode, reference.data) or []
+        place = first_difference(right, wrong)
         if place is not None:
-            at = lambda lines: lines[place] if lines is not None and place < len(lines) else b""
+            at = lambda lines: lines[place] if place < len(lines) else b""
             return Found(fault, mode, place + 1, at(right), at(wrong))
     return None
 
 
-def in_words(mode, line):
-    """An answer, codes or a count as they are told."""
+def in_words(mode, line, told=answers.words):
+    """An answer as `told` has it, codes or a count."""
     if line == b"":
         return "nothing"
-    return answers.words(line) if mode == "replay" else "%s %s" % (mode, line.decode(errors="replace"))
+    return told(line) if mode == "replay" else "%s %s" % (mode, line.decode(errors="replace"))

@@ -112,7 +112,6 @@ NO_MOMENT = {
     "Time 0, fresh, is down.": "the start of every log",
     "Moments between two events": "every rule that acts at a due moment",
     "Each accepted event is first a tick": "every line",
-    "03 is answered": "never answered",
     "Clock quality:": "told after every line",
     "7-12 source;": "ignored on reading",
     "28 upper half unused": "every frame heard",

@@ -10,11 +10,10 @@ CHUNK = 1 << 16
 
 
 def ready(name):
-    """Proves and builds a program where that has not been done."""
-    built = subprocess.run([str(ROOT / ".ci" / "built"), name], stdin=subprocess.DEVNULL, capture_output=True)
+    """Proves and builds a program where that has not been done; its progress goes to standard error."""
+    built = subprocess.run([str(ROOT / ".ci" / "built"), name], stdin=subprocess.DEVNULL, stdout=subprocess.DEVNULL)
     if built.returncode != 0:
-        said = (built.stdout + built.stderr).decode(errors="replace").strip().splitlines()
-        raise Trouble(said[-1] if said else "%s is not built" % name)
+        raise Trouble("the program %s is not built" % name)
 
 
 def command(name):
@@ -41,7 +40,7 @@ def stream(name, source, sink):
     A line that is not answered, or an answer that is not whole, is trouble."""
     ready(name)
     asked, told, failed = LineCount(), LineCount(), []
-    process = subprocess.Popen(command(name), stdin=subprocess.PIPE, stdout=subprocess.PIPE)
+    process = subprocess.Popen(command(name), stdin=subprocess.PIPE, stdout=subprocess.PIPE, stderr=subprocess.PIPE)
 
     def feed():
         try:
@@ -65,27 +64,32 @@ def stream(name, source, sink):
         process.kill()
         raise
     feeder.join()
+    said = process.stderr.read()
     status = process.wait()
     if failed:
         raise Trouble(failed[0])
-    if status != 0:
-        raise Trouble("the program %s ended with status %d" % (name, status))
-    if told.open or told.ended != asked.lines():
-        raise Trouble("the program %s answered %d of %d lines" % (name, told.ended, asked.lines()))
+    ended_well(name, status, said, asked, told)
 
 
 def answers(name, data):
     """The program's output for a log, line by line."""
     ready(name)
     run = subprocess.run(command(name), input=data, capture_output=True)
-    asked = LineCount()
+    asked, told = LineCount(), LineCount()
     asked.take(data)
-    lines = run.stdout.split(b"\n")
-    if run.returncode != 0:
-        raise Trouble("the program %s ended with status %d" % (name, run.returncode))
-    if lines[-1] != b"" or len(lines) - 1 != asked.lines():
-        raise Trouble("the program %s answered %d of %d lines" % (name, len(lines) - 1, asked.lines()))
-    return lines[:-1]
+    told.take(run.stdout)
+    ended_well(name, run.returncode, run.stderr, asked, told)
+    return run.stdout.split(b"\n")[:-1]
+
+
+def ended_well(name, status, said, asked, told):
+    """Trouble where a program ended badly, said that it could not go on, or left a line without its answer."""
+    if status != 0:
+        raise Trouble("the program %s ended with status %d" % (name, status))
+    if said:
+        raise Trouble("the program %s says: %s" % (name, said.decode(errors="replace").strip()))
+    if told.open or told.ended != asked.lines():
+        raise Trouble("the program %s answered %d of %d lines" % (name, told.ended, asked.lines()))
 
 
 def opened(path):

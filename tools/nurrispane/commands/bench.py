@@ -2,14 +2,14 @@
 
 Each sequence starts from a fresh card and has a folder: a capture file for each port that hears
 frames (for tcpreplay; the name says when to start it), the timed list of all else in words
-(commands.words), the event log as a whole (events.log), and each event with the answer and the
-outgoing codes to expect (expected.words), asked of the proved programs now. `known` has the set that
+(commands.words), the event log as a whole (events.log), and each event with the answer, the outgoing
+codes and the count of due moments to expect (expected.words), asked of the proved programs now. `known` has the set that
 finds the known faults, `pairs` the logs in which rules meet. TABLE.md says which known fault each log
 of the set finds, in which line and by which answer; README.txt says how to play them."""
 
 import collections
 
-from nurrispane import answers, captures, programs, sequences, words
+from nurrispane import answers, captures, faults, programs, sequences, words
 from nurrispane.files import FINE, Trouble, whole_directory, write, write_out
 
 SUMMARY = "sequences for a bench: captures to play, commands, expected answers, what they find"
@@ -31,14 +31,13 @@ def arguments(parser):
 
 
 # A sequence with what is expected of a card.
-Played = collections.namedtuple("Played", "folder sequence events answers outgoing")
+Played = collections.namedtuple("Played", "folder sequence events answers outgoing counts")
 
 
 def played(folder, sequence):
     """A sequence and what the proved programs say to it."""
     events = [words.event_of(line) for line in words.split_log(sequence.data)[0]]
-    said, codes = (programs.answers(name, sequence.data) for name in ("replay", "outgoing"))
-    return Played(folder, sequence, events, said, codes)
+    return Played(folder, sequence, events, *(programs.answers(name, sequence.data) for name in faults.LOG_MODES))
 
 
 def on_a_port(event):
@@ -61,8 +60,8 @@ def files_of(it):
         + [line for line, event in zip(told, it.events) if not on_a_port(event)]
     )
     yield "expected.words", text(
-        "%-24s | %s > %s" % (line, answers.words(answer), codes.decode())
-        for line, answer, codes in zip(told, it.answers, it.outgoing)
+        "%-24s | %s > %s = %s" % (line, answers.words(answer), codes.decode(), count.decode())
+        for line, answer, codes, count in zip(told, it.answers, it.outgoing, it.counts)
     )
     for number, frames in sorted(frames_by_port(it.events).items()):
         yield port_file(number, frames[0][0]), captures.pcap(frames)
@@ -154,7 +153,7 @@ To play one: bring the card to its fresh state, call this moment 0 ms, and
         tcpreplay --intf1 INTERFACE port-03-from-1000ms.pcap
     the times between its frames are kept,
   - after each event read the card's state and compare it with expected.words: what stands after "|" is the
-    answer, after ">" the codes that its sixteen ports send.
+    answer, after ">" the codes that its sixteen ports send, after "=" how many due moments the event's tick served.
 Events of one millisecond come in the order of events.log. A bench that cannot keep that, or the millisecond,
 puts a capture of what it really sent into a log (./nurrispane capture .. --setup commands.words --first MS) and asks
 ./nurrispane replay what is right for that; ./nurrispane score says what that log can still find.
@@ -206,7 +205,13 @@ def cells_of(shown, by_name):
     first, it = shown[0], by_name[shown[0].log]
     line = words.line_in_words(words.split_log(it.sequence.data)[0][first.line - 1])
     others = [by_name[entry.log].folder.split("/")[1][:2] for entry in shown[1:]]
-    return first.fault, it.folder, "%d" % first.line, shortened(line), first.right, first.wrong, " ".join(others)
+    right, wrong = (meaning(first.mode, said) for said in (first.right, first.wrong))
+    return first.fault, it.folder, "%d" % first.line, shortened(line), right, wrong, " ".join(others)
+
+
+def meaning(mode, said):
+    """What the table says, for a person."""
+    return answers.meaning(answers.line_of(answers.read(said))) if mode == "replay" and said != "nothing" else said
 
 
 def shortened(line):

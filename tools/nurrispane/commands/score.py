@@ -8,7 +8,7 @@ from a fresh card, a fault is found by the first that shows it. Exit status 1: s
 
 import sys
 
-from nurrispane import faults, words
+from nurrispane import answers, faults, words
 from nurrispane.files import FINDING, FINE, Trouble, name_of, read, read_text, write
 
 SUMMARY = "how many of the known faults a log can find, and which it can't"
@@ -52,20 +52,18 @@ def run(options):
     logs = [(path, log_data(path, options.words)) for path in options.log]
     prepare(chosen)
     references = [(path, faults.Reference(data)) for path, data in logs]
-    found, blind = {}, []
+    found = {}
     for fault in chosen:
         for path, reference in references:
             shown = faults.find(fault, reference)
             if shown is not None:
                 found[fault.name] = (path, reference, shown)
                 break
-        if fault.name not in found and all(reference.lines(fault.mode) is None for _, reference in references):
-            blind.append(fault)
-    write(options.out, "".join(line + "\n" for line in told(options, logs, chosen, found, blind)).encode())
+    write(options.out, "".join(line + "\n" for line in told(options, logs, chosen, found)).encode())
     return FINE if len(found) == len(chosen) else FINDING
 
 
-def told(options, logs, chosen, found, blind):
+def told(options, logs, chosen, found):
     """What is said of them."""
     lines = sum(len(words.split_log(data)[0]) for _, data in logs)
     yield "%d lines; %d known faults: %d found, %d not found" % (lines, len(chosen), len(found), len(chosen) - len(found))
@@ -74,7 +72,8 @@ def told(options, logs, chosen, found, blind):
             yield "found: " + finding(path if len(logs) > 1 else None, reference.data, shown)
     for fault in chosen:
         if fault.name not in found:
-            yield "not found: %s%s" % (fault.name, " (no log shows it: mode %s)" % fault.mode if fault in blind else "")
+            blind = " (no log shows it: mode %s)" % fault.mode if fault.mode not in faults.LOG_MODES else ""
+            yield "not found: %s%s" % (fault.name, blind)
 
 
 def finding(path, data, shown):
@@ -82,5 +81,5 @@ def finding(path, data, shown):
     line = words.split_log(data)[0][shown.line - 1:shown.line]
     where = "%sline %d" % ("%s, " % name_of(path) if path else "", shown.line)
     said = words.line_in_words(line[0]) if line else "the end of the log"
-    right, wrong = (faults.in_words(shown.mode, answer) for answer in (shown.right, shown.wrong))
-    return "%s: %s, %s: right is %s, the fault says %s" % (shown.fault.name, where, said, right, wrong)
+    right, wrong = (faults.in_words(shown.mode, answer, answers.meaning) for answer in (shown.right, shown.wrong))
+    return "%s: %s, %s\n    right:          %s\n    with the fault: %s" % (shown.fault.name, where, said, right, wrong)
