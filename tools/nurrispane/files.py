@@ -17,6 +17,10 @@ class Trouble(Exception):
     """Something that could not be done: told in one line, with exit status 2."""
 
 
+class NobodyReads(Exception):
+    """Standard output has no reader any more, as behind `| head`."""
+
+
 def reason(error):
     """What the system says of an error, without its number."""
     return getattr(error, "strerror", None) or str(error)
@@ -58,22 +62,31 @@ def write(path, data):
     """Writes a file whole or not at all; to standard output where there is no path."""
     if path is None:
         return write_out(data)
-    path = pathlib.Path(path)
+    # behind a link it is the file that is replaced, not the link
+    path = pathlib.Path(os.path.realpath(path))
+    if path.exists() and not path.is_file():
+        raise Trouble("%s cannot be written: it is no file" % path)
+    temporary = None
     try:
         handle, temporary = tempfile.mkstemp(prefix=".%s." % path.name, dir=path.parent)
-    except OSError as error:
-        raise Trouble("%s cannot be written: %s" % (path, reason(error))) from error
-    try:
         with os.fdopen(handle, "wb") as file:
             file.write(data)
             file.flush()
             os.fsync(file.fileno())
-        os.chmod(temporary, 0o666 & ~current_umask())
+        os.chmod(temporary, permissions(path))
         os.replace(temporary, path)
-    except OSError as error:
-        with contextlib.suppress(OSError):
-            os.unlink(temporary)
-        raise Trouble("%s cannot be written: %s" % (path, reason(error))) from error
+    except BaseException as error:
+        if temporary:
+            with contextlib.suppress(OSError):
+                os.unlink(temporary)
+        if isinstance(error, OSError):
+            raise Trouble("%s cannot be written: %s" % (path, reason(error))) from error
+        raise
+
+
+def permissions(path):
+    """Those that a file has, or a new one gets."""
+    return path.stat().st_mode & 0o777 if path.exists() else 0o666 & ~current_umask()
 
 
 def current_umask():
@@ -92,6 +105,8 @@ def write_out(data):
         # what is left in the buffer would be tried again at the end
         with contextlib.suppress(OSError):
             os.dup2(os.open(os.devnull, os.O_WRONLY), sys.stdout.fileno())
+        if isinstance(error, BrokenPipeError):
+            raise NobodyReads from error
         raise Trouble("standard output cannot be written: %s" % reason(error)) from error
 
 

@@ -6,10 +6,12 @@ Such a module has SUMMARY (a line), EXAMPLES (calls that work), `arguments(parse
 
 import argparse
 import importlib
+import os
 import pathlib
+import signal
 import sys
 
-from nurrispane.files import FINE, TROUBLE, Trouble, reason, write_out
+from nurrispane.files import FINE, TROUBLE, NobodyReads, Trouble, reason, write_out
 
 STATUS = "exit status: 0 fine, 1 a finding, 2 trouble; a file is written whole or not at all"
 
@@ -56,6 +58,10 @@ def main(arguments):
         status = module(word).run(parser_of(word).parse_args(arguments[1:]))
         write_out(b"")
         return status
+    except NobodyReads:
+        # ended as any program is that writes to a closed pipe
+        signal.signal(signal.SIGPIPE, signal.SIG_DFL)
+        os.kill(os.getpid(), signal.SIGPIPE)
     except Trouble as trouble:
         sys.stderr.write("nurrispane %s: %s\n" % (word, trouble))
     except OSError as error:

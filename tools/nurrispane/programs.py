@@ -4,7 +4,7 @@ import subprocess
 import sys
 import threading
 
-from nurrispane.files import ROOT, Trouble, name_of, reason, standard
+from nurrispane.files import ROOT, Trouble, name_of, read, reason, standard, write, write_out
 
 CHUNK = 1 << 16
 
@@ -90,6 +90,15 @@ def ended_well(name, status, said, asked, told):
         raise Trouble("the program %s says: %s" % (name, said.decode(errors="replace").strip()))
     if told.open or told.ended != asked.lines():
         raise Trouble("the program %s answered %d of %d lines" % (name, told.ended, asked.lines()))
+
+
+def put_out(name, path, out):
+    """What a program says to a log: on standard output piece by piece, or in the file `out`, whole or not at all."""
+    if out is None:
+        with opened(path) as source:
+            stream(name, source, write_out)
+    else:
+        write(out, b"".join(line + b"\n" for line in answers(name, read(path))))
 
 
 def opened(path):

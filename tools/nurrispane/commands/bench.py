@@ -15,7 +15,7 @@ from nurrispane.files import FINE, Trouble, whole_directory, write, write_out
 SUMMARY = "sequences for a bench: captures to play, commands, expected answers, what they find"
 EXAMPLES = [
     "./nurrispane bench /tmp/sequences",
-    "./nurrispane bench /tmp/waits --find 'wait cut short: by' 'forced forgotten'",
+    "./nurrispane bench /tmp/causes --find 'code misread' 'wait cut short: by' 'forced forgotten' 'equals traded'",
 ]
 
 # Fewer octets have no Ethernet header: no port can be sent such a frame.

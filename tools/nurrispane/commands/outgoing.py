@@ -2,7 +2,7 @@
 sixteen digits, a code of four bits for each of the ports 0 to 15."""
 
 from nurrispane import programs
-from nurrispane.files import FINE, read, write, write_out
+from nurrispane.files import FINE
 
 SUMMARY = "the sixteen outgoing codes after each line, by the proved program"
 EXAMPLES = ["./nurrispane outgoing examples/whole-replay.log"]
@@ -14,10 +14,5 @@ def arguments(parser):
 
 
 def run(options):
-    if options.out is None:
-        with programs.opened(options.log) as source:
-            programs.stream("outgoing", source, write_out)
-    else:
-        lines = programs.answers("outgoing", read(options.log))
-        write(options.out, b"".join(line + b"\n" for line in lines))
+    programs.put_out("outgoing", options.log, options.out)
     return FINE
