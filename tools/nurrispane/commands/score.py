@@ -66,7 +66,7 @@ def run(options):
 def told(options, logs, chosen, found):
     """What is said of them."""
     lines = sum(len(words.split_log(data)[0]) for _, data in logs)
-    yield "%d lines; %d known faults: %d found, %d not found" % (lines, len(chosen), len(found), len(chosen) - len(found))
+    yield "lines: %d; known faults: %d, found %d, not found %d" % (lines, len(chosen), len(found), len(chosen) - len(found))
     if options.found:
         for path, reference, shown in found.values():
             yield "found: " + finding(path if len(logs) > 1 else None, reference.data, shown)
