@@ -1,0 +1,2 @@
+-- What reading a file or a number may answer.
+pub mod Files
