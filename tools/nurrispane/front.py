@@ -10,6 +10,7 @@ import os
 import pathlib
 import signal
 import sys
+import traceback
 
 from nurrispane.files import FINE, TROUBLE, NobodyReads, Trouble, reason, write_out
 
@@ -68,4 +69,7 @@ def main(arguments):
         sys.stderr.write("nurrispane %s: %s%s\n" % (word, "%s: " % error.filename if error.filename else "", reason(error)))
     except KeyboardInterrupt:
         sys.stderr.write("nurrispane %s: stopped\n" % word)
+    except Exception:
+        # Python's own status for this is 1, which would be a finding
+        traceback.print_exc()
     return TROUBLE

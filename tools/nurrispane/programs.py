@@ -1,5 +1,6 @@
 """The proved programs, run on a log; what they answer is counted line by line."""
 
+import functools
 import subprocess
 import sys
 import threading
@@ -9,6 +10,7 @@ from nurrispane.files import ROOT, Trouble, name_of, read, reason, standard, wri
 CHUNK = 1 << 16
 
 
+@functools.cache
 def ready(name):
     """Proves and builds a program where that has not been done; its progress goes to standard error."""
     built = subprocess.run([str(ROOT / ".ci" / "built"), name], stdin=subprocess.DEVNULL, stdout=subprocess.DEVNULL)
