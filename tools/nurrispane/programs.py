@@ -1,8 +1,10 @@
 """The proved programs, run on a log; what they answer is counted line by line."""
 
 import functools
+import pathlib
 import subprocess
 import sys
+import tempfile
 import threading
 
 from nurrispane.files import ROOT, Trouble, name_of, read, reason, standard, write, write_out
@@ -111,3 +113,39 @@ def opened(path):
         return open(path, "rb", buffering=0)
     except OSError as error:
         raise Trouble("%s cannot be read: %s" % (name_of(path), reason(error))) from error
+
+
+# ---- programs that take logs in files
+
+# The most octets of such a log.
+LARGEST_LOG = 1_048_576
+
+
+def read_log(path):
+    """A log that such a program can hold; "-" is standard input."""
+    with opened(path) as source:
+        data = b""
+        try:
+            while len(data) <= LARGEST_LOG and (piece := source.read(LARGEST_LOG + 1 - len(data))):
+                data += piece
+        except OSError as error:
+            raise Trouble("%s cannot be read: %s" % (name_of(path), reason(error))) from error
+    if len(data) > LARGEST_LOG:
+        raise Trouble("%s has more than %s octets, which is more than the program holds" % (name_of(path), format(LARGEST_LOG, ",")))
+    return data
+
+
+def on_files(name, logs, *numbers):
+    """What a program says to logs in files and numbers: the files are copies, so that nothing changes under it."""
+    ready(name)
+    with tempfile.TemporaryDirectory() as directory:
+        paths = [pathlib.Path(directory) / ("log-%d" % place) for place in range(1, len(logs) + 1)]
+        for path, data in zip(paths, logs):
+            path.write_bytes(data)
+        call = command(name) + [str(argument) for argument in (*paths, *numbers)]
+        run = subprocess.run(call, stdin=subprocess.DEVNULL, capture_output=True)
+    if run.returncode != 0:
+        raise Trouble("the program %s ended with status %d" % (name, run.returncode))
+    if run.stderr:
+        raise Trouble("the program %s says: %s" % (name, run.stderr.decode(errors="replace").strip()))
+    return run.stdout
