@@ -2,13 +2,15 @@
 
 tests/independent/wrong-copies*.txt list them: a name, the mode in which the fault shows if it isn't
 `replay`, and edits of the program's text. A copy is built once and kept below target/, under a name
-made of its text, so that it is built anew where anything of it has changed.
+made of its text, so that it is built anew where anything of it has changed. One for a mode that takes
+a log has sequences/log_modes.rs in place of the program's main.rs.
 """
 
 import collections
 import hashlib
 import os
 import pathlib
+import re
 import shutil
 import subprocess
 import tempfile
@@ -17,6 +19,7 @@ from nurrispane import answers, programs
 from nurrispane.files import ROOT, Trouble, reason
 
 SOURCES = ROOT / "tests" / "independent"
+MAIN = ROOT / "sequences" / "log_modes.rs"
 BUILT = ROOT / "target" / "known-faults"
 # Not optimised: a build is quick, and no check is in it that the program doesn't have.
 FLAGS = "-C opt-level=0 -C debug-assertions=off -C overflow-checks=off -C strip=symbols --edition 2021 -A warnings"
@@ -38,7 +41,12 @@ def lists():
 
 
 def known():
-    """Every known fault, in the order of the lists."""
+    """The known faults that a log may show."""
+    return [fault for fault in every() if fault.mode in LOG_MODES]
+
+
+def every():
+    """Every known fault, in the order of the lists: those of frames and of other tools too."""
     faults = []
     for path in lists():
         for text in path.read_text().splitlines():
@@ -56,20 +64,28 @@ def known():
 RIGHT = Fault("no fault", "replay", [])
 
 
-def sources(fault):
-    """The text of each file of the program with this fault."""
-    texts = {path.name: path.read_text() for path in sorted(SOURCES.glob("*.rs"))}
+def main_of(fault):
+    return MAIN.name if fault.mode in LOG_MODES else "main.rs"
+
+
+def sources(fault, added=None):
+    """The text of each file that the program with this fault is built of, its main file first; `added` are files beside
+    the program's own."""
+    texts = {path.name: path.read_text() for path in [MAIN, *SOURCES.glob("*.rs")]}
+    texts.update(added or {})
     for name, old, new in fault.edits:
         old = "\n".join(old)
         if old not in texts.get(name, ""):
             raise Trouble("known fault \"%s\": %s has no longer the text it changes" % (fault.name, name))
         texts[name] = texts[name].replace(old, "\n".join(new), 1)
-    return texts
+    main = main_of(fault)
+    modules = [name + ".rs" for name in re.findall(r"^mod (\w+);", texts[main], re.M)]
+    return {name: texts[name] for name in [main, *modules]}
 
 
 def key(fault, added=None):
     """A name made of the text of the program with this fault."""
-    parts = [part for named in sorted({**sources(fault), **(added or {})}.items()) for part in named]
+    parts = [part for named in sources(fault, added).items() for part in named]
     return hashlib.sha256("\0".join([FLAGS] + parts).encode()).hexdigest()[:24]
 
 
@@ -78,7 +94,7 @@ def path_of(fault, added=None):
 
 
 def build(fault, added=None):
-    """The path of the built program; `added` are files beside its own."""
+    """The path of the built program."""
     program = path_of(fault, added)
     if program.exists():
         return program
@@ -87,10 +103,10 @@ def build(fault, added=None):
     try:
         BUILT.mkdir(parents=True, exist_ok=True)
         with tempfile.TemporaryDirectory(dir=BUILT) as directory:
-            for name, text in {**sources(fault), **(added or {})}.items():
+            for name, text in sources(fault, added).items():
                 (pathlib.Path(directory) / name).write_text(text)
             made = os.path.join(directory, "made")
-            call = ["rustc", *FLAGS.split(), os.path.join(directory, "main.rs"), "-o", made]
+            call = ["rustc", *FLAGS.split(), os.path.join(directory, main_of(fault)), "-o", made]
             said = subprocess.run(call, capture_output=True)
             if said.returncode != 0:
                 what = said.stderr.decode(errors="replace").strip().splitlines()

@@ -141,7 +141,7 @@ def observer():
     due = ["        self.bring_up_to_date(self.earliest_due);", "        self.judge_and_choose();"]
     answer = ["    pub fn answer_values(&self) -> [u8; 5] {"]
     edits = [
-        ("main.rs", ["mod count;"], ["mod count;", "mod observe;"]),
+        (faults.MAIN.name, ["mod log;"], ["mod log;", "mod observe;"]),
         ("selector.rs", due, due + ["        crate::observe::tell(\"due\", self);"]),
         ("selector.rs", answer, answer + ["        crate::observe::tell(\"line\", self);"]),
     ]

@@ -167,8 +167,10 @@ def digest(texts=None):
     """A name made of all that the table is made of and of the set: its files, or these texts by their names."""
     if texts is None:
         texts = {path.stem: path.read_text() for path in (HERE / "known").glob("*.words")}
-    made_of = [*faults.SOURCES.glob("*.rs"), *faults.lists(), *(HERE / "own").glob("*.words"), STORED / "hand-made.txt"]
-    parts = [part for path in sorted(made_of) for part in (path.name, path.read_text())]
+    made_of = sorted([*(HERE / "own").glob("*.words"), STORED / "hand-made.txt"])
+    parts = [part for named in faults.sources(faults.RIGHT).items() for part in named]
+    parts += [repr(fault) for fault in faults.known()]
+    parts += [part for path in made_of for part in (path.name, path.read_text())]
     parts += [part for named in sorted(texts.items()) for part in named]
     return hashlib.sha256("\0".join(parts).encode()).hexdigest()[:24]
 

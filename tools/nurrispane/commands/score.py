@@ -3,7 +3,7 @@ and which don't.
 
 The known faults are the wrong copies of the independent program (tests/independent/wrong-copies*.txt):
 readings not taken, slips, borders off by one, and last year's four causes in several sizes. They are
-built with rustc at the first call, about a second each, and kept below target/. Of several logs, each
+built with rustc at the first call, half a second each, and kept below target/. Of several logs, each
 from a fresh card, a fault is found by the first that shows it. Exit status 1: some are not found."""
 
 import sys
@@ -38,7 +38,7 @@ def prepare(chosen):
     """Builds what is not built yet."""
     missing = [fault for fault in [faults.RIGHT, *chosen] if not faults.path_of(fault).exists()]
     if missing:
-        sys.stderr.write("score: building %d programs, about a second each\n" % len(missing))
+        sys.stderr.write("score: building %d programs, half a second each\n" % len(missing))
     for fault in missing:
         faults.build(fault)
 
@@ -72,8 +72,7 @@ def told(options, logs, chosen, found):
             yield "found: " + finding(path if len(logs) > 1 else None, reference.data, shown)
     for fault in chosen:
         if fault.name not in found:
-            blind = " (no log shows it: mode %s)" % fault.mode if fault.mode not in faults.LOG_MODES else ""
-            yield "not found: %s%s" % (fault.name, blind)
+            yield "not found: %s" % fault.name
 
 
 def finding(path, data, shown):
