@@ -16,11 +16,20 @@ const OCTETS_16_TO_20: [u8; 5] = [0x00, 0x19, 0xa7, 0x00, 0x01];
 const OCTETS_25_TO_27: [u8; 3] = [0x01, 0x00, 0x04];
 const VERSION: u8 = 1;
 
-/// The code of a frame given as lowercase hexadecimal digits, two an octet, or the
-/// smallest number of refusal that applies, 8 to 13. "Reserved and unused bits, and all
-/// from octet 29, are ignored on reading". An octet has one way to be written, so the
-/// digits are compared themselves.
-pub fn read(digits: &[u8]) -> Result<Code, u8> {
+/// What a sound frame tells. L2: "code, flag and the six address octets".
+#[derive(Clone, Copy, PartialEq, Eq, Debug)]
+pub struct Frame {
+    /// The four bits as they stand.
+    pub code: Code,
+    pub event_flag: bool,
+    pub source: [u8; 6],
+}
+
+/// What a frame given as lowercase hexadecimal digits, two an octet, tells, or the smallest
+/// number of refusal that applies, 8 to 13. "Reserved and unused bits, and all from octet 29,
+/// are ignored on reading". An octet has one way to be written, so the digits are compared
+/// themselves.
+pub fn read(digits: &[u8]) -> Result<Frame, u8> {
     if !(SHORTEST..=LONGEST).contains(&(digits.len() / 2)) {
         Err(8)
     } else if octets(digits, 1, 6) != b"0180c2000002" {
@@ -34,8 +43,19 @@ pub fn read(digits: &[u8]) -> Result<Code, u8> {
     } else if octets(digits, 25, 27) != b"010004" {
         Err(13)
     } else {
-        Ok(hex::value(octets(digits, 28, 28)[1]))
+        Ok(Frame {
+            code: hex::value(octets(digits, 28, 28)[1]),
+            // "21 upper half version 1, bit 3 event flag"
+            event_flag: hex::value(octets(digits, 21, 21)[1]) & 0b1000 != 0,
+            source: std::array::from_fn(|n| octet(digits, 7 + n)),
+        })
     }
+}
+
+/// The octet with this number, counted from 1.
+fn octet(digits: &[u8], number: usize) -> u8 {
+    let pair = octets(digits, number, number);
+    hex::value(pair[0]) << 4 | hex::value(pair[1])
 }
 
 /// The digits of octets `first` to `last`, counted from 1.

@@ -1,9 +1,10 @@
-//! The modes `read-frames` and `write-frames`: one call a line.
+//! The modes `read_frames` and `write-frames`: one call a line.
 
-use std::io::{self, BufRead, Write};
+use std::io::{self, BufRead, Read, Write};
 
 use crate::frame;
 use crate::hex;
+use crate::log;
 
 fn wrong_line(line: &str) -> io::Error {
     io::Error::new(
@@ -12,20 +13,29 @@ fn wrong_line(line: &str) -> io::Error {
     )
 }
 
-/// Each line is a frame in hexadecimal; answers `code N` or `refused N`.
-pub fn read_frames(input: impl BufRead, output: &mut impl Write) -> io::Result<()> {
-    for line in input.lines() {
-        let line = line?;
-        let digits = line.as_bytes();
-        if digits.len() % 2 != 0 || !hex::all_digits(digits) {
-            return Err(wrong_line(&line));
-        }
-        match frame::read(digits) {
-            Ok(code) => writeln!(output, "code {code}")?,
-            Err(number) => writeln!(output, "refused {number}")?,
-        }
+/// Each line is a frame in hexadecimal; answers `00 CODE FLAG ADDRESS` or the refusal, and
+/// `01` for a line that isn't an even number of lowercase digits.
+pub fn read_frames(mut input: impl Read, output: &mut impl Write) -> io::Result<()> {
+    let mut frames = Vec::new();
+    input.read_to_end(&mut frames)?;
+    for digits in log::lines(&frames) {
+        writeln!(output, "{}", frame_told(digits))?;
     }
     Ok(())
+}
+
+fn frame_told(digits: &[u8]) -> String {
+    if digits.len() % 2 != 0 || !hex::all_digits(digits) {
+        return "01".to_string();
+    }
+    match frame::read(digits) {
+        Err(number) => format!("{number:02x}"),
+        Ok(frame) => {
+            let flag = u8::from(frame.event_flag);
+            let address = hex_or_dash(&frame.source);
+            format!("00 {:x} {flag} {address}", frame.code)
+        }
+    }
 }
 
 /// Each line is `CODE FLAG SOURCEHEX BUFFERHEX`, `-` for no octets; answers the number
@@ -68,7 +78,5 @@ fn hex_or_dash(octets: &[u8]) -> String {
     if octets.is_empty() {
         return "-".to_string();
     }
-    let mut digits = Vec::new();
-    hex::write_octets(octets, &mut digits);
-    digits.into_iter().map(char::from).collect()
+    hex::digits(octets)
 }

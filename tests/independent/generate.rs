@@ -4,9 +4,10 @@
 use std::io::{self, Write};
 
 use crate::damaged::Damaged;
-use crate::headers::Headers;
+use crate::headers::{Frames, Headers};
 use crate::hex;
 use crate::nasty::Nasty;
+use crate::questions::Questions;
 use crate::random::Random;
 use crate::realistic::Realistic;
 use crate::selector::{Code, Time};
@@ -32,6 +33,8 @@ pub fn generate(kind: &str, seed: &str, lines: &str, output: &mut impl Write) ->
         "realistic" => write_lines(Realistic::new(random), lines, output),
         "nasty" => write_lines(Nasty::new(random, lines), lines, output),
         "sparse" => write_lines(Sparse::new(random), lines, output),
+        "frames" => write_lines(Frames::new(random), lines, output),
+        "questions" => write_lines(Questions::new(random, lines), lines, output),
         "headers" => write_lines(Headers::new(random), lines, output),
         "damaged" => write_damaged(Damaged::new(random, lines), lines, output),
         _ => Err(not_understood(kind)),

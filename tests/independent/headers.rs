@@ -1,9 +1,10 @@
-//! Logs of frames for the header check: nearly every line is a frame for one of a few
-//! Ethernet inputs, with one or two octets wrong, sometimes in a way that cancels out for
-//! whoever adds octets up, or with a length near a border. Sound frames come in between, so
-//! that a wrong one taken for sound shows in the answers too.
+//! Frames for the header check, with one or two octets wrong, sometimes in a way that cancels
+//! out for whoever adds octets up, or with a length near a border. `Headers` makes logs of
+//! them, for a few Ethernet inputs; sound ones come in between, so that a wrong one taken for
+//! sound shows in the answers too. `Frames` makes the frames alone, one a line.
 
 use crate::generate::{event_line, frame_line, random_octets, sound_frame, LogSource};
+use crate::hex;
 use crate::random::Random;
 use crate::selector::{Code, Time};
 
@@ -19,7 +20,7 @@ const LENGTHS: [usize; 14] = [
 ];
 
 pub struct Headers {
-    random: Random,
+    frames: FrameSource,
     now: Time,
     setup: Vec<(u8, u8, u16)>,
 }
@@ -31,12 +32,19 @@ impl Headers {
             setup.extend([(0x01, n, 0), (0x07, n, 0), (0x04, n, 1), (0x10, n, 1)]);
         }
         Headers {
-            random,
+            frames: FrameSource { random },
             now: 0,
             setup,
         }
     }
+}
 
+/// Makes one frame after another.
+struct FrameSource {
+    random: Random,
+}
+
+impl FrameSource {
     fn octet_of_a_group(&mut self) -> usize {
         let (first, last) = self.random.pick(&GROUPS);
         self.random.between(first as u64, last as u64) as usize
@@ -75,9 +83,11 @@ impl Headers {
         }
     }
 
-    fn send_frame(&mut self, log: &mut Vec<u8>) {
-        let mut source = [0; 6];
-        random_octets(&mut self.random, &mut source);
+    fn next_frame(&mut self) -> Vec<u8> {
+        let mut source = [self.random.pick(&[0, 0xff]); 6];
+        if !self.random.one_in(20) {
+            random_octets(&mut self.random, &mut source);
+        }
         let code = self.random.pick(&CODES);
         let mut frame = [0; 1_514];
         frame[..60].copy_from_slice(&sound_frame(source, self.random.percent(50), code));
@@ -103,8 +113,7 @@ impl Headers {
         } else {
             60
         };
-        let input = self.random.below(u64::from(INPUTS)) as u8;
-        frame_line(log, self.now, input, 0, &frame[..length]);
+        frame[..length].to_vec()
     }
 }
 
@@ -113,11 +122,57 @@ impl LogSource for Headers {
         if let Some((kind, input, argument)) = self.setup.pop() {
             return event_line(log, kind, self.now, input, argument);
         }
-        self.now += self.random.below(40);
-        if self.random.one_in(30) {
-            event_line(log, 0x0f, self.now, 0, 0);
-        } else {
-            self.send_frame(log);
+        self.now += self.frames.random.below(40);
+        if self.frames.random.one_in(30) {
+            return event_line(log, 0x0f, self.now, 0, 0);
         }
+        let frame = self.frames.next_frame();
+        let input = self.frames.random.below(u64::from(INPUTS)) as u8;
+        frame_line(log, self.now, input, 0, &frame);
+    }
+}
+
+pub struct Frames {
+    frames: FrameSource,
+}
+
+impl Frames {
+    pub fn new(random: Random) -> Frames {
+        Frames {
+            frames: FrameSource { random },
+        }
+    }
+
+    /// Something that isn't an even number of lowercase digits, or a frame far too long.
+    fn tear(&mut self, line: &mut Vec<u8>) {
+        let random = &mut self.frames.random;
+        if line.is_empty() {
+            return line.push(random.pick(b"0aA \r"));
+        }
+        let place = random.below(line.len() as u64) as usize;
+        match random.below(7) {
+            0 => line[place].make_ascii_uppercase(),
+            1 => drop(line.remove(place)),
+            2 => line.insert(place, b'0'),
+            3 => line.push(b'\r'),
+            4 => line[place] = random.pick(b"g:/`@ -\0\xff"),
+            5 => line.clear(),
+            _ => {
+                let octets = random.pick(&[1_515, 1_516, 2_000, 40_000]);
+                line.resize(2 * octets, b'0');
+            }
+        }
+    }
+}
+
+impl LogSource for Frames {
+    fn next_line(&mut self, lines: &mut Vec<u8>) {
+        let mut line = Vec::new();
+        hex::write_octets(&self.frames.next_frame(), &mut line);
+        if self.frames.random.one_in(25) {
+            self.tear(&mut line);
+        }
+        lines.extend(line);
+        lines.push(b'\n');
     }
 }

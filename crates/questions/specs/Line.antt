@@ -1,7 +1,7 @@
 -- A question as a line of text, `? PORT TIME LENGTH SOURCE`: the paper of readings of document 02, "Programs". Cited by
 -- `src/lib.rt`. A character is its number in ASCII. Assumes nothing.
 use Prim.Native.Nat.{ℕ, suc, _+_, _*_, _-_, _%_, _^_}
-use mathlib.Core.Bool.{Bool, true, not, _&&_, cond}
+use mathlib.Core.Bool.{Bool, true, false, not, _&&_, cond}
 use mathlib.Core.List.{List, [], _∷_}
 use lib.Dec.{eqb, leb, ltb}
 use lib.ListN.{length, getD, take, drop}
@@ -24,6 +24,11 @@ mark = 63
 -- "`-` for no octets"
 abbrev pub dash : ℕ
 dash = 45
+
+-- a "line that begins with `?`": it goes to the senders, any other to the selector
+unfoldable pub isAsked : List ℕ → Bool
+isAsked [] = false
+isAsked (character ∷ rest) = eqb character mark
 
 -- how many characters a text's first part has: those before the first space, or all
 unfoldable pub partLength : List ℕ → ℕ

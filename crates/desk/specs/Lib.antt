@@ -1,0 +1,3 @@
+-- `Heartbeats`: what is written for lines, by the questions and events before. `Desk`: the same as the code does it.
+pub mod Heartbeats
+pub mod Desk
