@@ -63,9 +63,9 @@
  *   SSE2 registers included. It needs memcpy and memmove: no heap, no floating point, no operating
  *   system. It is 20 KB of code and constants, with no data that is written. No call waits.
  *
- * Sizes, in bytes: a card 536, aligned to 8; an input 32; an answer 6; the codes 16; the senders
- * 1,544, aligned to 8; one sender 96. There is no padding in any of them, so cards and senders can
- * be compared by memcmp() and summed by a checksum.
+ * Sizes, in bytes: a card 664, aligned to 8; an input 40; an answer 6; the codes 16; a frame that
+ * was read 9; the senders 1,544, aligned to 8; one sender 96. There is no padding in any of them, so
+ * cards and senders can be compared by memcmp() and summed by a checksum.
  *
  * Stack, in bytes, measured from the call on, with what C passes by value: nurrispane_fresh 3,032,
  * nurrispane_step 12,024, nurrispane_step_in_place 12,056, nurrispane_outgoing_codes 3,112,
@@ -120,7 +120,8 @@ enum nurrispane_event {
     NURRISPANE_EVENT_QUALITY_MODE = 0x0d,  /* 0 off, 1 on; input 0 */
     NURRISPANE_EVENT_SENDING = 0x0e,       /* 0 off, 1 on */
     NURRISPANE_EVENT_TICK = 0x0f,          /* 0; input 0 */
-    NURRISPANE_EVENT_INPUT_KIND = 0x10     /* 0 line, 1 Ethernet */
+    NURRISPANE_EVENT_INPUT_KIND = 0x10,    /* 0 line, 1 Ethernet */
+    NURRISPANE_EVENT_FLOOR = 0x11          /* 1 to 4 */
 };
 
 /*
@@ -190,6 +191,10 @@ struct nurrispane_input {
     uint8_t good;     /* the last raw quality that was not 7 */
     uint8_t failed;   /* the present run is failed */
     uint8_t up;       /* the last down or up moment was up */
+    uint8_t floor;    /* the worst quality that is followed, 1 to 4 */
+    uint8_t spare1;   /* 0, as the two below: no padding */
+    uint16_t spare2;
+    uint32_t spare4;
 };
 
 /* The answer to an event, the six bytes of an answer line. */
@@ -247,6 +252,16 @@ struct nurrispane_senders {
 };
 
 /*
+ * What a received frame says. A frame that is refused tells its number and no more: all else is 0.
+ */
+struct nurrispane_frame {
+    uint8_t number;                           /* NURRISPANE_ACCEPTED, or the smallest of 8 to 13 */
+    uint8_t code;                             /* 0 to 15 */
+    uint8_t event;                            /* the event flag: 1 set, 0 not */
+    uint8_t source[NURRISPANE_SOURCE_OCTETS]; /* who sent it */
+};
+
+/*
  * A fresh card: time 0, quality mode on, no switch, nothing selected; each input a line with
  * priority 0, hold-off 300 ms, wait 5 minutes, sending on, its signal failing. Its answer is that
  * of an accepted event on such a state: 00 ff 00 04 00 ff.
@@ -274,6 +289,12 @@ void nurrispane_step_in_place(struct nurrispane_card *card, uint8_t kind, uint64
  * code of the clock quality.
  */
 struct nurrispane_codes nurrispane_outgoing_codes(struct nurrispane_card card);
+
+/*
+ * Reads a received frame, from its destination address on, without FCS, for whoever wants to know
+ * who sent it. A step reads the frame that it is lent by itself, and records its code alone.
+ */
+struct nurrispane_frame nurrispane_read_frame(const uint8_t *frame, size_t frame_length);
 
 /*
  * Writes the ESMC frame that tells `port`'s outgoing code into the first 60 octets of `buffer`,
@@ -309,7 +330,7 @@ void nurrispane_ask_in_place(struct nurrispane_senders *senders, struct nurrispa
                              size_t source_length, uint8_t *buffer, size_t buffer_length);
 
 /* The layout that the library was built with. */
-NURRISPANE_HOLDS(sizeof(struct nurrispane_input) == 32);
+NURRISPANE_HOLDS(sizeof(struct nurrispane_input) == 40);
 NURRISPANE_HOLDS(offsetof(struct nurrispane_input, framed) == 0);
 NURRISPANE_HOLDS(offsetof(struct nurrispane_input, start) == 8);
 NURRISPANE_HOLDS(offsetof(struct nurrispane_input, holdoff) == 16);
@@ -327,6 +348,10 @@ NURRISPANE_HOLDS(offsetof(struct nurrispane_input, signal) == 28);
 NURRISPANE_HOLDS(offsetof(struct nurrispane_input, good) == 29);
 NURRISPANE_HOLDS(offsetof(struct nurrispane_input, failed) == 30);
 NURRISPANE_HOLDS(offsetof(struct nurrispane_input, up) == 31);
+NURRISPANE_HOLDS(offsetof(struct nurrispane_input, floor) == 32);
+NURRISPANE_HOLDS(offsetof(struct nurrispane_input, spare1) == 33);
+NURRISPANE_HOLDS(offsetof(struct nurrispane_input, spare2) == 34);
+NURRISPANE_HOLDS(offsetof(struct nurrispane_input, spare4) == 36);
 NURRISPANE_HOLDS(sizeof(struct nurrispane_answer) == 6);
 NURRISPANE_HOLDS(offsetof(struct nurrispane_answer, number) == 0);
 NURRISPANE_HOLDS(offsetof(struct nurrispane_answer, selected) == 1);
@@ -334,19 +359,24 @@ NURRISPANE_HOLDS(offsetof(struct nurrispane_answer, clock_state) == 2);
 NURRISPANE_HOLDS(offsetof(struct nurrispane_answer, clock_quality) == 3);
 NURRISPANE_HOLDS(offsetof(struct nurrispane_answer, switch_kind) == 4);
 NURRISPANE_HOLDS(offsetof(struct nurrispane_answer, switch_input) == 5);
-NURRISPANE_HOLDS(sizeof(struct nurrispane_card) == 536);
+NURRISPANE_HOLDS(sizeof(struct nurrispane_card) == 664);
 NURRISPANE_HOLDS(offsetof(struct nurrispane_card, inputs) == 0);
-NURRISPANE_HOLDS(offsetof(struct nurrispane_card, time) == 512);
-NURRISPANE_HOLDS(offsetof(struct nurrispane_card, mode) == 520);
-NURRISPANE_HOLDS(offsetof(struct nurrispane_card, held) == 521);
-NURRISPANE_HOLDS(offsetof(struct nurrispane_card, switch_kind) == 522);
-NURRISPANE_HOLDS(offsetof(struct nurrispane_card, switch_input) == 523);
-NURRISPANE_HOLDS(offsetof(struct nurrispane_card, selection) == 524);
-NURRISPANE_HOLDS(offsetof(struct nurrispane_card, selected) == 525);
-NURRISPANE_HOLDS(offsetof(struct nurrispane_card, answer) == 526);
-NURRISPANE_HOLDS(offsetof(struct nurrispane_card, served) == 532);
+NURRISPANE_HOLDS(offsetof(struct nurrispane_card, time) == 640);
+NURRISPANE_HOLDS(offsetof(struct nurrispane_card, mode) == 648);
+NURRISPANE_HOLDS(offsetof(struct nurrispane_card, held) == 649);
+NURRISPANE_HOLDS(offsetof(struct nurrispane_card, switch_kind) == 650);
+NURRISPANE_HOLDS(offsetof(struct nurrispane_card, switch_input) == 651);
+NURRISPANE_HOLDS(offsetof(struct nurrispane_card, selection) == 652);
+NURRISPANE_HOLDS(offsetof(struct nurrispane_card, selected) == 653);
+NURRISPANE_HOLDS(offsetof(struct nurrispane_card, answer) == 654);
+NURRISPANE_HOLDS(offsetof(struct nurrispane_card, served) == 660);
 NURRISPANE_HOLDS(NURRISPANE_ALIGNMENT(struct nurrispane_card) == 8);
 NURRISPANE_HOLDS(sizeof(struct nurrispane_codes) == 16);
+NURRISPANE_HOLDS(sizeof(struct nurrispane_frame) == 9);
+NURRISPANE_HOLDS(offsetof(struct nurrispane_frame, number) == 0);
+NURRISPANE_HOLDS(offsetof(struct nurrispane_frame, code) == 1);
+NURRISPANE_HOLDS(offsetof(struct nurrispane_frame, event) == 2);
+NURRISPANE_HOLDS(offsetof(struct nurrispane_frame, source) == 3);
 NURRISPANE_HOLDS(sizeof(struct nurrispane_sender) == 96);
 NURRISPANE_HOLDS(offsetof(struct nurrispane_sender, times) == 0);
 NURRISPANE_HOLDS(offsetof(struct nurrispane_sender, asked) == 80);

@@ -1,8 +1,8 @@
 /*
  * Holds the library to include/nurrispane.h: every field lies where the header says, the two forms
  * of a step agree, a refusal keeps what it must, any card is safe, frames are written as they are
- * read, senders answer as document 02 says, and no call takes more stack than the header says.
- * tests/card builds and runs it.
+ * read and read as they are written, senders answer as document 02 says, and no call takes more
+ * stack than the header says. tests/card builds and runs it.
  */
 #include <stdio.h>
 #include <stdlib.h>
@@ -66,6 +66,8 @@ static void check_fresh(void)
         CHECK(input->sending == 1 && input->frame == 7 && input->line == 7);
         CHECK(input->code == 0 && input->count == 0 && input->signal == 0);
         CHECK(input->good == 7 && input->failed == 1 && input->up == 0);
+        CHECK(input->floor == 4);
+        CHECK(input->spare1 == 0 && input->spare2 == 0 && input->spare4 == 0);
     }
     CHECK(card.time == 0 && card.mode == 1 && card.held == 0);
     CHECK(card.switch_kind == NURRISPANE_SWITCH_NONE);
@@ -118,6 +120,9 @@ static void check_fields(void)
     event(NURRISPANE_EVENT_LOCKOUT, 1400, 3, 1);
     CHECK(line->locked == 1);
     event(NURRISPANE_EVENT_LOCKOUT, 1500, 3, 0);
+    event(NURRISPANE_EVENT_FLOOR, 1600, 3, 2);
+    CHECK(line->floor == 2 && line->fixed == 3 && line->good == 3 && line->priority == 7);
+    event(NURRISPANE_EVENT_FLOOR, 1700, 3, 4);
 
     event(NURRISPANE_EVENT_INPUT_KIND, 2000, 9, 1);
     event(NURRISPANE_EVENT_SIGNAL, 2100, 9, 0);
@@ -151,6 +156,59 @@ static void check_fields(void)
     event(NURRISPANE_EVENT_PRIORITY, 2800, 3, 0);
     event(NURRISPANE_EVENT_PRIORITY, 2900, 9, 0);
     CHECK(card.selection == 0 && card.selected == NURRISPANE_NO_INPUT && card.held == 1);
+}
+
+/* ---- what a frame says */
+
+static int says(const uint8_t *frame, size_t length, uint8_t number, uint8_t code, int event,
+                const uint8_t *source)
+{
+    struct nurrispane_frame read = nurrispane_read_frame(frame, length);
+
+    return read.number == number && read.code == code && read.event == event &&
+           memcmp(read.source, source, NURRISPANE_SOURCE_OCTETS) == 0;
+}
+
+/* Which bits of which octets a frame is refused for, with which number. Nothing else is looked at. */
+static const struct {
+    unsigned first, last;
+    uint8_t bits, number;
+} refused_for[] = {{1, 6, 0xff, NURRISPANE_REFUSED_FRAME_DESTINATION},
+                   {13, 15, 0xff, NURRISPANE_REFUSED_FRAME_PROTOCOL},
+                   {16, 20, 0xff, NURRISPANE_REFUSED_FRAME_ORGANISATION},
+                   {21, 21, 0xf0, NURRISPANE_REFUSED_FRAME_VERSION},
+                   {25, 27, 0xff, NURRISPANE_REFUSED_FRAME_TLV}};
+
+static void check_reading(void)
+{
+    static const uint8_t nobody[NURRISPANE_SOURCE_OCTETS];
+    static const uint8_t good[28] = {0x01, 0x80, 0xc2, 0, 0, 2, 0xff, 4, 6, 8, 10, 0xfe, 0x88, 0x09,
+                                     0x0a, 0, 0x19, 0xa7, 0, 1, 0x10, 0, 0, 0, 1, 0, 4, 0x02};
+    uint8_t frame[1515] = {0};
+
+    memcpy(frame, good, sizeof good);
+    for (size_t length = 0; length <= sizeof frame; length++) {
+        if (length < 60 || length > 1514)
+            CHECK(says(frame, length, NURRISPANE_REFUSED_FRAME_LENGTH, 0, 0, nobody));
+        else
+            CHECK(says(frame, length, NURRISPANE_ACCEPTED, 2, 0, good + 6));
+    }
+    for (unsigned octet = 1; octet <= 60; octet++) {
+        for (unsigned change = 1; change < 256; change++) {
+            uint8_t number = NURRISPANE_ACCEPTED;
+
+            frame[octet - 1] ^= (uint8_t)change;
+            for (size_t i = 0; i < sizeof refused_for / sizeof *refused_for; i++)
+                if (refused_for[i].first <= octet && octet <= refused_for[i].last &&
+                    (refused_for[i].bits & change))
+                    number = refused_for[i].number;
+            if (number != NURRISPANE_ACCEPTED)
+                CHECK(says(frame, 60, number, 0, 0, nobody));
+            else
+                CHECK(says(frame, 60, number, frame[27] & 0x0f, frame[20] >> 3 & 1, frame + 6));
+            frame[octet - 1] ^= (uint8_t)change;
+        }
+    }
 }
 
 /* ---- what is written for a port */
@@ -189,6 +247,9 @@ static void check_frames(void)
             for (int i = 28; i < 60; i++)
                 CHECK(buffer[i] == 0);
             CHECK(memcmp(buffer + 60, kept + 60, 4) == 0);
+            for (size_t length = 60; length <= sizeof buffer; length++)
+                CHECK(says(buffer, length, NURRISPANE_ACCEPTED, outgoing.codes[port], flag != 0,
+                           source));
         }
     }
     memcpy(buffer, kept, sizeof buffer);
@@ -218,7 +279,7 @@ static struct call any_call(const struct nurrispane_card *from)
     static const uint16_t arguments[] = {0, 0, 0, 1, 1, 2, 4, 8, 11, 15, 300, 1800, 65535};
     struct call call;
 
-    call.kind = (uint8_t)(below(50) ? below(17) : below(256));
+    call.kind = (uint8_t)(below(50) ? below(18) : below(256));
     call.input = (uint8_t)(below(20) ? below(4) : below(256));
     call.argument = arguments[below(sizeof arguments / sizeof *arguments)];
     call.time = from->time + (below(30) ? below(400) : below(400000));
@@ -260,6 +321,9 @@ static void check_events(void)
                                  call.frame, call.frame_length);
         CHECK(same(&card, &next));
         CHECK(card.answer.number < 18);
+        if (card.answer.number >= 8 && card.answer.number <= 13)
+            CHECK(nurrispane_read_frame(call.frame, call.frame_length).number ==
+                  card.answer.number);
         numbers[card.answer.number]++;
         if (card.answer.number >= 2 && card.answer.number <= 13) {
             CHECK(card.served == 0);
@@ -447,6 +511,7 @@ static ucontext_t here, there;
 static struct call stack_call;
 static struct nurrispane_card stack_card;
 static struct nurrispane_codes stack_codes;
+static struct nurrispane_frame stack_read;
 static struct nurrispane_senders stack_senders;
 static uint8_t stack_frame[NURRISPANE_FRAME_OCTETS];
 
@@ -474,6 +539,11 @@ static void run_step_in_place(void)
 static void run_codes(void)
 {
     stack_codes = nurrispane_outgoing_codes(card);
+}
+
+static void run_read(void)
+{
+    stack_read = nurrispane_read_frame(stack_call.frame, stack_call.frame_length);
 }
 
 static void run_write(void)
@@ -517,6 +587,7 @@ static void check_stack(void)
                 {"step", run_step},
                 {"step_in_place", run_step_in_place},
                 {"outgoing_codes", run_codes},
+                {"read_frame", run_read},
                 {"write_frame", run_write},
                 {"fresh_senders", run_fresh_senders},
                 {"ask_in_place", run_ask}};
@@ -548,15 +619,18 @@ int main(void)
 {
     check_fresh();
     check_fields();
+    check_reading();
     check_frames();
     check_events();
     check_cards();
     check_senders();
     check_stack();
-    printf("sizes: card %zu, input %zu, answer %zu, codes %zu, senders %zu, sender %zu bytes\n",
+    printf("sizes: card %zu, input %zu, answer %zu, codes %zu, frame %zu, senders %zu, "
+           "sender %zu bytes\n",
            sizeof(struct nurrispane_card), sizeof(struct nurrispane_input),
            sizeof(struct nurrispane_answer), sizeof(struct nurrispane_codes),
-           sizeof(struct nurrispane_senders), sizeof(struct nurrispane_sender));
+           sizeof(struct nurrispane_frame), sizeof(struct nurrispane_senders),
+           sizeof(struct nurrispane_sender));
     printf("%lu checks hold\n", checks);
     return 0;
 }

@@ -80,6 +80,11 @@ items! {
     TieKeptAfterSwitch "tie-kept-after-switch"
     TieLowest "tie-lowest-number"
     KindSetAgain "kind-set-on-input-passing-quality"
+    BelowFloor "input-not-eligible-for-its-floor-only"
+    BetterBelowFloor "input-below-its-floor-with-lower-quality-than-the-selected"
+    ForcedBelowFloor "forced-onto-input-below-its-floor"
+    ManualFellByFloor "manual-cancelled-by-a-floor-event"
+    ManualRefusedByFloor "manual-refused-for-the-floor-only"
     PassedNotTold "passed-0-with-mode-on"
     PassedWithModeOff "passed-1-to-6-with-mode-off"
     SameMillisecond "event-in-millisecond-of-the-one-before"
@@ -146,6 +151,10 @@ fn take(digits: &[u8], selector: &mut Selector, counts: &mut Counts) -> u8 {
     tick(selector, line.time, counts);
     let ticked = Shown::of(selector);
     let number = selector.command_refusal(event, input);
+    counts.add_if(
+        Item::ManualRefusedByFloor,
+        number == 16 && below_floor(selector, &selector.inputs[usize::from(input.0)]),
+    );
     if number == 0 {
         let input_before = selector.inputs[usize::from(input.0)].clone();
         selector.obey(event, input);
@@ -385,7 +394,36 @@ fn count_cancelled(event: Event, ticked: &Shown, selector: &Selector, counts: &m
     match ticked.switch {
         Switch::None => {}
         Switch::Forced(_) => counts.add(Item::ForcedCancelled),
-        Switch::Manual(_) => counts.add(Item::ManualCancelledAtEvent),
+        Switch::Manual(_) => {
+            counts.add(Item::ManualCancelledAtEvent);
+            counts.add_if(Item::ManualFellByFloor, matches!(event, Event::Floor(_)));
+        }
+    }
+}
+
+/// Whether only its floor keeps an input from being eligible.
+fn below_floor(selector: &Selector, input: &Input) -> bool {
+    let passed = input.passed();
+    let otherwise = Quality::PRC <= passed && passed <= Quality::SEC;
+    selector.quality_mode && !input.off_or_locked() && otherwise && passed > input.floor
+}
+
+/// What the floors keep out of the choice.
+fn count_floors(selector: &Selector, counts: &mut Counts) {
+    let below = selector
+        .inputs
+        .iter()
+        .filter(|input| below_floor(selector, input))
+        .map(Input::passed)
+        .min();
+    counts.add_if(Item::BelowFloor, below.is_some());
+    let better = below.is_some_and(|quality| {
+        selector.clock_state == ClockState::Locked && quality < selector.clock_quality
+    });
+    counts.add_if(Item::BetterBelowFloor, better);
+    if let Switch::Forced(input) = selector.switch {
+        let input = &selector.inputs[usize::from(input.0)];
+        counts.add_if(Item::ForcedBelowFloor, below_floor(selector, input));
     }
 }
 
@@ -412,6 +450,7 @@ fn count_line(before: &Shown, ticked: &Shown, selector: &Selector, counts: &mut 
         counts.add_if(Item::ForcedOntoFailed, passed.failed());
     }
     count_passed(selector, counts);
+    count_floors(selector, counts);
 }
 
 fn count_passed(selector: &Selector, counts: &mut Counts) {

@@ -32,7 +32,7 @@ fn frame_told(digits: &[u8]) -> String {
         Err(number) => format!("{number:02x}"),
         Ok(frame) => {
             let flag = u8::from(frame.event_flag);
-            let address = hex::digits(&frame.source);
+            let address = hex_or_dash(&frame.source);
             format!("00 {:x} {flag} {address}", frame.code)
         }
     }

@@ -88,10 +88,10 @@ impl Nasty {
         for n in 0..5 {
             nasty.busy[n] = nasty.random.below(16) as u8;
         }
-        if nasty.random.percent(20) {
-            nasty.plan_lock_at_tick_only();
-        } else {
-            nasty.plan_setup();
+        match nasty.random.below(10) {
+            0 | 1 => nasty.plan_lock_at_tick_only(),
+            2 => nasty.plan_forced_below_floor(),
+            _ => nasty.plan_setup(),
         }
         nasty
     }
@@ -111,6 +111,22 @@ impl Nasty {
         self.step(1 + MINUTE, 0x0f, 0, 0);
         self.step(1 + MINUTE, 0x05, n, 0);
         self.step(1 + MINUTE, 0x04, n, 1);
+    }
+
+    /// Forced onto an input below its floor before the clock was ever locked.
+    fn plan_forced_below_floor(&mut self) {
+        let n = self.busy[0];
+        let floor = self.random.between(1, 3) as u16;
+        self.step(0, 0x04, n, 1);
+        self.step(0, 0x07, n, 0);
+        self.step(0, 0x11, n, floor);
+        self.step(0, 0x08, n, floor + 1);
+        self.step(0, 0x01, n, 0);
+        self.step(1, 0x0a, n, 0);
+        self.step(2, 0x0f, 0, 0);
+        self.step(3, 0x11, n, 4);
+        self.step(4, 0x0c, 0, 0);
+        self.plan_setup();
     }
 
     fn plan_setup(&mut self) {
@@ -184,7 +200,7 @@ impl Nasty {
         };
         let other = self.busy_input();
         let code = self.random.pick(&CODES);
-        match self.random.below(34) {
+        match self.random.below(37) {
             0 | 1 => self.story_failure_of_just_the_hold_off(n, code),
             2 => self.story_long_failure(n, code),
             3 | 4 => self.story_recovery(n, code),
@@ -207,6 +223,7 @@ impl Nasty {
             28 | 29 => self.story_wait_and_frame_end_together(),
             30 => self.story_wait_ends_unseen(),
             31 | 32 => self.story_renewed_while_waiting(),
+            34..=36 => self.story_floor(n, other),
             _ => self.story_equals_after_nothing(),
         }
         self.plan.make_contiguous().sort_by_key(|step| step.time);
@@ -419,6 +436,42 @@ impl Nasty {
         }
         let later = self.random.between(1, 500);
         self.step(later, 0x0c, 0, 0);
+    }
+
+    /// A floor set below what the input passes, with a switch on it, beside another input.
+    fn story_floor(&mut self, n: u8, other: u8) {
+        let quality = self.random.between(1, 4);
+        let code = [2, 4, 8, 11][quality as usize - 1];
+        let up = self.bring_up(n, code);
+        match self.random.below(4) {
+            0 => self.step(up, 0x0a, n, 0),
+            1 | 2 => self.step(up, 0x0b, n, 0),
+            _ => {}
+        }
+        let floor = (quality + self.random.below(3)).saturating_sub(1);
+        self.step(up + 1, 0x11, n, floor as u16);
+        match self.random.below(6) {
+            0 => self.step(up + 1, 0x0b, n, 0),
+            1 => self.step(up + 1, 0x0b, other, 0),
+            2 => self.step(up + 2, 0x0d, 0, 0),
+            3 => self.step(
+                up + 2,
+                0x10,
+                n,
+                u16::from(self.sent[usize::from(n)].ethernet),
+            ),
+            4 => self.tell(up + 2, n, 2),
+            _ => self.tell(up + 2, other, 11),
+        }
+        if self.random.percent(60) {
+            let later = self.random.pick(&[3, 4, 300, 301]);
+            let floor = self.random.pick(&[4, 4, 4, 3]);
+            self.step(up + later, 0x11, n, floor);
+        }
+        if self.random.percent(40) {
+            self.step(up + 5, 0x0c, 0, 0);
+        }
+        self.step(up + 6, 0x0d, 0, 1);
     }
 
     fn story_kind_set(&mut self, n: u8, code: Code) {
@@ -730,7 +783,8 @@ impl Nasty {
             82..=87 => (0x0b, n, 0),
             88..=91 => (0x0c, 0, 0),
             92..=95 => (0x0d, 0, u16::from(self.random.percent(75))),
-            96..=97 => (0x0e, n, self.random.below(2) as u16),
+            96 => (0x0e, n, self.random.below(2) as u16),
+            97 => (0x11, n, self.random.pick(&[1, 2, 2, 3, 4, 4, 4])),
             _ => (0x10, n, u16::from(sent.ethernet ^ self.random.percent(30))),
         };
         self.send(kind, input, argument, log);
@@ -742,20 +796,20 @@ impl Nasty {
         match self.random.below(12) {
             0..=2 => self.send_torn(log),
             3 => {
-                let kind = self.random.pick(&[0x00, 0x11, 0x12, 0x20, 0x80, 0xff]);
+                let kind = self.random.pick(&[0x00, 0x12, 0x13, 0x21, 0x80, 0xff]);
                 let input = self.random.below(20) as u8;
                 event_line(log, kind, self.now, input, self.random.below(3) as u16);
             }
             4 => {
                 let back = self.random.pick(&[1, 1, 1, 2, 300, 5_000, 60_000]);
-                let kind = self.random.between(0, 0x10) as u8;
+                let kind = self.random.between(0, 0x11) as u8;
                 let earlier = self.now - back.min(self.now);
                 event_line(log, kind, earlier, n, self.random.below(2) as u16);
             }
             5 => {
                 let kind = self
                     .random
-                    .pick(&[0x0c, 0x0d, 0x0f, 0x01, 0x03, 0x0a, 0x10]);
+                    .pick(&[0x0c, 0x0d, 0x0f, 0x01, 0x03, 0x0a, 0x10, 0x11]);
                 let input = self.random.pick(&[16, 1, 15, 17, 128, 255]);
                 if kind >= 0x0c || input > 15 {
                     event_line(log, kind, self.now, input, self.random.below(3) as u16);
@@ -795,7 +849,7 @@ impl Nasty {
 
     /// The borders of every argument's range, and just beyond them.
     fn send_border(&mut self, n: u8, log: &mut Vec<u8>) {
-        let borders: [(u8, &[u16]); 16] = [
+        let borders: [(u8, &[u16]); 17] = [
             (0x01, &[2, 256, 65_535]),
             (0x02, &[1, 256]),
             (0x03, &[0, 15, 16, 256, 258]),
@@ -812,6 +866,7 @@ impl Nasty {
             (0x0e, &[0, 1, 2, 256]),
             (0x0f, &[1, 256]),
             (0x10, &[2, 256, 257]),
+            (0x11, &[0, 1, 4, 5, 6, 257, 260]),
         ];
         let (kind, arguments) = self.random.pick(&borders);
         let argument = self.random.pick(arguments);

@@ -100,6 +100,10 @@ impl Realistic {
             if self.random.percent(10) {
                 self.setup.push_back((0x0e, n, 0));
             }
+            if self.random.percent(15) {
+                let floor = self.random.pick(&[2, 2, 1, 3]);
+                self.setup.push_back((0x11, n, floor));
+            }
         }
     }
 
@@ -228,7 +232,8 @@ impl Realistic {
             80..=85 => (0x07, n, self.random.pick(&WAITS)),
             86..=89 => (0x08, n, self.random.pick(&[0, 0, 0, 1, 2, 3, 4, 5])),
             90..=93 => (0x0e, n, self.random.below(2) as u16),
-            94..=96 => (0x0d, 0, 0),
+            94 => (0x11, n, self.random.pick(&[1, 2, 2, 3, 4, 4])),
+            95..=96 => (0x0d, 0, 0),
             _ => (0x10, n, self.new_kind(at)),
         };
         match kind {

@@ -88,15 +88,6 @@ impl Quality {
     pub fn failed(self) -> bool {
         self == Quality::FAILED
     }
-
-    /// "1 to 4 with mode on, not 7 with mode off"
-    pub fn usable(self, quality_mode: bool) -> bool {
-        if quality_mode {
-            Quality::PRC <= self && self <= Quality::SEC
-        } else {
-            !self.failed()
-        }
-    }
 }
 
 /// An event whose line has been found in order, without its time and its input.
@@ -111,6 +102,7 @@ pub enum Event {
     HoldOff(Time),
     Wait(Time),
     FixedQuality(Option<Quality>),
+    Floor(Quality),
     ClearWait,
     Forced,
     Manual,
@@ -177,6 +169,8 @@ pub struct Input {
     pub hold_off: Time,
     pub wait: Time,
     pub fixed: Option<Quality>,
+    /// L9: the worst quality that is followed.
+    pub floor: Quality,
     pub sending: bool,
     pub failing: bool,
     pub heard: Heard,
@@ -192,7 +186,8 @@ pub struct Input {
 
 impl Input {
     /// "Fresh: line, priority 0, not locked, 300 ms, 5 minutes, none fixed, sending
-    /// on, signal failing." And: "Time 0, fresh, is down."
+    /// on, signal failing." And: "Time 0, fresh, is down." L9: "a floor 1 to 4, fresh
+    /// value 4".
     const FRESH: Input = Input {
         ethernet: false,
         priority: Priority::OFF,
@@ -200,6 +195,7 @@ impl Input {
         hold_off: 300,
         wait: 5 * MINUTE,
         fixed: None,
+        floor: Quality::SEC,
         sending: true,
         failing: true,
         heard: Heard::NOTHING,
@@ -282,10 +278,19 @@ impl Input {
         self.priority == Priority::OFF || self.locked_out
     }
 
+    /// "not 7 with mode off"; with mode on L9: "passed quality from 1 to the input's floor".
+    pub fn usable(&self, quality_mode: bool) -> bool {
+        if quality_mode {
+            (Quality::PRC..=self.floor).contains(&self.passed())
+        } else {
+            !self.passed().failed()
+        }
+    }
+
     /// "Eligible: priority not 0, not locked, passed quality not 7, and with quality
-    /// mode on passed quality 1 to 4."
+    /// mode on" what is usable.
     pub fn eligible(&self, quality_mode: bool) -> bool {
-        !self.off_or_locked() && self.passed().usable(quality_mode)
+        !self.off_or_locked() && self.usable(quality_mode)
     }
 
     /// "A repeated fail or good changes nothing."
@@ -310,6 +315,7 @@ impl Input {
             Event::HoldOff(hold_off) => self.hold_off = hold_off,
             Event::Wait(wait) => self.wait = wait,
             Event::FixedQuality(fixed) => self.fixed = fixed,
+            Event::Floor(floor) => self.floor = floor,
             Event::Sending(on) => self.sending = on,
             // "any event setting its kind, forget the codes heard"
             Event::Ethernet(ethernet) => {
@@ -562,10 +568,11 @@ impl Selector {
     }
 
     fn set_clock(&mut self) {
-        let passed = self
+        let locked_to = self
             .selected
-            .map(|input| self.inputs[input.index()].passed());
-        let locked_to = passed.filter(|passed| passed.usable(self.quality_mode));
+            .map(|input| &self.inputs[input.index()])
+            .filter(|input| input.usable(self.quality_mode))
+            .map(Input::passed);
         self.clock_state = self.clock_state_when(locked_to.is_some());
         // "Clock quality: 0 with mode off; the passed quality when locked; otherwise 4."
         self.clock_quality = match locked_to {

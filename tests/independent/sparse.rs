@@ -121,11 +121,12 @@ impl Sparse {
 
     fn plan_episode(&mut self) {
         self.ends.clear();
-        match self.random.below(13 + u64::from(self.crowded)) {
+        match self.random.below(14 + u64::from(self.crowded)) {
             0..=3 => self.episode_waits_in_turn(),
             4 | 5 => self.episode_goes_as_others_come(),
             12 => self.episode_silent_as_another_comes(),
-            13 => self.episode_all_sixteen(),
+            13 => self.episode_floors(),
+            14 => self.episode_all_sixteen(),
             6 | 7 => self.episode_up_between_two_events(),
             8 => self.episode_silent_in_turn(),
             9 => self.episode_fails_in_turn(),
@@ -315,6 +316,50 @@ impl Sparse {
         self.ends(gone);
     }
 
+    /// All are up with one quality; one has a lower one, and is below its floor or not.
+    fn episode_floors(&mut self) {
+        let low = self.member();
+        let (low, high) = (self.group[low], self.group[(low + 1) % GROUP]);
+        let quality = self.random.between(2, 4) as u16;
+        for member in 0..GROUP {
+            let n = self.group[member];
+            self.step(0, 0x08, n, quality);
+            self.step(0, 0x01, n, 0);
+            self.step(0, 0x09, n, 0);
+            self.step(0, 0x11, n, 4);
+        }
+        let below = quality.max(3) - 1;
+        self.step(1, 0x08, low, below);
+        self.step(1, 0x11, low, below - 1);
+        match self.random.below(5) {
+            0 => {
+                self.step(2, 0x0b, high, 0);
+                self.step(3, 0x11, high, quality - 1);
+            }
+            1 => {
+                self.step(2, 0x0b, high, 0);
+                self.step(3, 0x11, low, below);
+            }
+            2 => self.step(2, 0x0b, low, 0),
+            3 => {
+                self.step(2, 0x0b, high, 0);
+                self.step(3, 0x0b, low, 0);
+                self.step(4, 0x0d, 0, 0);
+                self.step(5, 0x0d, 0, 1);
+            }
+            _ => {
+                self.step(2, 0x0a, low, 0);
+                self.step(3, 0x11, low, below);
+                self.step(4, 0x11, low, below - 1);
+            }
+        }
+        if self.random.percent(80) {
+            self.step(9, 0x0c, 0, 0);
+            self.step(9, 0x11, low, 4);
+            self.step(9, 0x11, high, 4);
+        }
+    }
+
     /// All sixteen have a wait, a frame and the hold-off after it to end, 48 at most, in
     /// milliseconds of their own or together.
     fn episode_all_sixteen(&mut self) {
@@ -384,7 +429,11 @@ impl Sparse {
     fn episode_setting(&mut self) {
         let member = self.member();
         let n = self.group[member];
-        match self.random.below(6) {
+        match self.random.below(7) {
+            6 => {
+                let floor = self.random.pick(&[1, 2, 4, 4]);
+                self.step(0, 0x11, n, floor);
+            }
             0 => {
                 let hold_off = self.random.pick(&HOLD_OFFS);
                 self.hold_offs[member] = Time::from(hold_off);

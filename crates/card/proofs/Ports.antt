@@ -69,7 +69,7 @@ module _ (card : Card) (port : ℕ) (event : Bool) (source before : List ℕ) (a
   there-content there = write .content ∙ (rw there)
 
   -- What is written for a port tells its outgoing code; the numbers are 5, 19 and 18, and each keeps the buffer.
-  pub port-frame : PortFrame card port source before answer after
+  pub port-frame : PortFrame card port event source before answer after
   port-frame =
       byBool (ltb lastInput port)
       (λ past.

@@ -7,9 +7,12 @@ use mathlib.Core.Path.{_≡_}
 use lib.Dec.{ltb}
 use Rattle.numbers.specs.declared.Event.{Event}
 use Rattle.numbers.specs.Inputs.{lastInput}
+use Rattle.numbers.specs.Kind.{flag}
 use Rattle.numbers.specs.Refusal.{accepted, inputOutOfRange}
+use Rattle.frame.specs.declared.FrameMessage.{FrameMessage}
 use Rattle.frame.specs.declared.FrameWrite.{FrameWrite}
 use Rattle.frame.specs.declared.FrameWrite.the-variants.{Written, Refused}
+use Rattle.frame.specs.Read.{numberOfRead, codeOfRead, readFrame}
 use Rattle.frame.specs.Write.{writeAnswer, contentAfter}
 use Rattle.selector.specs.State.{freshSelector}
 use Rattle.selector.specs.Answer.{outgoingCodes}
@@ -18,6 +21,7 @@ use Rattle.events.specs.Step.{step}
 use Rattle.sender.specs.Heartbeat.{codeOfPort}
 use Rattle.card.specs.declared.Card.{Card}
 use Rattle.card.specs.declared.CardCodes.{CardCodes}
+use Rattle.card.specs.declared.CardFrame.{CardFrame}
 use Rattle.card.specs.Flat.{selectorOf, cardOf}
 
 -- "The selector starts at time 0, quality mode on, no switch, nothing selected"
@@ -40,6 +44,20 @@ stepCard card kind time input argument frame =
 -- "Outgoing code, for each of the sixteen ports"
 unfoldable pub cardCodes : Card → CardCodes
 cardCodes card = record { codes = outgoingCodes (selectorOf card) }
+
+-- what reading answers, as numbers: document 02, L2
+abbrev pub flatMessage : FrameMessage → CardFrame
+flatMessage message =
+    record {
+      number = numberOfRead (message .read);
+      code = codeOfRead (message .read);
+      event = flag (message .event);
+      source = message .source;
+    }
+
+-- "Reading now answers code, flag and the six address octets"
+unfoldable pub cardFrame : List ℕ → CardFrame
+cardFrame frame = flatMessage (readFrame frame)
 
 -- the code that goes out of a port
 abbrev pub portCode : Card → ℕ → ℕ

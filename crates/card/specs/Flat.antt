@@ -50,13 +50,14 @@ inputOf flat =
             wait = flat .wait;
             priority = record { 0 = flat .priority };
             fixed = quality (flat .fixed);
+            floor = quality (flat .floor);
             ethernet = isSet (flat .ethernet);
             locked = isSet (flat .locked);
             sending = isSet (flat .sending);
           };
     }
 
--- the numbers of an input; yes is 1, no is 0
+-- the numbers of an input; yes is 1, no is 0, and so is what is spare
 unfoldable pub flatInput : Input → CardInput
 flatInput input =
     record {
@@ -77,6 +78,10 @@ flatInput input =
       good = input .run .good .0;
       failed = flag (input .run .failed);
       up = flag (input .run .up);
+      floor = input .settings .floor .0;
+      spare1 = 0;
+      spare2 = 0;
+      spare4 = 0;
     }
 
 -- "switch (00 none, 01 forced, 02 manual), its input", read back; any other kind is none

@@ -1,7 +1,7 @@
 -- What is written for a port: document 01, "Outgoing code", "ESMC frame" and rows 5, 18 and 19 of "Numbers of refusal".
 -- Assumes nothing.
 use Prim.Native.Nat.{ℕ}
-use mathlib.Core.Bool.{not, cond}
+use mathlib.Core.Bool.{Bool, not, cond}
 use mathlib.Core.List.{List}
 use mathlib.Core.Logic.{_≢_}
 use mathlib.Core.Path.{_≡_}
@@ -9,7 +9,7 @@ use lib.Dec.{eqb, ltb}
 use lib.ListN.{length, take}
 use Rattle.numbers.specs.Refusal.{accepted, inputOutOfRange, bufferTooShort, sourceNotSix}
 use Rattle.frame.specs.declared.FrameRead.the-variants.{Code}
-use Rattle.frame.specs.Read.{readFrame}
+use Rattle.frame.specs.Read.{message, readFrame}
 use Rattle.frame.specs.Write.{writtenLength, sourceLength}
 use Rattle.numbers.specs.Inputs.{lastInput}
 use Rattle.card.specs.declared.Card.{Card}
@@ -24,9 +24,12 @@ portNumber port source before =
     accepted))
 
 -- what writing for a port comes to, whatever the card holds
-pub record PortFrame (card : Card) (port : ℕ) (source before : List ℕ) (answer : ℕ) (after : List ℕ) : Type 0 where
+pub record PortFrame
+    (card : Card) (port : ℕ) (event : Bool) (source before : List ℕ) (answer : ℕ) (after : List ℕ)
+    : Type 0 where
   pub number : answer ≡ portNumber port source before
   -- "6, 18 and 19 on writing leave the buffer"; 5 too
   pub kept : answer ≢ accepted → after ≡ before
-  -- a frame that is written tells the port's outgoing code
-  pub reads : answer ≡ accepted → readFrame (take writtenLength after) ≡ Code (portCode card port)
+  -- a frame that is written tells the port's outgoing code, the flag and the source
+  pub reads :
+      answer ≡ accepted → readFrame (take writtenLength after) ≡ message (Code (portCode card port)) event source

@@ -1,6 +1,6 @@
 -- The definitions of `specs/`, a law for each way through the function that meets it. Assumes nothing.
 use Prim.Native.Nat.{ℕ, _+_, _≤_, _<_}
-use mathlib.Core.Bool.{Bool, true, false}
+use mathlib.Core.Bool.{Bool, true, false, not}
 use mathlib.Core.List.{List}
 use mathlib.Core.Path.{_≡_, refl, sym, _∙_}
 use native.Mathlib.Omega.{arith}
@@ -13,34 +13,42 @@ use Rattle.numbers.specs.declared.Priority.{Priority}
 use Rattle.numbers.specs.declared.Quality.{Quality}
 use Rattle.numbers.specs.Inputs.{inputCount}
 use Rattle.numbers.specs.Quality.{notTold, isFailed}
+use Rattle.numbers.specs.Truth.{alike}
 use Rattle.choice.specs.declared.Candidate.{Candidate}
+use Rattle.choice.specs.declared.Seen.{Seen}
 use Rattle.choice.specs.declared.Selection.{Selection}
 use Rattle.choice.specs.declared.Selection.the-variants.{Nothing, At}
-use Rattle.choice.specs.Candidate.{nobody, isUsable, isAdmitted, rankedQuality, isEligible, isBetter, eligibleAmong, betterAmong, isLower, lowerAmong, anyLower}
+use Rattle.choice.specs.Candidate.{nobody, isWithin, isUsable, isAdmitted, rankedQuality, isEligible, isBetter, isLike, eligibleAmong, betterAmong, isLower, lowerAmong, anyLower}
 use Rattle.choice.specs.Choice.{seeded, offered, scanned, choose}
 
--- ---- isUsable
+-- ---- isWithin, isUsable
 
-module _ (mode : Bool) (passed : Quality) where
-  pub isUsable-on : mode ≡ true → 1 ≤ passed .0 → leb (passed .0) 4 ≡ isUsable mode passed
+module _ (floor passed : Quality) where
+  pub isWithin-high : 1 ≤ passed .0 → leb (passed .0) (floor .0) ≡ isWithin floor passed
+  unfolding isWithin
+  isWithin-high h = rw (le-leb _ _ h)
+
+  pub isWithin-low : passed .0 < 1 → false ≡ isWithin floor passed
+  unfolding isWithin
+  isWithin-low h = rw (lt-leb _ _ h)
+
+pub ruleset isWithin-laws = (isWithin-high, isWithin-low)
+
+module _ (mode : Bool) (floor passed : Quality) (test : Bool) where
+  pub isUsable-failed : test ≡ isFailed passed → test ≡ true → false ≡ isUsable mode floor passed
   unfolding isUsable
-  isUsable-on m h = rw (m, le-leb _ _ h)
+  isUsable-failed q t = rw (← q, t)
 
-  pub isUsable-too-good : mode ≡ true → passed .0 < 1 → false ≡ isUsable mode passed
+  pub isUsable-on : (within : Bool) → test ≡ isFailed passed → test ≡ false → mode ≡ true
+      → within ≡ isWithin floor passed → within ≡ isUsable mode floor passed
   unfolding isUsable
-  isUsable-too-good m h = rw (m, lt-leb _ _ h)
+  isUsable-on within q t m w = w ∙ (rw (← q, t, m))
 
-  pub isUsable-failed : (test : Bool) → mode ≡ false → test ≡ isFailed passed → test ≡ true
-      → false ≡ isUsable mode passed
+  pub isUsable-off : test ≡ isFailed passed → test ≡ false → mode ≡ false → true ≡ isUsable mode floor passed
   unfolding isUsable
-  isUsable-failed test m q t = rw (m, ← q, t)
+  isUsable-off q t m = rw (← q, t, m)
 
-  pub isUsable-off : (test : Bool) → mode ≡ false → test ≡ isFailed passed → test ≡ false
-      → true ≡ isUsable mode passed
-  unfolding isUsable
-  isUsable-off test m q t = rw (m, ← q, t)
-
-pub ruleset isUsable-laws = (isUsable-on, isUsable-too-good, isUsable-failed, isUsable-off)
+pub ruleset isUsable-laws = (isUsable-failed, isUsable-on, isUsable-off)
 
 -- ---- isAdmitted
 
@@ -106,6 +114,38 @@ module _ (candidate other : Candidate) where
       rw (le-ltb (candidate .quality .0) (other .quality .0) h, ne-eqb (candidate .quality .0) (other .quality .0) e)
 
 pub ruleset isBetter-laws = (isBetter-quality, isBetter-priority, isBetter-not)
+
+-- ---- alike, isLike
+
+pub alike-yes : (one other : Bool) → one ≡ true → other ≡ alike one other
+alike-yes one other e = rw e
+
+pub alike-no : (one other : Bool) → one ≡ false → not other ≡ alike one other
+alike-no one other e = rw e
+
+pub ruleset alike-laws = (alike-yes, alike-no)
+
+module _ (seen other : Seen) where
+  pub isLike-locked : (locked : Bool) → seen .passed .0 ≡ other .passed .0 → seen .priority .0 ≡ other .priority .0
+      → seen .floor .0 ≡ other .floor .0 → locked ≡ alike (seen .locked) (other .locked) → locked ≡ isLike seen other
+  unfolding isLike
+  isLike-locked locked q p f l = rw (eq-eqb _ _ q, eq-eqb _ _ p, eq-eqb _ _ f, l)
+
+  pub isLike-floor : seen .passed .0 ≡ other .passed .0 → seen .priority .0 ≡ other .priority .0
+      → (seen .floor .0 ≡ other .floor .0 → ⊥) → false ≡ isLike seen other
+  unfolding isLike
+  isLike-floor q p n = rw (eq-eqb _ _ q, eq-eqb _ _ p, ne-eqb _ _ n)
+
+  pub isLike-priority : seen .passed .0 ≡ other .passed .0 → (seen .priority .0 ≡ other .priority .0 → ⊥)
+      → false ≡ isLike seen other
+  unfolding isLike
+  isLike-priority q n = rw (eq-eqb _ _ q, ne-eqb _ _ n)
+
+  pub isLike-passed : (seen .passed .0 ≡ other .passed .0 → ⊥) → false ≡ isLike seen other
+  unfolding isLike
+  isLike-passed n = rw (ne-eqb _ _ n)
+
+pub ruleset isLike-laws = (isLike-locked, isLike-floor, isLike-priority, isLike-passed)
 
 -- ---- the candidate with a number
 

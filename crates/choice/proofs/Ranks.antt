@@ -3,19 +3,21 @@
 use Prim.Native.Nat.{ℕ, zero, suc, _≤_, _<_}
 use mathlib.Core.Bool.{Bool, true, false, not, _&&_, cond, false≢true}
 use mathlib.Core.List.{List}
-use mathlib.Core.Path.{_≡_, refl, sym, _∙_}
+use mathlib.Core.Path.{_≡_, refl, sym, _∙_, subst}
 use mathlib.Core.Logic.{_⊎_, inl, inr, ⊎-elim, _↔_}
 use native.Mathlib.Omega.{arith}
 use native.Mathlib.Decide.{ℕ-discrete}
 use lib.Dec.{leb, ltb, eqb}
 use lib.ListN.{getD}
-use borrow.Author.Tests.{ltb-true, ltb-false, leb-true, eqb-false, lt-ltb, le-ltb, le-leb, ne-eqb, not-true}
+use borrow.Author.Tests.{eqb-true, ltb-true, ltb-false, leb-true, eqb-false, lt-ltb, le-ltb, le-leb, ne-eqb, not-true}
 use Rattle.numbers.specs.declared.Priority.{Priority}
 use Rattle.numbers.specs.declared.Quality.{Quality}
 use Rattle.numbers.specs.Inputs.{inputCount}
-use Rattle.numbers.specs.Quality.{prc, sec, failed}
+use Rattle.numbers.specs.Truth.{alike}
+use Rattle.numbers.specs.Quality.{prc, failed, isFailed}
 use Rattle.choice.specs.declared.Candidate.{Candidate}
-use Rattle.choice.specs.Candidate.{nobody, isUsable, isAdmitted, candidateOf, isEligible, isBetter, eligibleAmong, betterAmong, isLower, lowerAmong, anyLower}
+use Rattle.choice.specs.declared.Seen.{Seen}
+use Rattle.choice.specs.Candidate.{nobody, isWithin, isUsable, isAdmitted, candidateOf, isEligible, isBetter, isLike, eligibleAmong, betterAmong, isLower, lowerAmong, anyLower}
 use Rattle.choice.specs.Choice.{Ranking}
 use Rattle.choice.proofs.Laws.{isBetter-quality, isBetter-priority, isBetter-not}
 use Rattle.choice.proofs.Choosing.{byBool, both-first, both-second, contra}
@@ -23,41 +25,57 @@ use Rattle.choice.proofs.Choosing.{byBool, both-first, both-second, con
 -- ---- isEligible
 
 -- what an eligible input has to be, by its own quality and settings
-pub record EligibleParts (passed : Quality) (priority : Priority) (locked mode : Bool) : Type 0 where
+pub record EligibleParts (passed : Quality) (priority : Priority) (locked : Bool) (floor : Quality) (mode : Bool) :
+    Type 0 where
   pub notOff : priority .0 ≡ 0 → ⊥
   pub notLocked : locked ≡ false
   pub notFailed : passed .0 ≡ failed .0 → ⊥
-  pub usable : mode ≡ true → (prc .0 ≤ passed .0) × (passed .0 ≤ sec .0)
+  pub usable : mode ≡ true → (prc .0 ≤ passed .0) × (passed .0 ≤ floor .0)
 
-module _ (passed : Quality) (priority : Priority) (locked : Bool) where
-  usable-parts : (mode : Bool) → isUsable mode passed ≡ true
-      → (passed .0 ≡ failed .0 → ⊥) × (mode ≡ true → (1 ≤ passed .0) × (passed .0 ≤ 4))
+module _ (passed : Quality) (priority : Priority) (locked : Bool) (floor : Quality) where
+  within-parts : isWithin floor passed ≡ true → (prc .0 ≤ passed .0) × (passed .0 ≤ floor .0)
+  unfolding isWithin
+  within-parts x = (
+    leb-true 1 (passed .0) (both-first (leb 1 (passed .0)) (leb (passed .0) (floor .0)) x),
+    leb-true (passed .0) (floor .0) (both-second (leb 1 (passed .0)) (leb (passed .0) (floor .0)) x),
+  )
+
+  within-whole : (prc .0 ≤ passed .0) × (passed .0 ≤ floor .0) → isWithin floor passed ≡ true
+  unfolding isWithin
+  within-whole h = rw (le-leb 1 (passed .0) (h .0), le-leb (passed .0) (floor .0) (h .1))
+
+  usable-parts : (mode : Bool) → isUsable mode floor passed ≡ true
+      → (passed .0 ≡ failed .0 → ⊥) × (mode ≡ true → (prc .0 ≤ passed .0) × (passed .0 ≤ floor .0))
   unfolding isUsable
-  usable-parts true x =
-      let low : 1 ≤ passed .0 = leb-true 1 (passed .0) (both-first (leb 1 (passed .0)) (leb (passed .0) 4) x) in
-      let high : passed .0 ≤ 4 = leb-true (passed .0) 4 (both-second (leb 1 (passed .0)) (leb (passed .0) 4) x) in
-      (λ e. omega arith, λ m. (low, high))
-  usable-parts false x = (eqb-false (passed .0) 7 (not-true (eqb (passed .0) 7) x), λ m. absurd (false≢true m))
+  usable-parts mode x = (
+    eqb-false (passed .0) (failed .0)
+        (not-true (isFailed passed) (both-first (not (isFailed passed)) (cond mode (isWithin floor passed) true) x)),
+    λ m.
+        let y = both-second (not (isFailed passed)) (cond mode (isWithin floor passed) true) x in
+        within-parts (subst (λ (on : Bool). cond on (isWithin floor passed) true ≡ true) m y),
+  )
 
-  usable-whole : (mode : Bool) → (passed .0 ≡ failed .0 → ⊥) → (mode ≡ true → (1 ≤ passed .0) × (passed .0 ≤ 4))
-      → isUsable mode passed ≡ true
+  usable-whole : (mode : Bool) → (passed .0 ≡ failed .0 → ⊥)
+      → (mode ≡ true → (prc .0 ≤ passed .0) × (passed .0 ≤ floor .0)) → isUsable mode floor passed ≡ true
   unfolding isUsable
-  usable-whole true n u = rw (le-leb 1 (passed .0) (u refl .0), le-leb (passed .0) 4 (u refl .1))
-  usable-whole false n u = rw (ne-eqb (passed .0) 7 n)
+  usable-whole true n u = rw (ne-eqb (passed .0) (failed .0) n, within-whole (u refl))
+  usable-whole false n u = rw (ne-eqb (passed .0) (failed .0) n)
 
-  -- "Eligible: priority not 0, not locked, passed quality not 7, and with quality mode on passed quality 1 to 4"
-  pub eligible-exact : (mode : Bool)
-      → (isEligible (candidateOf passed priority locked mode) ≡ true) ↔ EligibleParts passed priority locked mode
+  -- "Eligible: priority not 0, not locked, passed quality not 7, and with quality mode on passed quality" from 1 to the
+  -- floor
+  pub eligible-exact : (mode : Bool) → (isEligible (candidateOf passed priority locked floor mode) ≡ true) ↔
+      EligibleParts passed priority locked floor mode
   unfolding isEligible candidateOf isAdmitted
   eligible-exact mode = (parts, whole)
     where
       on : Bool
       on = not (eqb (priority .0) 0)
 
-      parts : ((on && not locked) && isUsable mode passed) ≡ true → EligibleParts passed priority locked mode
+      parts : ((on && not locked) && isUsable mode floor passed) ≡ true
+          → EligibleParts passed priority locked floor mode
       parts x =
-          let admitted : (on && not locked) ≡ true = both-first (on && not locked) (isUsable mode passed) x in
-          let usable = usable-parts mode (both-second (on && not locked) (isUsable mode passed) x) in
+          let admitted : (on && not locked) ≡ true = both-first (on && not locked) (isUsable mode floor passed) x in
+          let usable = usable-parts mode (both-second (on && not locked) (isUsable mode floor passed) x) in
           record {
             notOff = eqb-false (priority .0) 0 (not-true (eqb (priority .0) 0) (both-first on (not locked) admitted));
             notLocked = not-true locked (both-second on (not locked) admitted);
@@ -65,7 +83,8 @@ module _ (passed : Quality) (priority : Priority) (locked : Bool) where
             usable = usable .1;
           }
 
-      whole : EligibleParts passed priority locked mode → ((on && not locked) && isUsable mode passed) ≡ true
+      whole : EligibleParts passed priority locked floor mode
+          → ((on && not locked) && isUsable mode floor passed) ≡ true
       whole e =
           rw (ne-eqb (priority .0) 0 (e .notOff), e .notLocked) (usable-whole mode (e .notFailed) (e .usable))
 
@@ -151,6 +170,34 @@ isBetter-ranking candidates =
   where
     at : ℕ → Candidate
     at number = getD candidates number nobody
+
+-- ---- isLike
+
+alike-same : (one other : Bool) → alike one other ≡ true → one ≡ other
+alike-same true other e = sym e
+alike-same false true e = absurd (false≢true e)
+alike-same false false e = refl
+
+-- what a choice sees alike is the same to it
+pub isLike-same : (seen other : Seen) → isLike seen other ≡ true → seen ≡ other
+unfolding isLike
+isLike-same seen other e =
+    let first = eqb (seen .passed .0) (other .passed .0) in
+    let second = eqb (seen .priority .0) (other .priority .0) in
+    let third = eqb (seen .floor .0) (other .floor .0) in
+    let fourth = alike (seen .locked) (other .locked) in
+    let three = both-first (first && second && third) fourth e in
+    let two = both-first (first && second) third three in
+    let q : seen .passed .0 ≡ other .passed .0 = eqb-true _ _ (both-first first second two) in
+    let p : seen .priority .0 ≡ other .priority .0 = eqb-true _ _ (both-second first second two) in
+    let f : seen .floor .0 ≡ other .floor .0 = eqb-true _ _ (both-second (first && second) third three) in
+    let l : seen .locked ≡ other .locked = alike-same _ _ (both-second (first && second && third) fourth e) in
+    λ j. record {
+      passed = record { 0 = q j };
+      priority = record { 0 = p j };
+      floor = record { 0 = f j };
+      locked = l j;
+    }
 
 -- ---- anyLower
 

@@ -1,4 +1,4 @@
--- Document 01, "Choosing": eligible and better. Cited by `src/lib.rt`.
+-- Document 01, "Choosing", with document 02, L9: eligible and better. Cited by `src/lib.rt`.
 -- Assumes nothing.
 use Prim.Native.Nat.{ℕ, zero, suc}
 use mathlib.Core.Bool.{Bool, true, false, not, _&&_, _||_, cond}
@@ -7,13 +7,26 @@ use lib.Dec.{leb, ltb, eqb}
 use lib.ListN.{getD}
 use Rattle.numbers.specs.declared.Priority.{Priority}
 use Rattle.numbers.specs.Inputs.{inputCount}
+use Rattle.numbers.specs.Truth.{alike}
 use Rattle.numbers.specs.declared.Quality.{Quality}
-use Rattle.numbers.specs.Quality.{notTold, prc, sec, isFailed}
+use Rattle.numbers.specs.Quality.{notTold, prc, isFailed}
 use Rattle.choice.specs.declared.Candidate.{Candidate}
+use Rattle.choice.specs.declared.Seen.{Seen}
 
--- "usable (1 to 4 with mode on, not 7 with mode off)"
-unfoldable pub isUsable : Bool → Quality → Bool
-isUsable mode passed = cond mode (leb (prc .0) (passed .0) && leb (passed .0) (sec .0)) (not (isFailed passed))
+-- document 02, L9: "passed quality from 1 to the input's floor"
+unfoldable pub isWithin : Quality → Quality → Bool
+isWithin floor passed = leb (prc .0) (passed .0) && leb (passed .0) (floor .0)
+
+-- "usable": not 7, and with mode on from 1 to the floor
+unfoldable pub isUsable : Bool → Quality → Quality → Bool
+isUsable mode floor passed = not (isFailed passed) && cond mode (isWithin floor passed) true
+
+-- a choice sees two inputs alike: in all that it looks at
+unfoldable pub isLike : Seen → Seen → Bool
+isLike seen other =
+    eqb (seen .passed .0) (other .passed .0) && eqb (seen .priority .0) (other .priority .0) &&
+    eqb (seen .floor .0) (other .floor .0) &&
+    alike (seen .locked) (other .locked)
 
 -- "priority not 0, not locked"
 unfoldable pub isAdmitted : Priority → Bool → Bool
@@ -23,17 +36,18 @@ isAdmitted priority locked = not (eqb (priority .0) 0) && not locked
 unfoldable pub rankedQuality : Bool → Quality → Quality
 rankedQuality mode passed = cond mode passed notTold
 
--- what a choice looks at of an input
-unfoldable pub candidateOf : Quality → Priority → Bool → Bool → Candidate
-candidateOf passed priority locked mode =
+-- an input as a choice sees it: by what it looks at, and the quality mode
+unfoldable pub candidateOf : Quality → Priority → Bool → Quality → Bool → Candidate
+candidateOf passed priority locked floor mode =
     record {
       quality = rankedQuality mode passed;
       priority = priority;
       admitted = isAdmitted priority locked;
-      usable = isUsable mode passed;
+      usable = isUsable mode floor passed;
     }
 
--- "Eligible: priority not 0, not locked, passed quality not 7, and with quality mode on passed quality 1 to 4"
+-- "Eligible: priority not 0, not locked, passed quality not 7, and with quality mode on passed quality" from 1 to the
+-- floor
 unfoldable pub isEligible : Candidate → Bool
 isEligible candidate = candidate .admitted && candidate .usable
 

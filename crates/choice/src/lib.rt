@@ -8,12 +8,20 @@ use numbers::NOT_TOLD;
 use numbers::PRC;
 use numbers::Priority;
 use numbers::Quality;
-use numbers::SEC;
 use numbers::is_failed;
 ghost use mathlib.Core.Path.{_≡_};
 ghost use lib.ListN.{getD};
-ghost use Rattle.choice.specs.Candidate.{nobody, isUsable, isAdmitted, rankedQuality, candidateOf, isEligible, isBetter, eligibleAmong, betterAmong, isLower, anyLower};
+ghost use Rattle.numbers.specs.Truth.{alike};
+ghost use Rattle.choice.specs.Candidate.{nobody, isWithin, isUsable, isAdmitted, rankedQuality, candidateOf, isEligible, isBetter, isLike, eligibleAmong, betterAmong, isLower, anyLower};
 ghost use Rattle.choice.specs.Choice.{seeded, offered, choose};
+
+// What a choice looks at of an input: nothing else makes a candidate.
+pub struct Seen {
+    pub passed: Quality,
+    pub priority: Priority,
+    pub floor: Quality,
+    pub locked: bool,
+}
 
 // One input as a choice sees it: the quality by which it ranks (0 for all with quality mode off),
 // its priority, whether it is neither off nor locked, and whether its passed quality is usable.
@@ -38,18 +46,25 @@ pub enum Selection {
     At(InputNumber),
 }
 
-// Whether a passed quality is usable: 1 to 4 with quality mode on, not 7 with it off.
-pub fn is_usable(mode: bool, passed: Quality) -> bool
-    ensures { λ answer. ⌜ answer ≡ isUsable mode passed ⌝ }
+// Whether a passed quality is one to follow down to a floor: from 1 to it.
+fn is_within(floor: Quality, passed: Quality) -> bool
+    ensures { λ answer. ⌜ answer ≡ isWithin floor passed ⌝ }
 {
-    if mode {
-        if PRC.0 <= passed.0 {
-            return passed.0 <= SEC.0;
-        }
-        return false;
+    if PRC.0 <= passed.0 {
+        return passed.0 <= floor.0;
     }
+    false
+}
+
+// Whether a passed quality is usable: not failed, and with quality mode on within the floor.
+pub fn is_usable(mode: bool, floor: Quality, passed: Quality) -> bool
+    ensures { λ answer. ⌜ answer ≡ isUsable mode floor passed ⌝ }
+{
     if is_failed(passed) {
         return false;
+    }
+    if mode {
+        return is_within(floor, passed);
     }
     true
 }
@@ -77,13 +92,34 @@ fn ranked_quality(mode: bool, passed: Quality) -> Quality
     NOT_TOLD
 }
 
-// What a choice looks at of an input.
-pub fn candidate_of(passed: Quality, priority: Priority, locked: bool, mode: bool) -> Candidate
-    ensures { λ answer. ⌜ answer ≡ candidateOf passed priority locked mode ⌝ }
+impl Seen {
+    // Whether a choice sees no difference, and so makes the same of both.
+    pub fn is_like(self, other: Seen) -> bool
+        ensures { λ answer. ⌜ answer ≡ isLike self other ⌝ }
+    {
+        if self.passed.0 == other.passed.0 {
+            if self.priority.0 == other.priority.0 {
+                if self.floor.0 == other.floor.0 {
+                    return are_alike(self.locked, other.locked);
+                }
+                return false;
+            }
+            return false;
+        }
+        false
+    }
+}
+
+// An input as a choice sees it.
+pub fn candidate_of(seen: Seen, mode: bool) -> Candidate
+    ensures { λ answer. ⌜ answer ≡ candidateOf (seen .passed) (seen .priority) (seen .locked) (seen .floor) mode ⌝ }
 {
+    let passed = seen.passed;
+    let priority = seen.priority;
+    let floor = seen.floor;
     let quality = ranked_quality(mode, passed);
-    let admitted = is_admitted(priority, locked);
-    let usable = is_usable(mode, passed);
+    let admitted = is_admitted(priority, seen.locked);
+    let usable = is_usable(mode, floor, passed);
     Candidate {
         quality,
         priority,
@@ -114,6 +150,16 @@ impl Candidate {
         }
         false
     }
+}
+
+// Whether two tests give the same.
+fn are_alike(one: bool, other: bool) -> bool
+    ensures { λ answer. ⌜ answer ≡ alike one other ⌝ }
+{
+    if one {
+        return other;
+    }
+    !other
 }
 
 // The candidate with a number; none, which is not eligible, where there is no such input.

@@ -3,10 +3,10 @@ use mathlib.Core.Path.{refl}
 use Rattle.numbers.specs.Quality.{qualityOfCode}
 use Rattle.numbers.specs.Kind.{kindOf, isArgumentOut, isInputOut}
 use Rattle.frame.specs.Octets.{same}
-use Rattle.frame.specs.Read.{rightLength, rightDestination, rightProtocol, rightOrganisation, rightVersion, rightTlv, frameNumber, readFrame}
+use Rattle.frame.specs.Read.{rightLength, rightDestination, rightProtocol, rightOrganisation, rightVersion, rightTlv, frameNumber, readCode}
 use Rattle.run.specs.Run.{isExpired, rawAt, runStart, isUpAfter, lastGood, atMoment, upBefore, broughtTo, passedQuality}
 use Rattle.input.specs.Record.{countAfter, lineAfter, heardAfter, settingsAfter, qualityNow, canExpire, forecast, settle, tick, afterEvent, takes, recordAfter}
-use Rattle.choice.specs.Candidate.{isUsable, isAdmitted, rankedQuality, candidateOf, isEligible, isBetter, isLower, lowerAmong}
+use Rattle.choice.specs.Candidate.{isUsable, isWithin, isAdmitted, rankedQuality, candidateOf, isEligible, isBetter, isLower, lowerAmong}
 use Rattle.choice.specs.Choice.{seeded, offered, scanned, choose}
 use Rattle.decision.specs.Choices.{commanded}
 use Rattle.decision.specs.Decision.{manualMayStand, judged, selectedBy, isClockLocked, isHeld, decide}
@@ -25,9 +25,9 @@ unfolding
     lateRefusal isForcedSwitch earlyRefusal frameRefusal isWrongKind firstThatApplies isInputOut isArgumentOut kindOf
     served servedFrom nextAmong nextOf frameDue timerDue ifLater sumOrNever lesser
     ticked decided candidateFor decide isHeld isClockLocked selectedBy judged manualMayStand
-    choose scanned offered seeded lowerAmong isLower isBetter isEligible candidateOf rankedQuality isAdmitted isUsable
+    choose scanned offered seeded lowerAmong isLower isBetter isEligible candidateOf rankedQuality isAdmitted isUsable isWithin
     recordAfter takes afterEvent tick settle forecast canExpire qualityNow settingsAfter heardAfter lineAfter countAfter
     passedQuality broughtTo upBefore atMoment lastGood isUpAfter runStart rawAt isExpired
-    readFrame frameNumber rightLength rightDestination rightProtocol rightOrganisation rightVersion rightTlv same
+    readCode frameNumber rightLength rightDestination rightProtocol rightOrganisation rightVersion rightTlv same
     qualityOfCode
 most-reached = record { reached = refl }

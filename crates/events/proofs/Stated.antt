@@ -14,7 +14,7 @@ use Rattle.numbers.specs.declared.Quality.{Quality}
 use Rattle.numbers.specs.Inputs.{inputCount}
 use Rattle.numbers.specs.Quality.{failed}
 use Rattle.run.proofs.Exact.{passed-unique, passed-exact}
-use Rattle.input.specs.Recorded.{History, modeOn, priorityOf, isLockedOut, momentsUntil, PassedAt, passedAt}
+use Rattle.input.specs.Recorded.{History, modeOn, priorityOf, isLockedOut, floorOf, momentsUntil, PassedAt, passedAt}
 use Rattle.choice.specs.declared.Candidate.{Candidate}
 use Rattle.choice.specs.Candidate.{nobody, isAdmitted, rankedQuality, candidateOf, isEligible, eligibleAmong, betterAmong, anyLower}
 use Rattle.choice.proofs.Choosing.{byBool, both-first, both-second, contra}
@@ -49,13 +49,14 @@ module _ (history : History) (time : ℕ) where
   -- the quality that document 01 states is the one that the candidates are computed with
   pub candidate-stated : (number : ℕ) → number < inputCount → (quality : Quality) → PassedAt number history time quality
       → getD (candidatesBy history time) number nobody ≡
-      candidateOf quality (record { 0 = priorityOf number history }) (isLockedOut number history) (modeOn history)
+      candidateOf quality (record { 0 = priorityOf number history }) (isLockedOut number history)
+      (record { 0 = floorOf number history }) (modeOn history)
   unfolding candidateBy
   candidate-stated number inside quality states =
       shown-at number inside ∙
       ap
       (λ (passes : Quality). candidateOf passes (record { 0 = priorityOf number history }) (isLockedOut number history)
-      (modeOn history))
+      (record { 0 = floorOf number history }) (modeOn history))
       (sym (passedAt-only history time number quality states))
 
   -- ---- "priority not 0, not locked"
@@ -113,9 +114,9 @@ module _ (history : History) (time : ℕ) where
           let quality : Quality = passedAt number history time in
           let passes : PassedAt number history time quality = passedAt-passes history time number in
           let parts : EligibleParts quality (record { 0 = priorityOf number history }) (isLockedOut number history)
-          (modeOn history) =
+          (record { 0 = floorOf number history }) (modeOn history) =
           eligible-exact quality (record { 0 = priorityOf number history }) (isLockedOut number history)
-          (modeOn history) .0
+          (record { 0 = floorOf number history }) (modeOn history) .0
           (sym (ap isEligible (candidate-stated number (admitted .isInput) quality passes)) ∙ x)
           in
           record {
@@ -130,7 +131,7 @@ module _ (history : History) (time : ℕ) where
       from e =
           ap isEligible (candidate-stated number (e .admitted .isInput) (e .quality) (e .passes)) ∙
           eligible-exact (e .quality) (record { 0 = priorityOf number history }) (isLockedOut number history)
-          (modeOn history) .1
+          (record { 0 = floorOf number history }) (modeOn history) .1
           (record {
             notOff = e .admitted .notOff;
             notLocked = e .admitted .notLocked;

@@ -11,8 +11,8 @@ use mathlib.Core.Path.{_≡_}
 use Rattle.numbers.specs.declared.Quality.{Quality}
 use Rattle.numbers.specs.Inputs.{inputCount}
 use Rattle.numbers.specs.Kind.{kindForced, kindManual}
-use Rattle.numbers.specs.Quality.{prc, sec, failed}
-use Rattle.input.specs.Recorded.{History, modeOn, priorityOf, isLockedOut, PassedAt}
+use Rattle.numbers.specs.Quality.{prc, failed}
+use Rattle.input.specs.Recorded.{History, modeOn, priorityOf, isLockedOut, floorOf, PassedAt}
 use Rattle.choice.specs.declared.Selection.{Selection}
 use Rattle.choice.specs.declared.Selection.the-variants as S
 use Rattle.choice.specs.Choice.{selected}
@@ -30,13 +30,14 @@ pub record Admitted (history : History) (number : ℕ) : Type 0 where
   pub notOff : priorityOf number history ≢ 0
   pub notLocked : isLockedOut number history ≡ false
 
--- "Eligible: priority not 0, not locked, passed quality not 7, and with quality mode on passed quality 1 to 4"
+-- "Eligible: priority not 0, not locked, passed quality not 7"; document 02, L9: "With quality mode on, eligible now asks
+-- passed quality from 1 to the input's floor"
 pub record Eligible (history : History) (time number : ℕ) : Type 0 where
   pub admitted : Admitted history number
   pub quality : Quality
   pub passes : PassedAt number history time quality
   pub notFailed : quality ≢ failed
-  pub usable : modeOn history ≡ true → (prc .0 ≤ quality .0) × (quality .0 ≤ sec .0)
+  pub usable : modeOn history ≡ true → (prc .0 ≤ quality .0) × (quality .0 ≤ floorOf number history)
 
 -- "lower passed quality (mode on only)"
 pub record LowerQuality (history : History) (time number other : ℕ) : Type 0 where

@@ -6,7 +6,7 @@ use lib.Dec.{eqb}
 use Rattle.numbers.specs.declared.Event.{Event}
 use Rattle.numbers.specs.Kind.{kindFrame}
 use Rattle.frame.specs.declared.FrameRead.{FrameRead}
-use Rattle.frame.specs.Read.{readFrame, codeOfRead}
+use Rattle.frame.specs.Read.{readCode, codeOfRead}
 
 -- an event and the frame lent with it
 pub record Given : Type 0 where
@@ -33,4 +33,4 @@ recordedEvent event read =
 
 -- an event given, as it is recorded
 abbrev pub asRecorded : Given → Event
-asRecorded given = recordedEvent (given .event) (readFrame (given .frame))
+asRecorded given = recordedEvent (given .event) (readCode (given .frame))

@@ -6,7 +6,7 @@ use mathlib.Core.Path.{_≡_}
 use lib.ListN.{getD}
 use Rattle.numbers.specs.declared.Quality.{Quality}
 use Rattle.numbers.specs.Inputs.{inputCount}
-use Rattle.input.specs.Recorded.{History, modeOn, timeOf, priorityOf, isLockedOut, PassedAt, Ordered}
+use Rattle.input.specs.Recorded.{History, modeOn, timeOf, priorityOf, isLockedOut, floorOf, PassedAt, Ordered}
 use Rattle.choice.specs.Candidate.{nobody, candidateOf}
 use Rattle.decision.specs.Choices.{HeldRight}
 use Rattle.events.specs.Sequence.{Given, Sequence, stateAfter, numberAfter}
@@ -38,6 +38,7 @@ pub record Happened (sequence : Sequence) : Type 0 where
       → getD (candidatesBy (recorded sequence) time) number nobody ≡
       candidateOf quality (record { 0 = priorityOf number (recorded sequence) })
       (isLockedOut number (recorded sequence))
+      (record { 0 = floorOf number (recorded sequence) })
       (modeOn (recorded sequence))
   -- the clock has been locked exactly if it was after one of the choices made
   pub heldRight : HeldRight (map seen (madeIn sequence))

@@ -13,10 +13,10 @@ use lib.ListN.{length}
 use Rattle.numbers.specs.Refusal.{accepted, frameLength, frameDestination, frameProtocol, frameOrganisation, frameVersion, frameTlv}
 use Rattle.frame.specs.declared.FrameRead.the-variants.{Code, Refused}
 use Rattle.frame.specs.Octets.{shortestFrame, longestFrame}
-use Rattle.frame.specs.Read.{rightLength, rightDestination, rightProtocol, rightOrganisation, rightVersion, rightTlv, frameNumber, readFrame}
-use Rattle.frame.specs.Demand1.{Applies, tooShort, tooLong, otherDestination, otherProtocol, otherOrganisation, otherVersion, otherTlv, Smallest, ReadTable, Alike, WriteTable}
+use Rattle.frame.specs.Read.{rightLength, rightDestination, rightProtocol, rightOrganisation, rightVersion, rightTlv, frameNumber, readCode, readFrame}
+use Rattle.frame.specs.Demand1.{Applies, tooShort, tooLong, otherDestination, otherProtocol, otherOrganisation, otherVersion, otherTlv, Smallest, ReadTable, Alike, AlikeThroughout, WriteTable}
 use Rattle.frame.proofs.Rows.{same-false, same-other}
-use Rattle.frame.proofs.ReadLaws.{rightLength-short, rightLength-long, readFrame-code, readFrame-refused}
+use Rattle.frame.proofs.ReadLaws.{rightLength-short, rightLength-long, readCode-code, readCode-refused, readFrame-told, readFrame-untold, readFrame-read}
 use Rattle.frame.proofs.WriteLaws.{writeAnswer-code, writeAnswer-source, writeAnswer-buffer, writeAnswer-written}
 
 module _ (frame : List ℕ) where
@@ -118,9 +118,9 @@ code-refused : (code number : ℕ) → Code code ≡ Refused number → ⊥
 code-refused code number equal = let wrong : _≡_ {A = ℕ} 0 1 = cc in omega arith
 
 -- "Reserved and unused bits, and all from octet 29, are ignored on reading"
-pub readFrame-alike : (one other : List ℕ) → Alike one other → readFrame one ≡ readFrame other
-unfolding readFrame frameNumber rightDestination rightProtocol rightOrganisation rightVersion rightTlv
-readFrame-alike one other alike =
+pub readCode-alike : (one other : List ℕ) → Alike one other → readCode one ≡ readCode other
+unfolding readCode frameNumber rightDestination rightProtocol rightOrganisation rightVersion rightTlv
+readCode-alike one other alike =
     rw (
       alike .lengths,
       alike .destination,
@@ -129,6 +129,22 @@ readFrame-alike one other alike =
       alike .version,
       alike .tlv,
       alike .code,
+    )
+
+-- and so are they in the flag and the address, which frames agree in that differ in such bits alone
+pub readFrame-alike : (one other : List ℕ) → AlikeThroughout one other → readFrame one ≡ readFrame other
+unfolding readFrame frameNumber rightDestination rightProtocol rightOrganisation rightVersion rightTlv
+readFrame-alike one other alike =
+    rw (
+      alike .alike .lengths,
+      alike .alike .destination,
+      alike .alike .protocol,
+      alike .alike .organisation,
+      alike .alike .version,
+      alike .alike .tlv,
+      alike .alike .code,
+      alike .source,
+      alike .event,
     )
 
 -- DEMAND 1: every frame is refused with the smallest of 8 to 13 that applies, and read where none does.
@@ -147,7 +163,7 @@ demand-1-read-frame frame = go (frameNumber-from frame)
 
     go : From frame frameLength (frameNumber frame) → ReadTable frame
     go (nothing none others) =
-        let coded = readFrame-code frame none in
+        let coded = readCode-code frame none in
         record {
           refused =
               λ number. (
@@ -159,9 +175,12 @@ demand-1-read-frame frame = go (frameNumber-from frame)
                 λ answer. record { none = λ number row. others number (bound number row) row; lower = cc },
                 λ one. sym coded ∙ ap Code (sym (one .lower)),
               );
+          whole = readFrame-read frame;
+          told = λ code one. readFrame-told frame none ∙ rw (← coded, one .lower);
+          untold = λ number one. absurd (others number (bound number (one .applies)) (one .applies));
         }
     go (smallest above row least) =
-        let refused = readFrame-refused frame (frameNumber frame) refl (λ zero. omega arith) in
+        let refused = readCode-refused frame (frameNumber frame) refl (λ zero. omega arith) in
         let given = smallest-here row least in
         record {
           refused =
@@ -174,6 +193,10 @@ demand-1-read-frame frame = go (frameNumber-from frame)
                 λ answer. absurd (code-refused code _ (sym (refused ∙ answer))),
                 λ one. absurd (one .none _ row),
               );
+          whole = readFrame-read frame;
+          told = λ code one. absurd (one .none _ row);
+          untold = λ number one.
+              readFrame-untold frame (λ zero. omega arith) ∙ rw (← refused, smallest-unique frame _ _ given one);
         }
 
 -- DEMAND 1: every write is refused as the table says, in the order 6, 19, 18.

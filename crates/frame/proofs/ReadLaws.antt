@@ -2,16 +2,17 @@
 -- Assumes nothing.
 use Prim.Native.Nat.{ℕ, _≤_, _<_}
 use mathlib.Core.Bool.{Bool, true, false, cond}
-use mathlib.Core.List.{List}
+use mathlib.Core.List.{List, [], _∷_}
 use mathlib.Core.Path.{_≡_, refl, sym}
 use native.Mathlib.Omega.{arith}
 use lib.Dec.{eqb, leb}
 use lib.ListN.{length}
+use lib.Seq.{slice-cons, slice-empty}
 use borrow.Author.Tests.{eq-eqb, ne-eqb, eqb-true, leb-true, le-leb, lt-leb}
 use Rattle.numbers.specs.Refusal.{accepted, frameLength, frameDestination, frameProtocol, frameOrganisation, frameVersion, frameTlv}
 use Rattle.frame.specs.declared.FrameRead.the-variants.{Code, Refused}
-use Rattle.frame.specs.Octets.{shortestFrame, longestFrame}
-use Rattle.frame.specs.Read.{rightLength, rightDestination, rightProtocol, rightOrganisation, rightVersion, rightTlv, frameNumber, frameCode, readFrame, numberOfRead}
+use Rattle.frame.specs.Octets.{shortestFrame, longestFrame, octet}
+use Rattle.frame.specs.Read.{rightLength, rightDestination, rightProtocol, rightOrganisation, rightVersion, rightTlv, frameNumber, frameCode, eventFlag, sourceAddress, message, noAddress, readCode, readFrame, numberOfRead}
 
 module _ (frame : List ℕ) where
   -- ---- rightLength
@@ -76,25 +77,82 @@ module _ (frame : List ℕ) where
             unfolding frameNumber
             frameNumber-none right = rw (sized, addressed, slow, standard, known, right)
 
-  -- ---- readFrame
+  -- ---- readCode
 
-  pub readFrame-refused :
+  pub readCode-refused :
       (number : ℕ) → number ≡ frameNumber frame
       → (number ≡ accepted → ⊥)
-      → Refused number ≡ readFrame frame
-  unfolding readFrame
-  readFrame-refused number given refused = rw (← given, ne-eqb _ _ refused)
+      → Refused number ≡ readCode frame
+  unfolding readCode
+  readCode-refused number given refused = rw (← given, ne-eqb _ _ refused)
 
-  pub readFrame-code : frameNumber frame ≡ accepted → Code (frameCode frame) ≡ readFrame frame
-  unfolding readFrame
-  readFrame-code given = rw (eq-eqb _ _ given)
+  pub readCode-code : frameNumber frame ≡ accepted → Code (frameCode frame) ≡ readCode frame
+  unfolding readCode
+  readCode-code given = rw (eq-eqb _ _ given)
+
+  -- a code is read of an accepted frame alone, a number of one that is not
+  pub readCode-accepted : (code : ℕ) → readCode frame ≡ Code code → frameNumber frame ≡ accepted
+  unfolding readCode
+  readCode-accepted code = go (eqb (frameNumber frame) accepted) refl
+    where
+      go :
+          (none : Bool) → eqb (frameNumber frame) accepted ≡ none
+          → readCode frame ≡ Code code
+          → frameNumber frame ≡ accepted
+      go true given _ = eqb-true _ _ given
+      go false given read =
+          let other : Refused (frameNumber frame) ≡ Code code = rw given at read in
+          let wrong : _≡_ {A = ℕ} 0 1 = cc in
+          absurd (omega arith)
+
+  pub readCode-unaccepted : (number : ℕ) → readCode frame ≡ Refused number → frameNumber frame ≡ accepted → ⊥
+  readCode-unaccepted number read given =
+      let coded = readCode-code given in
+      let wrong : _≡_ {A = ℕ} 0 1 = cc in
+      omega arith
+
+  -- ---- sourceAddress
+
+  pub sourceAddress-six : shortestFrame ≤ length frame
+      → sourceAddress frame
+      ≡ octet frame 7 ∷ octet frame 8 ∷ octet frame 9 ∷ octet frame 10 ∷ octet frame 11 ∷ octet frame 12 ∷ []
+  sourceAddress-six long =
+      rw (
+        slice-cons 6 12 frame 0 (omega arith) (omega arith),
+        slice-cons 7 12 frame 0 (omega arith) (omega arith),
+        slice-cons 8 12 frame 0 (omega arith) (omega arith),
+        slice-cons 9 12 frame 0 (omega arith) (omega arith),
+        slice-cons 10 12 frame 0 (omega arith) (omega arith),
+        slice-cons 11 12 frame 0 (omega arith) (omega arith),
+        slice-empty 12 frame,
+      )
+
+  -- ---- readFrame
+
+  pub readFrame-told : frameNumber frame ≡ accepted
+      → readFrame frame ≡ message (readCode frame) (eventFlag frame) (sourceAddress frame)
+  unfolding readFrame readCode
+  readFrame-told given = rw (eq-eqb _ _ given)
+
+  pub readFrame-untold : (frameNumber frame ≡ accepted → ⊥)
+      → readFrame frame ≡ message (readCode frame) false noAddress
+  unfolding readFrame readCode
+  readFrame-untold refused = rw (ne-eqb _ _ refused)
+
+  pub readFrame-read : readFrame frame .read ≡ readCode frame
+  unfolding readFrame readCode
+  readFrame-read = go (eqb (frameNumber frame) accepted) refl
+    where
+      go : (none : Bool) → eqb (frameNumber frame) accepted ≡ none → readFrame frame .read ≡ readCode frame
+      go true given = rw given
+      go false given = rw given
 
   -- ---- numberOfRead
 
   -- the answer says the number that the frame is refused with
-  pub numberOfRead-readFrame : numberOfRead (readFrame frame) ≡ frameNumber frame
-  unfolding readFrame
-  numberOfRead-readFrame = go (eqb (frameNumber frame) accepted) refl
+  pub numberOfRead-readCode : numberOfRead (readCode frame) ≡ frameNumber frame
+  unfolding readCode
+  numberOfRead-readCode = go (eqb (frameNumber frame) accepted) refl
     where
       go :
           (none : Bool) → eqb (frameNumber frame) accepted ≡ none

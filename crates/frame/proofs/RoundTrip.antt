@@ -1,20 +1,21 @@
 -- DEMAND 2 for frames: what is written holds what the document says and reads back.
 -- Assumes nothing.
-use Prim.Native.Nat.{ℕ, _-_, _≤_, _<_}
+use Prim.Native.Nat.{ℕ, _-_, _/_, _%_, _≤_, _<_}
 use mathlib.Core.Bool.{Bool, true, false, cond}
 use mathlib.Core.List.{List, [], _∷_, _++_}
 use mathlib.Core.Path.{_≡_, refl, sym, ap, _∙_}
 use native.Mathlib.Nat.{mod-eq-of-lt}
 use native.Mathlib.Omega.{arith}
+use lib.Dec.{eqb}
 use lib.ListN.{length, getD, take, drop, length-append}
 use lib.Seq.{take-at, take-take, getD-take, length-take-le}
 use Rattle.frame.specs.declared.FrameRead.the-variants.{Code}
 use Rattle.frame.specs.declared.FrameWrite.{FrameWrite}
 use Rattle.frame.specs.declared.FrameWrite.the-variants.{Written}
-use Rattle.frame.specs.Octets.{longestFrame, version, same, octet, octets, upperHalf, lowerHalf}
-use Rattle.frame.specs.Read.{rightLength, rightDestination, rightProtocol, rightOrganisation, rightVersion, rightTlv, frameNumber, readFrame}
-use Rattle.frame.specs.Write.{writtenLength, sourceLength, largestCode, eventFlag, octet21, headerOctets, dataOctets, frameOctets, writeAnswer, WriteFrame}
-use Rattle.frame.specs.Demand1.{Alike}
+use Rattle.frame.specs.Octets.{longestFrame, version, eventBit, same, octet, octets, upperHalf, lowerHalf}
+use Rattle.frame.specs.Read.{rightLength, rightDestination, rightProtocol, rightOrganisation, rightVersion, rightTlv, frameNumber, message, readFrame}
+use Rattle.frame.specs.Write.{writtenLength, sourceLength, largestCode, octet21, headerOctets, dataOctets, frameOctets, writeAnswer, WriteFrame}
+use Rattle.frame.specs.Demand1.{AlikeThroughout}
 use Rattle.frame.specs.RoundTrip.{Layout, RoundTrip}
 use Rattle.frame.proofs.ReadLaws.{rightLength-right}
 use Rattle.frame.proofs.WriteLaws.{writeAnswer-written, Room, writeAnswer-room, frameOctets-length}
@@ -26,7 +27,7 @@ octet21-upper : (event : Bool) → upperHalf (octet21 event) ≡ version
 octet21-upper true = refl
 octet21-upper false = refl
 
-octet21-lower : (event : Bool) → lowerHalf (octet21 event) ≡ cond event eventFlag 0
+octet21-lower : (event : Bool) → lowerHalf (octet21 event) ≡ cond event eventBit 0
 octet21-lower true = refl
 octet21-lower false = refl
 
@@ -47,12 +48,15 @@ six (a ∷ b ∷ c ∷ d ∷ e ∷ f ∷ g ∷ rest) size = absurd (omega arith)
 
 module _ (a b c d e f : ℕ) (code : ℕ) where
   frameOctets-read-six : (event : Bool) → code < 16
-      → readFrame (frameOctets (a ∷ b ∷ c ∷ d ∷ e ∷ f ∷ []) event code) ≡ Code code
+      → readFrame (frameOctets (a ∷ b ∷ c ∷ d ∷ e ∷ f ∷ []) event code)
+      ≡ message (Code code) event (a ∷ b ∷ c ∷ d ∷ e ∷ f ∷ [])
   unfolding
       readFrame frameNumber rightLength rightDestination rightProtocol rightOrganisation rightVersion rightTlv same
       frameOctets headerOctets dataOctets
-  frameOctets-read-six true fits = ap Code (mod-eq-of-lt fits)
-  frameOctets-read-six false fits = ap Code (mod-eq-of-lt fits)
+  frameOctets-read-six true fits =
+      ap (λ (told : ℕ). message (Code told) true (a ∷ b ∷ c ∷ d ∷ e ∷ f ∷ [])) (mod-eq-of-lt fits)
+  frameOctets-read-six false fits =
+      ap (λ (told : ℕ). message (Code told) false (a ∷ b ∷ c ∷ d ∷ e ∷ f ∷ [])) (mod-eq-of-lt fits)
 
   frameOctets-layout-six : (event : Bool)
       → Layout (frameOctets (a ∷ b ∷ c ∷ d ∷ e ∷ f ∷ []) event code) (a ∷ b ∷ c ∷ d ∷ e ∷ f ∷ []) event code
@@ -76,7 +80,8 @@ module _ (a b c d e f : ℕ) (code : ℕ) where
       }
 
 module _ (source : List ℕ) (event : Bool) (code : ℕ) (size : length source ≡ sourceLength) where
-  pub frameOctets-read : code ≤ largestCode → readFrame (frameOctets source event code) ≡ Code code
+  pub frameOctets-read : code ≤ largestCode
+      → readFrame (frameOctets source event code) ≡ message (Code code) event source
   frameOctets-read fits = rw (six source size) (frameOctets-read-six _ _ _ _ _ _ code event (omega arith))
 
   pub frameOctets-layout : Layout (frameOctets source event code) source event code
@@ -94,19 +99,25 @@ module _ (frame : List ℕ) where
   octet-take number inside = rw (getD-take writtenLength frame (number - 1) 0)
 
   -- the first sixty octets of a frame read as all of it
-  take-alike : writtenLength ≤ length frame → length frame ≤ longestFrame → Alike frame (take writtenLength frame)
+  take-alike : writtenLength ≤ length frame → length frame ≤ longestFrame
+      → AlikeThroughout frame (take writtenLength frame)
   take-alike long fits =
       let size = length-take-le writtenLength frame long in
       record {
-        lengths =
-            rightLength-right frame long fits
-            ∙ sym (rightLength-right (take writtenLength frame) (omega arith) (omega arith));
-        destination = octets-take 1 6 (omega arith);
-        protocol = octets-take 13 15 (omega arith);
-        organisation = octets-take 16 20 (omega arith);
-        version = ap upperHalf (octet-take 21 (omega arith));
-        tlv = octets-take 25 27 (omega arith);
-        code = ap lowerHalf (octet-take 28 (omega arith));
+        alike =
+            record {
+              lengths =
+                  rightLength-right frame long fits
+                  ∙ sym (rightLength-right (take writtenLength frame) (omega arith) (omega arith));
+              destination = octets-take 1 6 (omega arith);
+              protocol = octets-take 13 15 (omega arith);
+              organisation = octets-take 16 20 (omega arith);
+              version = ap upperHalf (octet-take 21 (omega arith));
+              tlv = octets-take 25 27 (omega arith);
+              code = ap lowerHalf (octet-take 28 (omega arith));
+            };
+        source = octets-take 7 12 (omega arith);
+        event = ap (λ (value : ℕ). eqb (value / eventBit % 2) 1) (octet-take 21 (omega arith));
       }
 
 -- DEMAND 2: whatever is written reads back, and whatever can be written is.
@@ -137,7 +148,7 @@ demand-2-round-trip before source after event code answer write =
     held : answer ≡ Written → take writtenLength after ≡ frameOctets source event code
     held written = rw (content written) (take-at _ (drop writtenLength before) writtenLength (sized written))
 
-    reads : answer ≡ Written → readFrame (take writtenLength after) ≡ Code code
+    reads : answer ≡ Written → readFrame (take writtenLength after) ≡ message (Code code) event source
     reads written = rw (held written) (frameOctets-read source event code (room written .six) (room written .fits))
 
     reaches : answer ≡ Written → writtenLength ≤ length after

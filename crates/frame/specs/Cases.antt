@@ -8,7 +8,7 @@ use Rattle.numbers.specs.Quality.{codePrc}
 use Rattle.numbers.specs.Refusal.{frameLength, frameDestination, frameProtocol, frameOrganisation, frameVersion, frameTlv}
 use Rattle.frame.specs.declared.FrameRead.{FrameRead}
 use Rattle.frame.specs.declared.FrameRead.the-variants.{Code, Refused}
-use Rattle.frame.specs.Read.{readFrame}
+use Rattle.frame.specs.Read.{readCode}
 use Rattle.frame.specs.Write.{zeros}
 
 -- a frame of so many octets that says PRC, 0010
@@ -50,4 +50,4 @@ rows =
 
 -- each frame of the table reads as its row says
 pub record ReadCases : Type 0 where
-  pub read : map (λ (case : Row). readFrame (case .frame)) rows ≡ map (λ (case : Row). case .answer) rows
+  pub read : map (λ (case : Row). readCode (case .frame)) rows ≡ map (λ (case : Row). case .answer) rows

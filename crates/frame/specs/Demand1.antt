@@ -1,6 +1,7 @@
 -- DEMAND 1 for frames: document 01, "Numbers of refusal", each number given where its row says and nowhere else.
 -- Assumes nothing.
 use Prim.Native.Nat.{ℕ, _≤_, _<_}
+use mathlib.Core.Bool.{false}
 use mathlib.Core.List.{List}
 use mathlib.Core.Logic.{_↔_, _≢_}
 use mathlib.Core.Path.{_≡_}
@@ -9,7 +10,7 @@ use Rattle.numbers.specs.Refusal.{argumentOutOfRange, frameLength, frameDestina
 use Rattle.frame.specs.declared.FrameRead.the-variants as Read
 use Rattle.frame.specs.declared.FrameWrite.the-variants as Write
 use Rattle.frame.specs.Octets.{shortestFrame, longestFrame, octet, octets, destination, protocol, organisation, version, tlv, upperHalf, lowerHalf}
-use Rattle.frame.specs.Read.{rightLength, readFrame}
+use Rattle.frame.specs.Read.{rightLength, eventFlag, sourceAddress, message, noAddress, readCode, readFrame}
 use Rattle.frame.specs.Write.{writtenLength, sourceLength, largestCode, writeAnswer}
 
 -- rows 8 to 13: the row of a number applies to a frame
@@ -40,11 +41,18 @@ pub record Accepted (frame : List ℕ) (code : ℕ) : Type 0 where
 
 -- "The smallest number that applies is given": that number, or else the code, is answered exactly there
 pub record ReadTable (frame : List ℕ) : Type 0 where
-  pub refused : (number : ℕ) → readFrame frame ≡ Read.Refused number ↔ Smallest frame number
-  pub read : (code : ℕ) → readFrame frame ≡ Read.Code code ↔ Accepted frame code
+  pub refused : (number : ℕ) → readCode frame ≡ Read.Refused number ↔ Smallest frame number
+  pub read : (code : ℕ) → readCode frame ≡ Read.Code code ↔ Accepted frame code
+  -- the code alone is the whole answer's
+  pub whole : readFrame frame .read ≡ readCode frame
+  -- document 02, L2: "code, flag and the six address octets" where no number applies
+  pub told : (code : ℕ) → Accepted frame code
+      → readFrame frame ≡ message (Read.Code code) (eventFlag frame) (sourceAddress frame)
+  -- and nothing else where one does: "refusals 8 to 13 keep their conditions and order"
+  pub untold : (number : ℕ) → Smallest frame number → readFrame frame ≡ message (Read.Refused number) false noAddress
 
 -- "Reserved and unused bits, and all from octet 29, are ignored on reading": frames that agree in the rest. The source
--- and the event flag are no reason to refuse either.
+-- and the event flag are no reason to refuse, and change no code.
 pub record Alike (one other : List ℕ) : Type 0 where
   pub lengths : rightLength one ≡ rightLength other
   pub destination : octets one 1 6 ≡ octets other 1 6
@@ -53,6 +61,12 @@ pub record Alike (one other : List ℕ) : Type 0 where
   pub version : upperHalf (octet one 21) ≡ upperHalf (octet other 21)
   pub tlv : octets one 25 27 ≡ octets other 25 27
   pub code : lowerHalf (octet one 28) ≡ lowerHalf (octet other 28)
+
+-- frames that agree in the source and the flag as well
+pub record AlikeThroughout (one other : List ℕ) : Type 0 where
+  pub alike : Alike one other
+  pub source : sourceAddress one ≡ sourceAddress other
+  pub event : eventFlag one ≡ eventFlag other
 
 -- "writing checks 6 (code above 15), 19, 18": what is answered in each case, and there is no other
 pub record WriteTable (buffer source : List ℕ) (code : ℕ) : Type 0 where

@@ -39,6 +39,10 @@ organisation = 0x00 ∷ 0x19 ∷ 0xa7 ∷ 0x00 ∷ 0x01 ∷ []
 abbrev pub version : ℕ
 version = 1
 
+-- octet 21: "bit 3 event flag"
+abbrev pub eventBit : ℕ
+eventBit = 8
+
 -- octets 25-27: "25 type 01; 26-27 length 00-04"
 abbrev pub tlv : List ℕ
 tlv = 0x01 ∷ 0x00 ∷ 0x04 ∷ []

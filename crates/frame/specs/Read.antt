@@ -1,15 +1,16 @@
--- Document 01, "ESMC frame" and rows 8 to 13 of "Numbers of refusal": what reading a frame answers.
+-- Document 01, "ESMC frame" and rows 8 to 13 of "Numbers of refusal"; document 02, L2: what reading a frame answers.
 -- Cited by `src/lib.rt`. Nothing here says how the octets are gone through.
 -- Assumes nothing.
-use Prim.Native.Nat.{ℕ}
-use mathlib.Core.Bool.{Bool, cond, not, _&&_}
-use mathlib.Core.List.{List}
+use Prim.Native.Nat.{ℕ, _/_, _%_}
+use mathlib.Core.Bool.{Bool, false, cond, not, _&&_}
+use mathlib.Core.List.{List, [], _∷_}
 use lib.Dec.{eqb, leb}
 use lib.ListN.{length}
 use Rattle.numbers.specs.Refusal.{accepted, frameLength, frameDestination, frameProtocol, frameOrganisation, frameVersion, frameTlv}
 use Rattle.frame.specs.declared.FrameRead.{FrameRead}
 use Rattle.frame.specs.declared.FrameRead.the-variants.{Code, Refused}
-use Rattle.frame.specs.Octets.{shortestFrame, longestFrame, octet, octets, destination, protocol, organisation, version, tlv, upperHalf, lowerHalf, same}
+use Rattle.frame.specs.declared.FrameMessage.{FrameMessage}
+use Rattle.frame.specs.Octets.{shortestFrame, longestFrame, octet, octets, destination, protocol, organisation, version, eventBit, tlv, upperHalf, lowerHalf, same}
 
 -- "Lengths are without FCS: 60 to 1,514 octets"
 unfoldable pub rightLength : List ℕ → Bool
@@ -46,13 +47,36 @@ frameNumber frame =
     (cond (not (rightTlv frame)) frameTlv
     accepted)))))
 
+-- "7-12 source"
+abbrev pub sourceAddress : List ℕ → List ℕ
+sourceAddress frame = octets frame 7 12
+
+-- "21 .. bit 3 event flag"
+abbrev pub eventFlag : List ℕ → Bool
+eventFlag frame = eqb (octet frame 21 / eventBit % 2) 1
+
 -- "28 upper half unused, lower half the code"
 abbrev pub frameCode : List ℕ → ℕ
 frameCode frame = lowerHalf (octet frame 28)
 
 -- the code of a frame that is accepted, the number of one that is refused
-unfoldable pub readFrame : List ℕ → FrameRead
-readFrame frame = cond (eqb (frameNumber frame) accepted) (Code (frameCode frame)) (Refused (frameNumber frame))
+unfoldable pub readCode : List ℕ → FrameRead
+readCode frame = cond (eqb (frameNumber frame) accepted) (Code (frameCode frame)) (Refused (frameNumber frame))
+
+-- an answer of three parts
+abbrev pub message : FrameRead → Bool → List ℕ → FrameMessage
+message read event source = record { read = read; event = event; source = source }
+
+-- six octets that tell no address
+abbrev pub noAddress : List ℕ
+noAddress = 0 ∷ 0 ∷ 0 ∷ 0 ∷ 0 ∷ 0 ∷ []
+
+-- "Reading now answers code, flag and the six address octets"; a frame that is refused tells its number and no more
+unfoldable pub readFrame : List ℕ → FrameMessage
+readFrame frame =
+    cond (eqb (frameNumber frame) accepted)
+    (message (Code (frameCode frame)) (eventFlag frame) (sourceAddress frame))
+    (message (Refused (frameNumber frame)) false noAddress)
 
 -- the number that each answer says: 0 accepted
 abbrev pub numberOfRead : FrameRead → ℕ

@@ -8,9 +8,9 @@ use lib.ListN.{length, take}
 use Rattle.frame.specs.declared.FrameRead.the-variants.{Code}
 use Rattle.frame.specs.declared.FrameWrite.{FrameWrite}
 use Rattle.frame.specs.declared.FrameWrite.the-variants.{Written}
-use Rattle.frame.specs.Octets.{longestFrame, octet, octets, upperHalf, lowerHalf}
-use Rattle.frame.specs.Read.{readFrame}
-use Rattle.frame.specs.Write.{writtenLength, sourceLength, largestCode, eventFlag, zeros}
+use Rattle.frame.specs.Octets.{longestFrame, octet, octets, eventBit, upperHalf, lowerHalf}
+use Rattle.frame.specs.Read.{message, readFrame}
+use Rattle.frame.specs.Write.{writtenLength, sourceLength, largestCode, zeros}
 
 -- "Octets from 1", each as the document has it
 pub record Layout (frame source : List ℕ) (event : Bool) (code : ℕ) : Type 0 where
@@ -31,7 +31,7 @@ pub record Layout (frame source : List ℕ) (event : Bool) (code : ℕ) : Type 0
   -- "21 upper half version 1"
   pub upper21 : upperHalf (octet frame 21) ≡ 1
   -- "bit 3 event flag, bits 2-0 reserved"
-  pub lower21 : lowerHalf (octet frame 21) ≡ cond event eventFlag 0
+  pub lower21 : lowerHalf (octet frame 21) ≡ cond event eventBit 0
   -- "22-24 reserved"
   pub to24 : octets frame 22 24 ≡ zeros 3
   -- "25 type 01"
@@ -43,8 +43,8 @@ pub record Layout (frame source : List ℕ) (event : Bool) (code : ℕ) : Type 0
   -- "all from octet 29 .. zero on writing"
   pub to60 : octets frame 29 60 ≡ zeros 32
 
--- whatever is written reads back as the code that was written, and every code, source, flag and buffer with room for it
--- is written
+-- whatever is written reads back as the code, the flag and the source that were written, and every code, source, flag
+-- and buffer with room for it is written
 pub record RoundTrip
     (before source : List ℕ) (event : Bool) (code : ℕ) (answer : FrameWrite) (after : List ℕ)
     : Type 0 where
@@ -54,8 +54,8 @@ pub record RoundTrip
       → writtenLength ≤ length before
       → answer ≡ Written
   -- the 60 octets written
-  pub front : answer ≡ Written → readFrame (take writtenLength after) ≡ Code code
+  pub front : answer ≡ Written → readFrame (take writtenLength after) ≡ message (Code code) event source
   -- the whole buffer, where a frame can be as long as that
-  pub whole : answer ≡ Written → length after ≤ longestFrame → readFrame after ≡ Code code
+  pub whole : answer ≡ Written → length after ≤ longestFrame → readFrame after ≡ message (Code code) event source
   -- "octets from 1"
   pub layout : answer ≡ Written → Layout (take writtenLength after) source event code

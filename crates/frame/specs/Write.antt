@@ -11,7 +11,7 @@ use lib.Seq.{paste}
 use Rattle.numbers.specs.Refusal.{argumentOutOfRange, bufferTooShort, sourceNotSix}
 use Rattle.frame.specs.declared.FrameWrite.{FrameWrite}
 use Rattle.frame.specs.declared.FrameWrite.the-variants.{Written, Refused}
-use Rattle.frame.specs.Octets.{destination, protocol, organisation, half, version, tlv}
+use Rattle.frame.specs.Octets.{destination, protocol, organisation, half, version, eventBit, tlv}
 
 -- "We write 60 octets"
 abbrev pub writtenLength : ℕ
@@ -25,13 +25,9 @@ sourceLength = 6
 abbrev pub largestCode : ℕ
 largestCode = 15
 
--- "bit 3 event flag"
-abbrev pub eventFlag : ℕ
-eventFlag = 8
-
 -- "21 upper half version 1, bit 3 event flag, bits 2-0 reserved"
 abbrev pub octet21 : Bool → ℕ
-octet21 true = half * version + eventFlag
+octet21 true = half * version + eventBit
 octet21 false = half * version
 
 -- "Reserved and unused bits, and all from octet 29, are ignored on reading and zero on writing"

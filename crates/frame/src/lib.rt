@@ -19,7 +19,8 @@ ghost use Prim.Native.Nat.{_+_, _-_, _*_, _≤_, _<_};
 ghost use lib.Dec.{leb};
 ghost use lib.ListN.{length, take, drop};
 ghost use Rattle.frame.specs.Octets.{shortestFrame, octet, same, hasOctets};
-ghost use Rattle.frame.specs.Read.{rightVersion, rightTlv, frameNumber, readFrame, numberOfRead};
+ghost use Rattle.frame.specs.Read.{rightVersion, rightTlv, frameNumber, eventFlag, sourceAddress};
+ghost use Rattle.frame.specs.Read.{readCode, readFrame, numberOfRead};
 ghost use Rattle.frame.specs.Write.{writtenLength, sourceLength, octet21};
 ghost use Rattle.frame.specs.Write.{headerOctets, dataOctets, putOctets, WriteFrame};
 
@@ -45,7 +46,7 @@ const HALF: u8 = 16;
 const VERSION: u8 = 1;
 
 // Octet 21: "bit 3 event flag"
-const EVENT_FLAG: u8 = 8;
+const EVENT_BIT: u8 = 8;
 
 // Octets 25-27: "25 type 01; 26-27 length 00-04"
 const TLV: [u8; 3] = [0x01, 0x00, 0x04];
@@ -66,6 +67,14 @@ const LARGEST_CODE: u8 = 15;
 pub enum FrameRead {
     Code(u8),
     Refused(u8),
+}
+
+// What a frame says: its code or the number of its refusal, its event flag and its source address.
+// A frame that is refused tells its number and no more: no flag, six zeros.
+pub struct FrameMessage {
+    pub read: FrameRead,
+    pub event: bool,
+    pub source: [u8; 6],
 }
 
 // What writing a frame answers.
@@ -225,15 +234,60 @@ fn frame_number(frame: &[u8]) -> u8
     ACCEPTED
 }
 
-// The code of a frame, or the smallest number of refusal that applies to it.
-pub fn read_frame(frame: &[u8]) -> FrameRead
-    ensures { λ answer. ⌜ answer ≡ readFrame (now (frame .entry)) ⌝ }
+// The code of a frame alone, or the smallest number of refusal that applies to it.
+pub fn read_code(frame: &[u8]) -> FrameRead
+    ensures { λ answer. ⌜ answer ≡ readCode (now (frame .entry)) ⌝ }
 {
     let number = frame_number(frame);
     if number != ACCEPTED {
         return FrameRead::Refused(number);
     }
     FrameRead::Code(octet(frame, 28) % HALF)
+}
+
+// The event flag of a frame.
+fn event_flag(frame: &[u8]) -> bool
+    requires { ⌜ shortestFrame ≤ length (now frame) ⌝ }
+    ensures { λ answer. ⌜ answer ≡ eventFlag (now (frame .entry)) ⌝ }
+{
+    octet(frame, 21) / EVENT_BIT % 2 == 1
+}
+
+// The source address of a frame.
+fn source_address(frame: &[u8]) -> [u8; 6]
+    requires { ⌜ shortestFrame ≤ length (now frame) ⌝ }
+    ensures { λ answer. ⌜ answer ≡ sourceAddress (now (frame .entry)) ⌝ }
+{
+    [
+        octet(frame, 7),
+        octet(frame, 8),
+        octet(frame, 9),
+        octet(frame, 10),
+        octet(frame, 11),
+        octet(frame, 12),
+    ]
+}
+
+// Reads a frame: its code, its event flag and its source address, or the smallest number of refusal
+// that applies to it.
+pub fn read_frame(frame: &[u8]) -> FrameMessage
+    ensures { λ answer. ⌜ answer ≡ readFrame (now (frame .entry)) ⌝ }
+{
+    let read = read_code(frame);
+    let FrameRead::Code(_) = read else {
+        return FrameMessage {
+            read,
+            event: false,
+            source: [0; SOURCE_LENGTH],
+        };
+    };
+    let event = event_flag(frame);
+    let source = source_address(frame);
+    FrameMessage {
+        read,
+        event,
+        source,
+    }
 }
 
 // The number of a reading's refusal; 0 accepted.
@@ -265,7 +319,7 @@ fn octet_21(event: bool) -> u8
     ensures { λ answer. ⌜ answer ≡ octet21 event ⌝ }
 {
     if event {
-        HALF * VERSION + EVENT_FLAG
+        HALF * VERSION + EVENT_BIT
     } else {
         HALF * VERSION
     }

@@ -11,12 +11,12 @@ use Rattle.numbers.specs.declared.Priority.{Priority}
 use Rattle.numbers.specs.declared.Quality.{Quality}
 use Rattle.numbers.specs.Quality.{quality, notTold, failed, qualityOfCode}
 use Rattle.numbers.specs.Inputs.{freshWait, frameLife, reportsNeeded}
-use Rattle.numbers.specs.Kind.{kindSignal, kindFrame, kindLineCode, kindPriority, kindLockout, kindHoldoff, kindWait, kindFixedQuality, kindSending, kindInputKind}
+use Rattle.numbers.specs.Kind.{kindSignal, kindFrame, kindLineCode, kindPriority, kindLockout, kindHoldoff, kindWait, kindFixedQuality, kindSending, kindInputKind, kindFloor}
 use Rattle.run.specs.Run.{rawAt, isExpired, momentAt}
 use Rattle.run.proofs.Laws.{byBool}
 use Rattle.input.specs.declared.Heard.{Heard}
 use Rattle.input.specs.declared.Settings.{Settings}
-use Rattle.input.specs.Recorded.{History, isOn, lastArgument, modeOn, signalGood, isEthernet, priorityOf, isLockedOut, holdoffOf, waitOf, fixedOf, isSending, heard, isThird, lineQuality, frameQuality, rawQualityAt, momentOf}
+use Rattle.input.specs.Recorded.{History, isOn, lastArgument, modeOn, signalGood, isEthernet, priorityOf, isLockedOut, holdoffOf, waitOf, fixedOf, floorOf, isSending, heard, isThird, lineQuality, frameQuality, rawQualityAt, momentOf}
 use Rattle.input.specs.Record.{forgotten, freshSettings, countAfter, lineAfter, heardAfter, settingsAfter, qualityNow, canExpire, forecast, settle, tick, afterEvent, takes, recordAfter}
 
 -- ---- what the reports heard come to
@@ -60,6 +60,7 @@ settingsBy input history =
       wait = lastArgument input kindWait freshWait history;
       priority = record { 0 = priorityOf input history };
       fixed = quality (fixedOf input history);
+      floor = quality (floorOf input history);
       ethernet = isEthernet input history;
       locked = isLockedOut input history;
       sending = isSending input history;
@@ -131,6 +132,7 @@ module _ (input : ℕ) (event : Event) (earlier : History) where
         wait = cond (eqb kind kindWait) a (lastArgument input kindWait freshWait earlier);
         priority = priority-cond (eqb kind kindPriority) a (priorityOf input earlier) j;
         fixed = quality-cond (eqb kind kindFixedQuality) a (fixedOf input earlier) j;
+        floor = quality-cond (eqb kind kindFloor) a (floorOf input earlier) j;
         ethernet = set-cond (eqb kind kindInputKind) a (lastArgument input kindInputKind 0 earlier) j;
         locked = set-cond (eqb kind kindLockout) a (lastArgument input kindLockout 0 earlier) j;
         sending = set-cond (eqb kind kindSending) a (lastArgument input kindSending 1 earlier) j;

@@ -7,8 +7,8 @@ use lib.Dec.{ltb, eqb}
 use Rattle.numbers.specs.declared.Event.{Event}
 use Rattle.numbers.specs.declared.Quality.{Quality}
 use Rattle.numbers.specs.Quality.{quality, notTold, failed, qualityOfCode}
-use Rattle.numbers.specs.Inputs.{minute, freshHoldoff, freshWait, reportsNeeded}
-use Rattle.numbers.specs.Kind.{kindSignal, kindFrame, kindLineCode, kindPriority, kindLockout, kindHoldoff, kindWait, kindFixedQuality, kindClearWait, kindSending, kindInputKind}
+use Rattle.numbers.specs.Inputs.{minute, freshHoldoff, freshWait, freshFloor, reportsNeeded}
+use Rattle.numbers.specs.Kind.{kindSignal, kindFrame, kindLineCode, kindPriority, kindLockout, kindHoldoff, kindWait, kindFixedQuality, kindClearWait, kindSending, kindInputKind, kindFloor}
 use Rattle.run.specs.declared.Forecast.{Forecast}
 use Rattle.run.specs.declared.Run.{Run}
 use Rattle.run.specs.Run.{freshRun, atMoment, broughtTo, passedQuality}
@@ -25,7 +25,8 @@ forgotten good = record { framed = 0; frame = failed; line = failed; code = 0; c
 abbrev pub freshHeard : Heard
 freshHeard = forgotten false
 
--- "Fresh: line, priority 0, not locked, 300 ms, 5 minutes, none fixed, sending on"
+-- "Fresh: line, priority 0, not locked, 300 ms, 5 minutes, none fixed, sending on"; document 02, L9: a floor with "fresh
+-- value 4"
 abbrev pub freshSettings : Settings
 freshSettings =
     record {
@@ -33,6 +34,7 @@ freshSettings =
       wait = freshWait;
       priority = record { 0 = 0 };
       fixed = quality 0;
+      floor = quality freshFloor;
       ethernet = false;
       locked = false;
       sending = true;
@@ -74,6 +76,7 @@ settingsAfter settings kind argument =
       wait = cond (eqb kind kindWait) argument (settings .wait);
       priority = cond (eqb kind kindPriority) (record { 0 = argument }) (settings .priority);
       fixed = cond (eqb kind kindFixedQuality) (quality argument) (settings .fixed);
+      floor = cond (eqb kind kindFloor) (quality argument) (settings .floor);
       ethernet = cond (eqb kind kindInputKind) (not (eqb argument 0)) (settings .ethernet);
       locked = cond (eqb kind kindLockout) (not (eqb argument 0)) (settings .locked);
       sending = cond (eqb kind kindSending) (not (eqb argument 0)) (settings .sending);

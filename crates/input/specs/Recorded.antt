@@ -7,8 +7,8 @@ use lib.Dec.{ltb, eqb}
 use Rattle.numbers.specs.declared.Event.{Event}
 use Rattle.numbers.specs.declared.Quality.{Quality}
 use Rattle.numbers.specs.Quality.{quality, notTold, failed, qualityOfCode}
-use Rattle.numbers.specs.Inputs.{minute, freshHoldoff, freshWait, frameLife}
-use Rattle.numbers.specs.Kind.{kindSignal, kindFrame, kindLineCode, kindPriority, kindLockout, kindHoldoff, kindWait, kindFixedQuality, kindClearWait, kindQualityMode, kindSending, kindTick, kindInputKind}
+use Rattle.numbers.specs.Inputs.{minute, freshHoldoff, freshWait, freshFloor, frameLife}
+use Rattle.numbers.specs.Kind.{kindSignal, kindFrame, kindLineCode, kindPriority, kindLockout, kindHoldoff, kindWait, kindFixedQuality, kindClearWait, kindQualityMode, kindSending, kindTick, kindInputKind, kindFloor}
 use Rattle.run.specs.Moments.{Moment, Moments, Passed, eachMillisecond}
 use Rattle.run.specs.Passed.{passed}
 
@@ -62,6 +62,10 @@ waitOf input history = lastArgument input kindWait freshWait history * minute
 -- "fixed quality 1 to 5 or none", fresh none, which is 0
 abbrev pub fixedOf : ℕ → History → ℕ
 fixedOf input history = lastArgument input kindFixedQuality 0 history
+
+-- document 02, L9: "Each input gets a floor 1 to 4, fresh value 4"
+abbrev pub floorOf : ℕ → History → ℕ
+floorOf input history = lastArgument input kindFloor freshFloor history
 
 -- "SSM sending on or off", fresh on
 abbrev pub isSending : ℕ → History → Bool

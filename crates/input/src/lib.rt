@@ -8,13 +8,14 @@ use numbers::FAILED;
 use numbers::NOT_TOLD;
 use numbers::Priority;
 use numbers::Quality;
+use numbers::SEC;
 use numbers::quality_of_code;
 use run::Forecast;
 use run::Run;
 ghost use mathlib.Core.Path.{_≡_};
 ghost use Prim.Native.Nat.{_*_};
 ghost use Rattle.numbers.specs.Inputs.{minute};
-ghost use Rattle.numbers.specs.Kind.{flag, kindSignal, kindFrame, kindLineCode, kindPriority, kindLockout, kindHoldoff, kindWait, kindFixedQuality, kindClearWait, kindSending, kindInputKind};
+ghost use Rattle.numbers.specs.Kind.{flag, kindSignal, kindFrame, kindLineCode, kindPriority, kindLockout, kindHoldoff, kindWait, kindFixedQuality, kindClearWait, kindSending, kindInputKind, kindFloor};
 ghost use Rattle.input.specs.Record.{freshInput, countAfter, lineAfter, forgotten, heardAfter, settingsAfter, qualityNow, canExpire, forecast, settle, tick, afterEvent, passedOf};
 
 // How many equal codes in a row settle a line's quality.
@@ -24,6 +25,9 @@ const REPORTS_NEEDED: u8 = 3;
 const FRESH_HOLDOFF: u16 = 300;
 
 const FRESH_WAIT: u8 = 5;
+
+// A fresh input's floor: any usable quality.
+const FRESH_FLOOR: Quality = SEC;
 
 // A minute in ms.
 const MINUTE: u64 = 60_000;
@@ -40,12 +44,14 @@ pub struct Heard {
     pub good: bool,
 }
 
-// What the operator has set. The hold-off is in ms, the wait in minutes; fixed quality 0 is none.
+// What the operator has set. The hold-off is in ms, the wait in minutes; fixed quality 0 is none;
+// the floor is the worst quality that is followed.
 pub struct Settings {
     pub holdoff: u16,
     pub wait: u8,
     pub priority: Priority,
     pub fixed: Quality,
+    pub floor: Quality,
     pub ethernet: bool,
     pub locked: bool,
     pub sending: bool,
@@ -198,6 +204,7 @@ impl Input {
             wait: FRESH_WAIT,
             priority: Priority(0),
             fixed: NOT_TOLD,
+            floor: FRESH_FLOOR,
             ethernet: false,
             locked: false,
             sending: true,
@@ -319,6 +326,15 @@ impl Input {
     {
         let mut settings = self.settings;
         settings.fixed = quality;
+        self.settings = settings;
+        self.settle(time, mode, false)
+    }
+
+    pub fn floor(mut self, floor: Quality, time: u64, mode: bool) -> Input
+        ensures { λ answer. ⌜ answer ≡ afterEvent self kindFloor (floor .0) time mode ⌝ }
+    {
+        let mut settings = self.settings;
+        settings.floor = floor;
         self.settings = settings;
         self.settle(time, mode, false)
     }

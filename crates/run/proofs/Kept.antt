@@ -14,7 +14,8 @@ use Rattle.numbers.specs.Inputs.{frameLife}
 use Rattle.run.specs.declared.Forecast.{Forecast}
 use Rattle.run.specs.declared.Run.{Run}
 use Rattle.run.specs.Moments.{Moment, Moments, rawQuality, fails, eachMillisecond}
-use Rattle.run.specs.Passed.{alike, runBegan, goodQuality, wasUp, passed}
+use Rattle.numbers.specs.Truth.{alike}
+use Rattle.run.specs.Passed.{runBegan, goodQuality, wasUp, passed}
 use Rattle.run.specs.Run.{runOf, freshRun, isExpired, rawAt, momentAt, runStart, isUpAfter, lastGood, atMoment, upBefore, broughtTo, passedQuality}
 use Rattle.run.proofs.Laws.{byBool}
 

@@ -6,12 +6,8 @@ use mathlib.Core.List.{[], _∷_}
 use lib.Dec.{leb}
 use Rattle.numbers.specs.declared.Quality.{Quality}
 use Rattle.numbers.specs.Quality.{failed, isFailed}
+use Rattle.numbers.specs.Truth.{alike}
 use Rattle.run.specs.Moments.{Moments, rawQuality, fails}
-
--- two tests give the same
-abbrev pub alike : Bool → Bool → Bool
-alike true other = other
-alike false other = not other
 
 -- when the present run began
 abbrev pub runBegan : Moments → ℕ

@@ -8,6 +8,7 @@ use Rattle.numbers.specs.Inputs.{inputCount}
 use Rattle.input.specs.declared.Input.{Input}
 use Rattle.input.specs.Record.{freshInput, tick, passedOf}
 use Rattle.choice.specs.declared.Candidate.{Candidate}
+use Rattle.choice.specs.declared.Seen.{Seen}
 use Rattle.choice.specs.declared.Selection.the-variants as S
 use Rattle.choice.specs.Candidate.{candidateOf}
 use Rattle.decision.specs.declared.Decision.{Decision}
@@ -28,8 +29,19 @@ freshSelector =
     }
 
 -- what a choice looks at of an input
+abbrev pub seenOf : Input → Seen
+seenOf input =
+    record {
+      passed = passedOf input;
+      priority = input .settings .priority;
+      floor = input .settings .floor;
+      locked = input .settings .locked;
+    }
+
+-- an input as a choice sees it
 unfoldable pub candidateFor : Bool → Input → Candidate
-candidateFor mode input = candidateOf (passedOf input) (input .settings .priority) (input .settings .locked) mode
+candidateFor mode input =
+    candidateOf (passedOf input) (input .settings .priority) (input .settings .locked) (input .settings .floor) mode
 
 -- what a choice looks at of all inputs
 abbrev pub candidatesOf : List Input → Bool → List Candidate
@@ -47,11 +59,13 @@ withDecision state decision =
       held = decision .held;
     }
 
+-- what "the switch judged, the choice made" come to
+abbrev pub decisionOf : Selector → Decision
+decisionOf state = decide (candidatesOf (state .inputs) (state .mode)) (state .switch) (state .selection) (state .held)
+
 -- "the switch judged, the choice made"
 unfoldable pub decided : Selector → Selector
-decided state =
-    withDecision state
-    (decide (candidatesOf (state .inputs) (state .mode)) (state .switch) (state .selection) (state .held))
+decided state = withDecision state (decisionOf state)
 
 -- the state with all inputs brought to a time
 abbrev pub broughtTo : Selector → ℕ → Selector

@@ -4,8 +4,10 @@
 // No public function has a `requires`: a state with any numbers in it is answered for.
 use choice::Candidate;
 use choice::NOBODY;
+use choice::Seen;
 use choice::Selection;
 use choice::candidate_of;
+use decision::Decision;
 use decision::Switch;
 use decision::decide;
 use input::Input;
@@ -22,7 +24,7 @@ ghost use mathlib.Core.Bool.{false};
 ghost use mathlib.Core.List.{map};
 ghost use lib.ListN.{getD};
 ghost use Rattle.input.specs.Record.{freshInput, settle, tick};
-ghost use Rattle.selector.specs.State.{candidateFor, candidatesOf, freshSelector, decided, ticked};
+ghost use Rattle.selector.specs.State.{seenOf, candidateFor, candidatesOf, freshSelector, decisionOf, decided, ticked};
 ghost use Rattle.selector.specs.Answer.{selectedNumber, switchNumber, switchInput, clockState, clockQuality, outgoingCode, selectedCandidate, codeFor, ports, answerOf, outgoingCodes};
 
 // Stands for no input in an answer.
@@ -65,13 +67,27 @@ pub fn input_at(inputs: [Input; 16], number: InputNumber) -> Input
 }
 
 // What a choice looks at of an input.
-pub fn candidate_for(input: Input, mode: bool) -> Candidate
-    ensures { λ answer. ⌜ answer ≡ candidateFor mode input ⌝ }
+pub fn seen_of(input: Input) -> Seen
+    ensures { λ answer. ⌜ answer ≡ seenOf input ⌝ }
 {
     let passed = input.passed_quality();
     let settings = input.settings;
     let priority = settings.priority;
-    candidate_of(passed, priority, settings.locked, mode)
+    let floor = settings.floor;
+    Seen {
+        passed,
+        priority,
+        floor,
+        locked: settings.locked,
+    }
+}
+
+// An input as a choice sees it.
+pub fn candidate_for(input: Input, mode: bool) -> Candidate
+    ensures { λ answer. ⌜ answer ≡ candidateFor mode input ⌝ }
+{
+    let seen = seen_of(input);
+    candidate_of(seen, mode)
 }
 
 // What a choice looks at of all inputs.
@@ -138,15 +154,23 @@ impl Selector {
         }
     }
 
+    // What the switch judged and the choice made come to.
+    pub fn decision(self) -> Decision
+        ensures { λ answer. ⌜ answer ≡ decisionOf self ⌝ }
+    {
+        let inputs = self.inputs;
+        let candidates = candidates_of(inputs, self.mode);
+        let switch = self.switch;
+        let selection = self.selection;
+        decide(candidates, switch, selection, self.held)
+    }
+
     // The switch judged and the choice made.
     pub fn decided(self) -> Selector
         ensures { λ answer. ⌜ answer ≡ decided self ⌝ }
     {
         let inputs = self.inputs;
-        let candidates = candidates_of(inputs, self.mode);
-        let before = self.switch;
-        let earlier = self.selection;
-        let decision = decide(candidates, before, earlier, self.held);
+        let decision = self.decision();
         let switch = decision.switch;
         let selection = decision.selection;
         Selector {

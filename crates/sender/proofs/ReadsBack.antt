@@ -8,7 +8,9 @@ use lib.ListN.{take, drop}
 use lib.Seq.{drop-at}
 use borrow.Author.Tests.{eqb-true, eqb-false}
 use Rattle.numbers.specs.Refusal.{accepted}
+use Rattle.frame.specs.declared.FrameRead.the-variants.{Code}
 use Rattle.frame.specs.declared.FrameWrite.the-variants.{Written}
+use Rattle.frame.specs.Read.{message}
 use Rattle.frame.specs.Write.{writtenLength, frameOctets, writeAnswer, contentAfter}
 use Rattle.frame.specs.RoundTrip.{Layout, RoundTrip}
 use Rattle.frame.proofs.WriteLaws.{writeAnswer-written, frameOctets-length}
@@ -142,7 +144,10 @@ module _ (earlier : Questions) (question : Question) where
 pub reads-back : (earlier : Questions) (question : Question) → ReadsBack earlier question
 reads-back earlier question =
     record {
-      code = λ frame. trip earlier question frame .front refl;
+      said = λ frame.
+          trip earlier question frame .front refl
+          ∙ ap (λ (flag : Bool). message (Code (codeAsked question)) flag (question .source))
+          (flag-differs earlier question frame);
       layout = λ frame.
           subst
           (λ (flag : Bool).

@@ -8,7 +8,7 @@ use mathlib.Core.Path.{_≡_}
 use lib.Dec.{eqb, leb}
 use lib.ListN.{take, drop}
 use Rattle.frame.specs.declared.FrameRead.the-variants.{Code}
-use Rattle.frame.specs.Read.{readFrame}
+use Rattle.frame.specs.Read.{message, readFrame}
 use Rattle.frame.specs.Write.{writtenLength}
 use Rattle.frame.specs.RoundTrip.{Layout}
 use Rattle.events.specs.Refusals.{Refusal}
@@ -77,12 +77,14 @@ isFrame H.Event = true
 isFrame H.Nothing = false
 isFrame (H.Refused number) = false
 
--- "any answered frame reads back as the port's code in that state"
+-- "any answered frame reads back as the port's code in that state", with the event flag, set exactly if the code differs
+-- from the last one sent, and the source lent
 pub record ReadsBack (earlier : Questions) (question : Question) : Type 0 where
-  pub code : isFrame (heartbeatAfter earlier question) ≡ true
-      → readFrame (take writtenLength (bufferAfter earlier question)) ≡ Code (codeAsked question)
-  -- octet by octet: the source lent, the code, and the event flag, set exactly if the code differs from the last one
-  -- sent
+  pub said : isFrame (heartbeatAfter earlier question) ≡ true
+      → readFrame (take writtenLength (bufferAfter earlier question))
+      ≡ message (Code (codeAsked question)) (differs (codeAsked question) (answeredOn (question .port) earlier))
+      (question .source)
+  -- and octet by octet
   pub layout : isFrame (heartbeatAfter earlier question) ≡ true
       → Layout (take writtenLength (bufferAfter earlier question)) (question .source)
       (differs (codeAsked question) (answeredOn (question .port) earlier))

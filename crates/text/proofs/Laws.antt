@@ -1,20 +1,20 @@
 -- Laws of text written from a place, of numbers in decimal, and of numbers read. Assumes nothing.
-use Prim.Native.Nat.{ℕ, zero, suc, _+_, _*_, _-_, _/_, _<_, _≤_}
+use Prim.Native.Nat.{ℕ, zero, suc, _+_, _*_, _-_, _<_, _≤_}
 use mathlib.Core.Bool.{Bool, true, false, cond, _&&_, and-false}
 use mathlib.Core.List.{List, [], _∷_, _++_, append-assoc, append-nil}
-use mathlib.Core.Path.{_≡_, refl, ap, sym, _∙_}
+use mathlib.Core.Path.{_≡_, refl, ap, sym, subst, _∙_}
 use native.Mathlib.Nat.{add-zero}
 use native.Mathlib.Numerals.{add-one}
 use native.Mathlib.Omega.{arith}
 use borrow.Author.Tests.{leb-true, le-leb, lt-leb, lt-ltb}
 use borrow.Rule.Slice.PartMut.{midOf, putMid, post-is}
 use lib.Dec.{leb, ltb}
-use lib.ListN.{length, getD, take, drop, set, replicate, length-append, length-drop, length-replicate, take-append-drop, drop-of-length-le}
+use lib.ListN.{length, getD, take, drop, set, replicate, length-append, length-drop, length-set, length-replicate, take-append-drop, drop-of-length-le}
 use lib.Seq.{length-take-le, take-at, take-all, take-length, take-suc, drop-length, drop-cons, drop-at, drop-append-add, drop-drop, append-snoc, set-split}
 use Rattle.digits.specs.declared.decimal.DecimalText.{DecimalText}
-use Rattle.digits.specs.Digits.{numeral0, numeral9, isBetween, isNumeral}
+use Rattle.digits.specs.Digits.{upperDigit, lowerDigit, digitsOf, numeral0, numeral9, isBetween, isNumeral}
 use Rattle.digits.specs.Decimal.{decimalPlaces, decimalOf, decimal, decimalValue}
-use Rattle.digits.proofs.Decimals.{tens, places-enough, decimalOf-length}
+use Rattle.digits.proofs.Decimals.{places-enough, decimalOf-length}
 use Rattle.text.specs.declared.NumberRead.{NumberRead}
 use Rattle.text.specs.declared.NumberRead.the-variants.{Number, NoNumber}
 use Rattle.text.specs.Text.{space, widestNumber, spacedNumbers, numbersText, withText, hasRoom, textFor, PutNumbers, allNumerals, readNumber}
@@ -28,7 +28,8 @@ withText-none place out = rw (append-nil, add-zero place) (take-append-drop plac
 
 module _ (place : ℕ) (out : List ℕ) where
   -- the output keeps its length
-  pub withText-length : (text : List ℕ) → place + length text ≤ length out → length (withText place text out) ≡ length out
+  pub withText-length : (text : List ℕ) → place + length text ≤ length out → length (withText place text out) ≡ length
+      out
   withText-length text fits =
       rw (length-append, length-append)
       (omega (arith, length-take-le place out (omega arith), length-drop (place + length text) out))
@@ -49,10 +50,12 @@ module _ (place : ℕ) (out : List ℕ) where
         drop-drop (length other) (length front) out,
         end,
       )
-      (ap (λ (text : List ℕ). text ++ drop (place + length (one ++ other)) out) (append-assoc (take place out) one other))
+      (ap (λ (text : List ℕ). text ++ drop (place + length (one ++ other)) out) (append-assoc (take place out) one
+      other))
 
   -- one character
-  pub withText-set : (character : ℕ) → place < length out → set out place character ≡ withText place (character ∷ []) out
+  pub withText-set : (character : ℕ) → place < length out → set out place character ≡ withText place (character ∷ [])
+      out
   withText-set character inside =
       set-split out place character inside
       ∙ sym (append-snoc (take place out) character (drop (suc place) out))
@@ -100,7 +103,8 @@ module _ (number : ℕ) (small : number < 18446744073709551616) where
               decimalOf-short,
             );
         digits =
-            (λ j. drop (start j) (text j)) ∙ drop-at (replicate size 0) (decimalOf number) size (length-replicate {A = ℕ} size 0);
+            (λ j. drop (start j) (text j)) ∙ drop-at (replicate size 0) (decimalOf number) size (length-replicate {A =
+            ℕ} size 0);
       }
 
 -- ---- Put
@@ -355,7 +359,8 @@ readNumber-most text most number is =
 -- ---- one answer
 
 pub put-unique : (numbers : List ℕ) (place : ℕ) (before : List ℕ) (end other : ℕ) (after later : List ℕ)
-    → PutNumbers numbers place before end after → PutNumbers numbers place before other later → (end ≡ other) × (after ≡ later)
+    → PutNumbers numbers place before end after → PutNumbers numbers place before other later → (end ≡ other) × (after
+    ≡ later)
 put-unique numbers place before end other after later one two =
     (one .past ∙ sym (two .past), one .content ∙ sym (two .content))
 
@@ -388,3 +393,38 @@ unfolding textFor hasRoom
 written-numbers numbers place before end after room put =
     let has = le-leb (place + widestNumber * length numbers) (length before) room in
     record { past = rw has at (put .past); content = rw has at (put .content) }
+
+-- ---- a number as two digits
+
+pub digits-size : (out : List ℕ) (upper lower feed : ℕ) → length (set (set (set out 0 upper) 1 lower) 2 feed) ≡ length
+    out
+digits-size out upper lower feed =
+    length-set (set (set out 0 upper) 1 lower) 2 feed ∙ length-set (set out 0 upper) 1 lower ∙ length-set out 0 upper
+
+-- two digits, and a character behind them
+pub put-digits : (number upper lower feed : ℕ) (out : List ℕ)
+    → upper ≡ upperDigit number → lower ≡ lowerDigit number → 3 ≤ length out
+    → Put (digitsOf (number ∷ []) ++ (feed ∷ [])) 0 out 3 (set (set (set out 0 upper) 1 lower) 2 feed)
+unfolding digitsOf
+put-digits number upper lower feed out isUpper isLower room =
+    let one = set out 0 upper in
+    let two = set one 1 lower in
+    let size : length two ≡ length out = length-set one 1 lower ∙ length-set out 0 upper in
+    subst (λ (text : List ℕ). Put text 0 out 3 (set two 2 feed)) (λ j. isUpper j ∷ isLower j ∷ feed ∷ [])
+    (written-more (omega arith)
+    (written-more (omega arith)
+    (written-set out 0 upper (omega arith))
+    (written-set one 1 lower (omega (arith, length-set out 0 upper))))
+    (written-set two 2 feed (omega (arith, size))))
+
+-- ---- a test that a number tells
+
+pub test-true : (test : Bool) (number one other : ℕ) → number ≡ cond test one other → (number ≡ other → ⊥) → test ≡ true
+test-true true number one other is differs = refl
+test-true false number one other is differs = absurd (differs is)
+
+pub test-false : (test : Bool) (number one other : ℕ) → number ≡ cond test one other → (one ≡ other → ⊥) → number ≡
+    other
+    → test ≡ false
+test-false true number one other is differs same = absurd (differs (sym is ∙ same))
+test-false false number one other is differs same = refl

@@ -22,8 +22,11 @@ use Rattle.run.specs.declared.Run.{Run}
 use Rattle.run.proofs.Laws.{byBool}
 use Rattle.input.specs.declared.Input.{Input}
 use Rattle.input.specs.Record.{freshInput, passedOf}
+use Rattle.choice.specs.declared.Seen.{Seen}
+use Rattle.choice.specs.Candidate.{isLike}
+use Rattle.decision.specs.declared.Decision.{Decision}
 use Rattle.selector.specs.declared.Selector.{Selector}
-use Rattle.selector.specs.State.{decided}
+use Rattle.selector.specs.State.{seenOf, decisionOf, withDecision, decided}
 use Rattle.selector.specs.Answer.{answerOf}
 use Rattle.selector.proofs.Laws.{getD-any}
 use Rattle.events.specs.Refusals.{earlyRefusal}
@@ -35,7 +38,7 @@ use Rattle.watch.specs.declared.Left.the-variants.{Nothing, Choice, Serv
 use Rattle.watch.specs.declared.Own.{Own}
 use Rattle.watch.specs.declared.Watch.{Watch}
 use Rattle.watch.specs.Due.{never, lesser, sumOrNever, waitDue, expiryDue, runDue, dueOf, dueAmong, dueOfAll, dueAnew}
-use Rattle.watch.specs.Watch.{watchOf, numbered, commands, isServed, ranksAlike, movedTo, ownBefore, ownAfter, quickState, quickDue, quickAnswer, servedWatch, dueStep, renewed, watchStep}
+use Rattle.watch.specs.Watch.{watchOf, numbered, commands, isServed, seenAlike, movedTo, ownBefore, ownAfter, quickState, quickDue, quickAnswer, servedWatch, dueStep, renewed, watchStep}
 use Rattle.watch.specs.Own.{OwnPlace, ownOf, ownTake, ownStep, completed}
 
 -- ---- lesser, sumOrNever
@@ -175,32 +178,14 @@ module _ (due kind time : ℕ) where
 
 pub ruleset isServed-laws = (isServed-due, isServed-commands)
 
--- ---- ranksAlike
+-- ---- seenAlike
 
-module _ (before after : Input) (passed passes : Quality) where
-  pub ranksAlike-locked : passed ≡ passedOf before → passes ≡ passedOf after → passed .0 ≡ passes .0
-      → before .settings .priority .0 ≡ after .settings .priority .0 → before .settings .locked ≡ true
-      → after .settings .locked ≡ ranksAlike before after
-  unfolding ranksAlike
-  ranksAlike-locked p q e f l = rw (← p, ← q, eq-eqb _ _ e, eq-eqb _ _ f, l)
+pub seenAlike-by : (before after : Input) (seen other : Seen) (answer : Bool) → seen ≡ seenOf before
+    → other ≡ seenOf after → answer ≡ isLike seen other → answer ≡ seenAlike before after
+unfolding seenAlike
+seenAlike-by before after seen other answer s o a = a ∙ (rw (s, o))
 
-  pub ranksAlike-unlocked : passed ≡ passedOf before → passes ≡ passedOf after → passed .0 ≡ passes .0
-      → before .settings .priority .0 ≡ after .settings .priority .0 → before .settings .locked ≡ false
-      → not (after .settings .locked) ≡ ranksAlike before after
-  unfolding ranksAlike
-  ranksAlike-unlocked p q e f l = rw (← p, ← q, eq-eqb _ _ e, eq-eqb _ _ f, l)
-
-  pub ranksAlike-priority : passed ≡ passedOf before → passes ≡ passedOf after → passed .0 ≡ passes .0
-      → (before .settings .priority .0 ≡ after .settings .priority .0 → ⊥) → false ≡ ranksAlike before after
-  unfolding ranksAlike
-  ranksAlike-priority p q e n = rw (← p, ← q, eq-eqb _ _ e, ne-eqb _ _ n)
-
-  pub ranksAlike-passed : passed ≡ passedOf before → passes ≡ passedOf after → (passed .0 ≡ passes .0 → ⊥)
-      → false ≡ ranksAlike before after
-  unfolding ranksAlike
-  ranksAlike-passed p q n = rw (← p, ← q, ne-eqb _ _ n)
-
-pub ruleset ranksAlike-laws = (ranksAlike-locked, ranksAlike-unlocked, ranksAlike-priority, ranksAlike-passed)
+pub ruleset seenAlike-laws = (seenAlike-by)
 
 -- ---- dueStep
 
@@ -230,7 +215,7 @@ module _ (before : Input) (mode : Bool) (due : ℕ) (event : Event) (read : Fram
     (own next : ℕ) (ranks : Bool)
     (g : argument ≡ recordedArgument (event .kind) (event .argument) read)
     (a : after ≡ inputAfter before (event .kind) argument (event .time) mode)
-    (o : own ≡ dueOf after mode) (d : next ≡ lesser due own) (r : ranks ≡ ranksAlike before after) where
+    (o : own ≡ dueOf after mode) (d : next ≡ lesser due own) (r : ranks ≡ seenAlike before after) where
   pub ownTake-alike : ranks ≡ true
       → ownOf after (event .time) next accepted Nothing ≡ ownTake before mode due event read
   unfolding ownTake
@@ -277,10 +262,11 @@ module _ (state : Selector) (due : ℕ) (answer : Answer) (left : Left) (event :
   unfolding completed
   completed-nothing is = rw is
 
-  pub completed-choice : (chosen : Selector) (told : Answer) → left ≡ Choice → chosen ≡ decided state
-      → told ≡ answerOf (answer .number) chosen → watchOf chosen due told ≡ completed state due answer left event read
-  unfolding completed
-  completed-choice chosen told is c t = rw (is, t, c)
+  pub completed-choice : (decision : Decision) (told : Answer) → left ≡ Choice → decision ≡ decisionOf state
+      → told ≡ answerOf (answer .number) (withDecision state decision)
+      → watchOf (withDecision state decision) due told ≡ completed state due answer left event read
+  unfolding completed decided
+  completed-choice decision told is d t = rw (is, t, d)
 
   pub completed-service : (after : Watch) → left ≡ Service → after ≡ servedWatch state event read
       → after ≡ completed state due answer left event read
@@ -366,7 +352,7 @@ module _ (watch : Watch) (event : Event) (read : FrameRead) (zeroed : Input) (pl
       unfolding completed ownTake quickState quickDue quickAnswer
       put-taken t =
           rw (here, there, ← dueStep-quick watch event read (sym own-early ∙ none) y, t)
-          (byBool (ranksAlike (ownBefore (watch .state) event) (ownAfter (watch .state) event read))
+          (byBool (seenAlike (ownBefore (watch .state) event) (ownAfter (watch .state) event read))
           (λ r. rw r)
           (λ r. rw r))
 

@@ -25,7 +25,7 @@ use Rattle.watch.specs.declared.Left.the-variants.{Nothing, Choice, Serv
 use Rattle.watch.specs.declared.Own.{Own}
 use Rattle.watch.specs.declared.Watch.{Watch}
 use Rattle.watch.specs.Due.{lesser, dueOf}
-use Rattle.watch.specs.Watch.{watchOf, isServed, ranksAlike, servedWatch}
+use Rattle.watch.specs.Watch.{watchOf, isServed, seenAlike, servedWatch}
 
 -- where an input stands among the sixteen; its number, taken round, where there is no such input
 pub record OwnPlace (inputs : List Input) (number place : ℕ) : Type 0 where
@@ -42,7 +42,7 @@ ownTake before mode due event read =
     let after =
     inputAfter before (event .kind) (recordedArgument (event .kind) (event .argument) read) (event .time) mode
     in
-    ownOf after (event .time) (lesser due (dueOf after mode)) accepted (cond (ranksAlike before after) Nothing Choice)
+    ownOf after (event .time) (lesser due (dueOf after mode)) accepted (cond (seenAlike before after) Nothing Choice)
 
 -- one event: refused at once; or left to be served; or a tick, which moves the time alone; or taken
 unfoldable pub ownStep : Input → Bool → ℕ → ℕ → Event → FrameRead → Own

@@ -3,7 +3,7 @@
 -- Assumes nothing.
 use mathlib.Core.List.{[], _∷_}
 use mathlib.Core.Path.{_≡_}
-use Rattle.frame.specs.Read.{readFrame}
+use Rattle.frame.specs.Read.{readCode}
 use Rattle.selector.specs.Answer.{answerOf}
 use Rattle.events.specs.Given.{Given, Sequence}
 use Rattle.events.specs.Sequence.{stateAfter, numberAfter}
@@ -13,7 +13,7 @@ use Rattle.watch.specs.Watch.{freshWatch, watchStep}
 -- the watch after a sequence of events
 unfoldable pub watchAfter : Sequence → Watch
 watchAfter [] = freshWatch
-watchAfter (given ∷ earlier) = watchStep (watchAfter earlier) (given .event) (readFrame (given .frame))
+watchAfter (given ∷ earlier) = watchStep (watchAfter earlier) (given .event) (readCode (given .frame))
 
 -- after a sequence of events, and at any event after it, the watch has the state and the answer of the plain step
 pub record WatchRight (sequence : Sequence) : Type 0 where

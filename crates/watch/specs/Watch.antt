@@ -11,11 +11,11 @@ use Rattle.numbers.specs.declared.Event.{Event}
 use Rattle.numbers.specs.Kind.{kindForced, kindManual, kindClearSwitch, kindQualityMode, kindTick}
 use Rattle.numbers.specs.Refusal.{accepted}
 use Rattle.frame.specs.declared.FrameRead.{FrameRead}
-use Rattle.run.specs.Passed.{alike}
 use Rattle.input.specs.declared.Input.{Input}
-use Rattle.input.specs.Record.{freshInput, passedOf}
+use Rattle.input.specs.Record.{freshInput}
+use Rattle.choice.specs.Candidate.{isLike}
 use Rattle.selector.specs.declared.Selector.{Selector}
-use Rattle.selector.specs.State.{freshSelector, decided}
+use Rattle.selector.specs.State.{freshSelector, seenOf, decided}
 use Rattle.selector.specs.Answer.{answerOf}
 use Rattle.events.specs.Step.{inputAfter, earlyNumber, stepRead}
 use Rattle.events.specs.Given.{recordedArgument}
@@ -50,12 +50,9 @@ commands kind = eqb kind kindForced || eqb kind kindManual || eqb kind kindClear
 unfoldable pub isServed : ℕ → ℕ → ℕ → Bool
 isServed due kind time = leb due time || commands kind
 
--- a choice sees two records of an input alike: "passed quality", "priority", "locked"
-unfoldable pub ranksAlike : Input → Input → Bool
-ranksAlike before after =
-    eqb (passedOf before .0) (passedOf after .0) &&
-    eqb (before .settings .priority .0) (after .settings .priority .0) &&
-    alike (before .settings .locked) (after .settings .locked)
+-- a choice sees two records of an input alike
+unfoldable pub seenAlike : Input → Input → Bool
+seenAlike before after = isLike (seenOf before) (seenOf after)
 
 -- the state at another time, with other inputs
 abbrev pub movedTo : Selector → List Input → ℕ → Selector
@@ -89,7 +86,7 @@ ownTaken state event read = movedTo state (set (state .inputs) (event .input) (o
 unfoldable pub quickState : Selector → Event → FrameRead → Selector
 quickState state event read =
     cond (eqb (event .kind) kindTick) (movedTo state (state .inputs) (event .time))
-    (cond (ranksAlike (ownBefore state event) (ownAfter state event read)) (ownTaken state event read)
+    (cond (seenAlike (ownBefore state event) (ownAfter state event read)) (ownTaken state event read)
     (decided (ownTaken state event read)))
 
 -- something is next due after such an event
@@ -101,7 +98,7 @@ quickDue state due event read =
 unfoldable pub quickAnswer : Selector → Answer → Event → FrameRead → Answer
 quickAnswer state answer event read =
     cond (eqb (event .kind) kindTick) (numbered accepted answer)
-    (cond (ranksAlike (ownBefore state event) (ownAfter state event read)) (numbered accepted answer)
+    (cond (seenAlike (ownBefore state event) (ownAfter state event read)) (numbered accepted answer)
     (answerOf accepted (decided (ownTaken state event read))))
 
 -- the plain step, and what is next due made anew

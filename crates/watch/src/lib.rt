@@ -22,9 +22,10 @@ use numbers::KIND_TICK;
 use run::Forecast;
 use run::Run;
 use selector::Selector;
+use selector::seen_of;
 ghost use mathlib.Core.Path.{_≡_};
 ghost use Rattle.watch.specs.Due.{sumOrNever, lesser, waitDue, expiryDue, runDue, dueOf, dueOfAll, dueAnew};
-ghost use Rattle.watch.specs.Watch.{freshWatch, commands, isServed, ranksAlike, servedWatch, watchStep};
+ghost use Rattle.watch.specs.Watch.{freshWatch, commands, isServed, seenAlike, servedWatch, watchStep};
 ghost use Rattle.watch.specs.Own.{OwnPlace, ownTake, ownStep, completed};
 
 // Stands for a time that never comes.
@@ -167,24 +168,13 @@ fn is_served(due: u64, kind: u8, time: u64) -> bool
     commands(kind)
 }
 
-// Whether a choice sees two records of an input alike: passed quality, priority and lockout.
-fn ranks_alike(before: Input, after: Input) -> bool
-    ensures { λ answer. ⌜ answer ≡ ranksAlike before after ⌝ }
+// Whether a choice sees two records of an input alike.
+fn seen_alike(before: Input, after: Input) -> bool
+    ensures { λ answer. ⌜ answer ≡ seenAlike before after ⌝ }
 {
-    let passed = before.passed_quality();
-    let passes = after.passed_quality();
-    let old = before.settings;
-    let new = after.settings;
-    if passed.0 == passes.0 {
-        if old.priority.0 == new.priority.0 {
-            if old.locked {
-                return new.locked;
-            }
-            return !new.locked;
-        }
-        return false;
-    }
-    false
+    let seen = seen_of(before);
+    let other = seen_of(after);
+    seen.is_like(other)
 }
 
 // The plain step, and then what is next due made anew.
@@ -210,7 +200,7 @@ pub fn own_place(inputs: [Input; 16], number: u8) -> usize
     (number % INPUT_COUNT) as usize
 }
 
-// An event taken by its own input, with a choice left where that ranks otherwise than before.
+// An event taken by its own input, with a choice left where one would see it otherwise.
 fn own_take(before: Input, mode: bool, due: u64, event: Event, read: FrameRead) -> Own
     ensures { λ answer. ⌜ answer ≡ ownTake before mode due event read ⌝ }
 {
@@ -219,7 +209,7 @@ fn own_take(before: Input, mode: bool, due: u64, event: Event, read: FrameRead) 
     let own = due_of(input, mode);
     let next = lesser(due, own);
     let mut left = Left::Choice;
-    if ranks_alike(before, input) {
+    if seen_alike(before, input) {
         left = Left::Nothing;
     }
     Own {
@@ -275,7 +265,8 @@ pub fn own_step(
     own_take(before, mode, due, event, read)
 }
 
-// What is left to do, on the state with the event's own input in it.
+// What is left to do, on the state with the event's own input in it. A choice is put into the state
+// by hand: `decided` by value would copy the sixteen inputs once more.
 pub fn completed(
     state: Selector,
     due: u64,
@@ -289,7 +280,18 @@ pub fn completed(
     match left {
         Left::Nothing => Watch { state, due, answer },
         Left::Choice => {
-            let chosen = state.decided();
+            let decision = state.decision();
+            let switch = decision.switch;
+            let selection = decision.selection;
+            let inputs = state.inputs;
+            let chosen = Selector {
+                inputs,
+                time: state.time,
+                switch,
+                selection,
+                mode: state.mode,
+                held: decision.held,
+            };
             let told = chosen.answer(answer.number);
             Watch {
                 state: chosen,
@@ -316,8 +318,8 @@ impl Watch {
     }
 
     // One event with its frame read. Before anything is due, an event that does not command the
-    // switch or the mode is taken by its own input alone, and a choice is made only where that
-    // input ranks otherwise than before.
+    // switch or the mode is taken by its own input alone, and a choice is made only where it would
+    // see that input otherwise than before.
     pub fn step(self, event: Event, read: FrameRead) -> Watch
         ensures { λ after. ⌜ after ≡ watchStep self event read ⌝ }
     {

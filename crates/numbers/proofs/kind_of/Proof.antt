@@ -75,7 +75,11 @@ returns-17 c = rw (c .match .keys17)
 
 returns-18 : tie.Need-returns-18
 unfolding kindOf
-returns-18 c =
+returns-18 c = rw (c .match .keys18)
+
+returns-19 : tie.Need-returns-19
+unfolding kindOf
+returns-19 c =
     let n = c .match .rest in
     simp (
       ne-eqb _ _ (n .1),
@@ -95,6 +99,7 @@ returns-18 c =
       ne-eqb _ _ (n .0 .0 .0 .0 .0 .0 .0 .0 .0 .0 .0 .0 .0 .0 .1),
       ne-eqb _ _ (n .0 .0 .0 .0 .0 .0 .0 .0 .0 .0 .0 .0 .0 .0 .0 .1),
       ne-eqb _ _ (n .0 .0 .0 .0 .0 .0 .0 .0 .0 .0 .0 .0 .0 .0 .0 .0 .1),
+      ne-eqb _ _ (n .0 .0 .0 .0 .0 .0 .0 .0 .0 .0 .0 .0 .0 .0 .0 .0 .0 .1),
     )
 
 pub kind-of-spec : {M : Type 1} → statement M
@@ -118,4 +123,5 @@ kind-of-spec =
     returns-15
     returns-16
     returns-17
-    returns-18)
+    returns-18
+    returns-19)

@@ -17,8 +17,8 @@ due-of-requires c κs = search needs
 lesser-requires : tie.Need-lesser-requires
 lesser-requires c κs = search needs
 
-ranks-alike-requires : tie.Need-ranks-alike-requires
-ranks-alike-requires c κs = search needs
+seen-alike-requires : tie.Need-seen-alike-requires
+seen-alike-requires c κs = search needs
 
 returns : tie.Need-returns
 returns c = search ownTake-laws
@@ -34,6 +34,6 @@ own-take-spec =
     input-after-requires
     due-of-requires
     lesser-requires
-    ranks-alike-requires
+    seen-alike-requires
     returns
     returns-2)

@@ -5,15 +5,12 @@ use borrow.Author.Needs.{needs}
 use Rattle.selector.proofs.Selector.decided.Statement.{statement}
 use Rattle.selector.proofs.Selector.decided.Tie as tie
 
-candidates-of-requires : tie.Need-candidates-of-requires
-candidates-of-requires c κs = search needs
-
-decide-requires : tie.Need-decide-requires
-decide-requires c κs = search needs
+decision-requires : tie.Need-decision-requires
+decision-requires c κs = search needs
 
 returns : tie.Need-returns
 unfolding decided
-returns c = rw (c .decide .ensures, c .before .candidates-of .ensures)
+returns c = rw (c .decision .ensures)
 
 pub decided-spec : {M : Type 1} → statement M
-decided-spec = tie.close (tie.spec candidates-of-requires decide-requires returns)
+decided-spec = tie.close (tie.spec decision-requires returns)
