@@ -1,0 +1,11 @@
+"""The laboratory's tools beside the proved programs, in Python's own library alone.
+
+`front` takes the first word of ./nurrispane and hands the rest to the module of that name in
+`commands`. The other modules are what these share: `files` (read and written whole, or not at
+all), `programs` (the proved ones), `words` and `answers` (the language of docs/WORDS.md),
+`captures` (capture files), `faults` (the known faults), `sequences` (the bench's set), `meetings` (which
+rules meet in a log).
+
+No rule of the selector stands here: what a line is answered with is asked of the proved
+programs, and what a fault does of the wrong copies of the independent program.
+"""

@@ -1,0 +1,177 @@
+"""The known faults: wrong copies of the independent program, and what each does to a log.
+
+tests/independent/wrong-copies*.txt list them: a name, the mode in which the fault shows if it isn't
+`replay`, and edits of the program's text. A copy is built once and kept below target/, under a name
+made of its text, so that it is built anew where anything of it has changed. One for a mode that takes
+a log has sequences/log_modes.rs in place of the program's main.rs.
+"""
+
+import collections
+import hashlib
+import os
+import pathlib
+import re
+import shutil
+import subprocess
+import tempfile
+
+from nurrispane import answers, programs
+from nurrispane.files import ROOT, Trouble, reason
+
+SOURCES = ROOT / "tests" / "independent"
+MAIN = ROOT / "sequences" / "log_modes.rs"
+BUILT = ROOT / "target" / "known-faults"
+# Not optimised: a build is quick, and no check is in it that the program doesn't have.
+FLAGS = "-C opt-level=0 -C debug-assertions=off -C overflow-checks=off -C strip=symbols --edition 2021 -A warnings"
+# A copy that takes longer has lost its way; that shows.
+PATIENCE = 60
+# What every card shows: its answers, and the codes on its ports.
+SHOWN = ("replay", "outgoing")
+# The modes that take a log. The count of due moments is asked for where a fault shows in nothing else.
+LOG_MODES = SHOWN + ("counts",)
+
+Fault = collections.namedtuple("Fault", "name mode edits")
+# Where a fault shows first in a log: the line from 1, and what is right and what the fault says there.
+Found = collections.namedtuple("Found", "fault mode line right wrong")
+
+
+def lists():
+    """The files that list known faults, the independent program's own first."""
+    return sorted(SOURCES.glob("wrong-copies*.txt"), key=lambda path: len(path.name))
+
+
+def known():
+    """The known faults that a log may show."""
+    return [fault for fault in every() if fault.mode in LOG_MODES]
+
+
+def every():
+    """Every known fault, in the order of the lists: those of frames and of other tools too."""
+    faults = []
+    for path in lists():
+        for text in path.read_text().splitlines():
+            mark, rest = text[:1], text[2:]
+            if mark == "#":
+                name, _, mode = rest.partition(" (")
+                faults.append(Fault(name, mode.rstrip(")") or "replay", []))
+            elif mark == "@":
+                faults[-1].edits.append((rest, [], []))
+            elif mark in ("<", ">"):
+                faults[-1].edits[-1][1 if mark == "<" else 2].append(rest)
+    return faults
+
+
+RIGHT = Fault("no fault", "replay", [])
+
+
+def main_of(fault):
+    return MAIN.name if fault.mode in LOG_MODES else "main.rs"
+
+
+def sources(fault, added=None):
+    """The text of each file that the program with this fault is built of, its main file first; `added` are files beside
+    the program's own."""
+    texts = {path.name: path.read_text() for path in [MAIN, *SOURCES.glob("*.rs")]}
+    texts.update(added or {})
+    for name, old, new in fault.edits:
+        old = "\n".join(old)
+        if old not in texts.get(name, ""):
+            raise Trouble("known fault \"%s\": %s has no longer the text it changes" % (fault.name, name))
+        texts[name] = texts[name].replace(old, "\n".join(new), 1)
+    main = main_of(fault)
+    modules = [name + ".rs" for name in re.findall(r"^mod (\w+);", texts[main], re.M)]
+    return {name: texts[name] for name in [main, *modules]}
+
+
+def key(fault, added=None):
+    """A name made of the text of the program with this fault."""
+    parts = [part for named in sources(fault, added).items() for part in named]
+    return hashlib.sha256("\0".join([FLAGS] + parts).encode()).hexdigest()[:24]
+
+
+def path_of(fault, added=None):
+    return BUILT / key(fault, added)
+
+
+def build(fault, added=None):
+    """The path of the built program."""
+    program = path_of(fault, added)
+    if program.exists():
+        return program
+    if not shutil.which("rustc"):
+        raise Trouble("rustc is not there, so the known faults cannot be built")
+    try:
+        BUILT.mkdir(parents=True, exist_ok=True)
+        with tempfile.TemporaryDirectory(dir=BUILT) as directory:
+            for name, text in sources(fault, added).items():
+                (pathlib.Path(directory) / name).write_text(text)
+            made = os.path.join(directory, "made")
+            call = ["rustc", *FLAGS.split(), os.path.join(directory, main_of(fault)), "-o", made]
+            said = subprocess.run(call, capture_output=True)
+            if said.returncode != 0:
+                what = said.stderr.decode(errors="replace").strip().splitlines()
+                raise Trouble("known fault \"%s\" does not compile: %s" % (fault.name, what[0] if what else "no reason"))
+            os.replace(made, program)
+    except OSError as error:
+        raise Trouble("known fault \"%s\" cannot be built: %s" % (fault.name, reason(error))) from error
+    return program
+
+
+def run(program, mode, data):
+    """What a copy says to a log, line by line; None where it doesn't end or has no such mode."""
+    try:
+        said = subprocess.run([str(program), mode], input=data, capture_output=True, timeout=PATIENCE)
+    except subprocess.TimeoutExpired:
+        return None
+    return said.stdout.split(b"\n")[:-1] if said.returncode == 0 else None
+
+
+class Reference:
+    """The right answers of a log: the proved programs', with which the independent program has to agree."""
+
+    def __init__(self, data):
+        self.data, self.right = data, {}
+        self.independent = build(RIGHT)
+
+    def lines(self, mode):
+        """Line by line."""
+        if mode not in self.right:
+            proved = programs.answers(mode, self.data)
+            place = first_difference(proved, run(self.independent, mode, self.data) or [])
+            if place is not None:
+                raise Trouble("line %d: the independent program and the proved %s differ" % (place + 1, mode))
+            self.right[mode] = proved
+        return self.right[mode]
+
+
+def first_difference(one, other):
+    """The first place at which two lists differ, or None."""
+    for place, (first, second) in enumerate(zip(one, other)):
+        if first != second:
+            return place
+    return None if len(one) == len(other) else min(len(one), len(other))
+
+
+def modes(fault):
+    """The modes in which a log may show a fault."""
+    return [mode for mode in LOG_MODES if mode in SHOWN or mode == fault.mode]
+
+
+def find(fault, reference):
+    """Where a log shows a fault first: in its answers, otherwise in the outgoing codes or the fault's own mode. None
+    where it doesn't."""
+    program = build(fault)
+    for mode in modes(fault):
+        right, wrong = reference.lines(mode), run(program, mode, reference.data) or []
+        place = first_difference(right, wrong)
+        if place is not None:
+            at = lambda lines: lines[place] if place < len(lines) else b""
+            return Found(fault, mode, place + 1, at(right), at(wrong))
+    return None
+
+
+def in_words(mode, line, told=answers.words):
+    """An answer as `told` has it, codes or a count."""
+    if line == b"":
+        return "nothing"
+    return told(line) if mode == "replay" else "%s %s" % (mode, line.decode(errors="replace"))

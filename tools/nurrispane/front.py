@@ -1,0 +1,75 @@
+"""The front command: ./nurrispane WORD .., a module of `commands` for each word.
+
+Such a module has SUMMARY (a line), EXAMPLES (calls that work), `arguments(parser)` and
+`run(options)`, which gives the exit status.
+"""
+
+import argparse
+import importlib
+import os
+import pathlib
+import signal
+import sys
+import traceback
+
+from nurrispane.files import FINE, TROUBLE, NobodyReads, Trouble, reason, write_out
+
+STATUS = "exit status: 0 fine, 1 a finding, 2 trouble; a file is written whole or not at all"
+
+
+def words():
+    """The words there are."""
+    here = pathlib.Path(__file__).resolve().parent / "commands"
+    return sorted(path.stem for path in here.glob("[a-z]*.py"))
+
+
+def module(word):
+    return importlib.import_module("nurrispane.commands." + word)
+
+
+def overview():
+    lines = ["usage: ./nurrispane WORD ..", ""]
+    lines += ["  %-9s %s" % (word, module(word).SUMMARY) for word in words()]
+    lines += ["", "./nurrispane WORD --help says more. " + STATUS]
+    return "".join(line + "\n" for line in lines)
+
+
+def parser_of(word):
+    examples = "\n".join("  " + line for line in module(word).EXAMPLES)
+    parser = argparse.ArgumentParser(
+        prog="./nurrispane " + word,
+        description=module(word).__doc__,
+        epilog="for example:\n%s\n\n%s" % (examples, STATUS),
+        formatter_class=argparse.RawDescriptionHelpFormatter,
+        allow_abbrev=False,
+    )
+    module(word).arguments(parser)
+    return parser
+
+
+def main(arguments):
+    word = arguments[0] if arguments else None
+    try:
+        if word in ("--help", "-h"):
+            write_out(overview().encode())
+            return FINE
+        if word not in words():
+            sys.stderr.write(overview() if word is None else "nurrispane: no such word: %s\n%s" % (word, overview()))
+            return TROUBLE
+        status = module(word).run(parser_of(word).parse_args(arguments[1:]))
+        write_out(b"")
+        return status
+    except NobodyReads:
+        # ended as any program is that writes to a closed pipe
+        signal.signal(signal.SIGPIPE, signal.SIG_DFL)
+        os.kill(os.getpid(), signal.SIGPIPE)
+    except Trouble as trouble:
+        sys.stderr.write("nurrispane %s: %s\n" % (word, trouble))
+    except OSError as error:
+        sys.stderr.write("nurrispane %s: %s%s\n" % (word, "%s: " % error.filename if error.filename else "", reason(error)))
+    except KeyboardInterrupt:
+        sys.stderr.write("nurrispane %s: stopped\n" % word)
+    except Exception:
+        # Python's own status for this is 1, which would be a finding
+        traceback.print_exc()
+    return TROUBLE

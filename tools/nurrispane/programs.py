@@ -1,0 +1,151 @@
+"""The proved programs, run on a log; what they answer is counted line by line."""
+
+import functools
+import pathlib
+import subprocess
+import sys
+import tempfile
+import threading
+
+from nurrispane.files import ROOT, Trouble, name_of, read, reason, standard, write, write_out
+
+CHUNK = 1 << 16
+
+
+@functools.cache
+def ready(name):
+    """Proves and builds a program where that has not been done; its progress goes to standard error."""
+    built = subprocess.run([str(ROOT / ".ci" / "built"), name], stdin=subprocess.DEVNULL, stdout=subprocess.DEVNULL)
+    if built.returncode != 0:
+        raise Trouble("the program %s is not built" % name)
+
+
+def command(name):
+    return [str(ROOT / ".ci" / "program"), name]
+
+
+class LineCount:
+    """How many lines some bytes have, handed over in pieces."""
+
+    def __init__(self):
+        self.ended, self.open = 0, False
+
+    def take(self, piece):
+        self.ended += piece.count(b"\n")
+        self.open = not piece.endswith(b"\n") if piece else self.open
+
+    def lines(self):
+        return self.ended + self.open
+
+
+def stream(name, source, sink):
+    """Hands a log from a file to a program and its output on to `sink`, piece by piece.
+
+    A line that is not answered, or an answer that is not whole, is trouble."""
+    ready(name)
+    asked, told, failed = LineCount(), LineCount(), []
+    process = subprocess.Popen(command(name), stdin=subprocess.PIPE, stdout=subprocess.PIPE, stderr=subprocess.PIPE)
+
+    def feed():
+        try:
+            while piece := source.read(CHUNK):
+                asked.take(piece)
+                process.stdin.write(piece)
+            process.stdin.close()
+        except BrokenPipeError:
+            pass  # the program ended early: the count tells
+        except OSError as error:
+            failed.append("the log cannot be read: %s" % reason(error))
+            process.kill()
+
+    feeder = threading.Thread(target=feed, daemon=True)
+    feeder.start()
+    try:
+        while piece := process.stdout.read1(CHUNK):
+            told.take(piece)
+            sink(piece)
+    except BaseException:
+        process.kill()
+        raise
+    feeder.join()
+    said = process.stderr.read()
+    status = process.wait()
+    if failed:
+        raise Trouble(failed[0])
+    ended_well(name, status, said, asked, told)
+
+
+def answers(name, data):
+    """The program's output for a log, line by line."""
+    ready(name)
+    run = subprocess.run(command(name), input=data, capture_output=True)
+    asked, told = LineCount(), LineCount()
+    asked.take(data)
+    told.take(run.stdout)
+    ended_well(name, run.returncode, run.stderr, asked, told)
+    return run.stdout.split(b"\n")[:-1]
+
+
+def ended_well(name, status, said, asked, told):
+    """Trouble where a program ended badly, said that it could not go on, or left a line without its answer."""
+    if status != 0:
+        raise Trouble("the program %s ended with status %d" % (name, status))
+    if said:
+        raise Trouble("the program %s says: %s" % (name, said.decode(errors="replace").strip()))
+    if told.open or told.ended != asked.lines():
+        raise Trouble("the program %s answered %d of %d lines" % (name, told.ended, asked.lines()))
+
+
+def put_out(name, path, out):
+    """What a program says to a log: on standard output piece by piece, or in the file `out`, whole or not at all."""
+    if out is None:
+        with opened(path) as source:
+            stream(name, source, write_out)
+    else:
+        write(out, b"".join(line + b"\n" for line in answers(name, read(path))))
+
+
+def opened(path):
+    """A log to read piece by piece; "-" is standard input."""
+    if str(path) == "-":
+        return standard(sys.stdin, "input")
+    try:
+        return open(path, "rb", buffering=0)
+    except OSError as error:
+        raise Trouble("%s cannot be read: %s" % (name_of(path), reason(error))) from error
+
+
+# ---- programs that take logs in files
+
+# The most octets of such a log.
+LARGEST_LOG = 1_048_576
+
+
+def read_log(path):
+    """A log that such a program can hold; "-" is standard input."""
+    with opened(path) as source:
+        data = b""
+        try:
+            while len(data) <= LARGEST_LOG and (piece := source.read(LARGEST_LOG + 1 - len(data))):
+                data += piece
+        except OSError as error:
+            raise Trouble("%s cannot be read: %s" % (name_of(path), reason(error))) from error
+    if len(data) > LARGEST_LOG:
+        raise Trouble("%s has more than %s octets, which is more than the program holds" % (name_of(path), format(LARGEST_LOG, ",")))
+    return data
+
+
+def on_files(name, logs, *numbers):
+    """What a program says to logs in files and numbers: the files are copies, so that nothing changes under it."""
+    ready(name)
+    with tempfile.TemporaryDirectory() as directory:
+        paths = [pathlib.Path(directory) / ("log-%d" % place) for place in range(1, len(logs) + 1)]
+        for path, data in zip(paths, logs):
+            path.write_bytes(data)
+        call = command(name) + [str(argument) for argument in (*paths, *numbers)]
+        run = subprocess.run(call, stdin=subprocess.DEVNULL, capture_output=True)
+    if run.returncode != 0:
+        raise Trouble("the program %s ended with status %d" % (name, run.returncode))
+    if run.stderr:
+        raise Trouble("the program %s says: %s" % (name, run.stderr.decode(errors="replace").strip()))
+    return run.stdout

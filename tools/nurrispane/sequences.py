@@ -1,0 +1,198 @@
+"""The bench's sequences: event logs that a bench can play to a card, and what they find.
+
+sequences/known has the set that finds the known faults and sequences/table.txt what each log of it finds;
+sequences/make makes both anew, from the stored logs of tests/logs and from sequences/own. sequences/pairs
+has the logs in which rules meet; sequences/search makes them."""
+
+import collections
+import hashlib
+
+from nurrispane import faults, words
+from nurrispane.files import ROOT, Trouble, read_text
+
+HERE = ROOT / "sequences"
+STORED = ROOT / "tests" / "logs"
+TABLE = HERE / "table.txt"
+# No sequence is longer, in ms.
+LONGEST = 3_600_000
+SHORTEST_FRAME, LARGEST_FRAME = 60, 1_514
+# Numbers of refusal that only odd commands are given: unknown kinds, inputs and arguments out of
+# range, a code or a frame for the wrong kind of input.
+ODD_COMMANDS = (2, 5, 6, 7)
+
+# A log for the bench; `dropped` says what was left out of the stored one and how often.
+Sequence = collections.namedtuple("Sequence", "name shows data dropped")
+
+MALFORMED, BACK, LATE = "malformed lines", "times that go back", "times no bench waits for"
+UNENDED = "a last line without LF"
+
+
+def playable(data, allowed=None):
+    """The log without what no bench can play, and how many lines were left out for what reason; nothing is left out
+    for the reason `allowed`.
+
+    A line that is malformed or whose time goes back is refused and leaves the state; a line past the
+    longest time is left out with all after it."""
+    kept, dropped, latest = [], collections.Counter(), 0
+    lines, ended = words.split_log(data)
+    for line in lines:
+        event = words.event_of(line)
+        if event is None or len(event.octets) > LARGEST_FRAME:
+            why = MALFORMED
+        elif event.time > LONGEST:
+            why = LATE
+        else:
+            why = BACK if event.time < latest else None
+            latest = max(latest, event.time)
+        if why in (None, allowed):
+            kept.append(line)
+        else:
+            dropped[why] += 1
+    if not ended and allowed != UNENDED:
+        dropped[UNENDED] += 1
+        ended = True
+    return b"\n".join(kept) + b"\n" * bool(kept and ended), dropped
+
+
+def stored():
+    """A sequence of each hand-made log that is stored."""
+    path = STORED / "hand-made.txt"
+    for log in words.logs(read_text(path), path):
+        data, dropped = playable(log.data())
+        yield Sequence(log.name, log.shows, data, dropped)
+
+
+def kept(folder):
+    """The sequences that are kept in words in a folder of sequences/, by name."""
+    found = {}
+    for path in sorted((HERE / folder).glob("*.words")):
+        log = words.one_log(read_text(path), path)
+        data, dropped = playable(log.data())
+        if dropped:
+            raise Trouble("%s: no bench can play this: %s" % (path, ", ".join(dropped)))
+        found["%s/%s" % (folder, path.stem)] = Sequence("%s/%s" % (folder, path.stem), log.shows, data, dropped)
+    return found
+
+
+def candidates():
+    """Every sequence that the set may be chosen from, by name."""
+    return {sequence.name: sequence for sequence in [*stored(), *kept("own").values()] if sequence.data}
+
+
+def duration(data):
+    """How long a sequence takes, in ms."""
+    return max((words.event_of(line).time for line in words.split_log(data)[0]), default=0)
+
+
+def needs(data, answers):
+    """What a bench needs for a sequence beyond frames, codes, signals and sound commands."""
+    told, events = [], [words.event_of(line) for line in words.split_log(data)[0]]
+    if any(event.kind == words.FRAME_KIND and len(event.octets) < SHORTEST_FRAME for event in events):
+        told.append("short frames")
+    if any(int(answer[:2], 16) in ODD_COMMANDS for answer in answers):
+        told.append("odd commands")
+    return told
+
+
+def in_words(shows, lines):
+    """The text of a sequence's file."""
+    told = ["shows " + shows] if shows else []
+    return "".join(line + "\n" for line in told + [words.line_in_words(line) for line in lines])
+
+
+# ---- choosing
+
+# What a sequence costs beside its time, in ms: a fresh card, and each thing that a bench may not have.
+FRESH_CARD, NEED = 10_000, 60_000
+
+
+def chosen(finds, costs, wanted):
+    """Names of sequences that together find all that is wanted: the cheapest a fault first, then none too many."""
+    names, left = [], set(wanted)
+    while left:
+        name = min(finds, key=lambda name: (costs[name] / max(len(finds[name] & left), 1e-9), name))
+        names.append(name)
+        left -= finds[name]
+    for name in sorted(names, key=lambda name: -costs[name]):
+        others = set().union(*(finds[other] for other in names if other != name))
+        if wanted <= others:
+            names.remove(name)
+    return names
+
+
+# ---- pace
+
+# What stands between two events if it may, in ms, the most first.
+PACES = (250, 50, 10)
+
+
+def time_of(line):
+    return words.event_of(line).time
+
+
+def moved(line, time):
+    """The line at another time."""
+    event = words.event_of(line)
+    return words.event_line(event.kind, time, event.input, event.argument, event.octets)
+
+
+def paced(lines, is_good):
+    """The lines with time between one and the next wherever they stay good with it; no line is put in or left out."""
+    for place in range(1, len(lines)):
+        gap = time_of(lines[place]) - time_of(lines[place - 1])
+        for pace in PACES:
+            if gap >= pace:
+                break
+            later = lines[:place] + [moved(line, time_of(line) + pace - gap) for line in lines[place:]]
+            if time_of(later[-1]) <= LONGEST and is_good(later):
+                lines = later
+                break
+    return lines
+
+
+def joined(lines):
+    return b"".join(line + b"\n" for line in lines)
+
+
+# ---- the table
+
+# What the table says of a log that finds a fault: where it shows first.
+Entry = collections.namedtuple("Entry", "fault log line mode right wrong")
+# The table: what it was made of, the faults that each log of the set finds, an entry for each fault and each log that finds
+# it, in the order of the set, and the faults out of reach with the reason.
+Table = collections.namedtuple("Table", "made_of finds entries out_of_reach")
+
+
+def digest(texts=None):
+    """A name made of all that the table is made of and of the set: its files, or these texts by their names."""
+    if texts is None:
+        texts = {path.stem: path.read_text() for path in (HERE / "known").glob("*.words")}
+    made_of = sorted([*(HERE / "own").glob("*.words"), STORED / "hand-made.txt"])
+    parts = [part for named in faults.sources(faults.RIGHT).items() for part in named]
+    parts += [repr(fault) for fault in faults.known()]
+    parts += [part for path in made_of for part in (path.name, path.read_text())]
+    parts += [part for named in sorted(texts.items()) for part in named]
+    return hashlib.sha256("\0".join(parts).encode()).hexdigest()[:24]
+
+
+def read_table():
+    """The table as it is stored."""
+    table = Table([], {}, [], {})
+    for line in read_text(TABLE).splitlines():
+        kind, _, rest = line.partition(" ")
+        cells = [cell.strip() for cell in rest.split(" | ")]
+        if kind == "made-of":
+            table.made_of.append(rest)
+        elif kind == "log":
+            table.finds[cells[0]] = set()
+        elif kind == "fault":
+            name, log, place, mode, right, wrong = cells
+            table.entries.append(Entry(name, log, int(place), mode, right, wrong))
+            table.finds[log].add(name)
+        elif kind == "out-of-reach":
+            table.out_of_reach[cells[0]] = cells[1]
+    return table
+
+
+def is_stale(table):
+    return table.made_of != [digest()]
