@@ -35,6 +35,7 @@ KINDS = [
     Kind(0x0E, "sending", True, {"on": 1, "off": 0}),
     Kind(0x0F, "tick", False, None),
     Kind(0x10, "kind", True, {"line": 0, "ethernet": 1}),
+    Kind(0x11, "floor", True, {}),
 ]
 FRAME_KIND = 0x02
 BY_WORD = {kind.word: kind for kind in KINDS}
