@@ -154,7 +154,8 @@ impl Selector {
         }
     }
 
-    // What the switch judged and the choice made come to.
+    // What the switch judged and the choice made come to, for a caller that keeps the inputs where
+    // they are. It has that one caller, and is compiled into it.
     pub fn decision(self) -> Decision
         ensures { λ answer. ⌜ answer ≡ decisionOf self ⌝ }
     {
@@ -170,7 +171,10 @@ impl Selector {
         ensures { λ answer. ⌜ answer ≡ decided self ⌝ }
     {
         let inputs = self.inputs;
-        let decision = self.decision();
+        let candidates = candidates_of(inputs, self.mode);
+        let before = self.switch;
+        let earlier = self.selection;
+        let decision = decide(candidates, before, earlier, self.held);
         let switch = decision.switch;
         let selection = decision.selection;
         Selector {

@@ -24,9 +24,8 @@ use Rattle.input.specs.declared.Input.{Input}
 use Rattle.input.specs.Record.{freshInput, passedOf}
 use Rattle.choice.specs.declared.Seen.{Seen}
 use Rattle.choice.specs.Candidate.{isLike}
-use Rattle.decision.specs.declared.Decision.{Decision}
 use Rattle.selector.specs.declared.Selector.{Selector}
-use Rattle.selector.specs.State.{seenOf, decisionOf, withDecision, decided}
+use Rattle.selector.specs.State.{seenOf, decided}
 use Rattle.selector.specs.Answer.{answerOf}
 use Rattle.selector.proofs.Laws.{getD-any}
 use Rattle.events.specs.Refusals.{earlyRefusal}
@@ -262,11 +261,10 @@ module _ (state : Selector) (due : ℕ) (answer : Answer) (left : Left) (event :
   unfolding completed
   completed-nothing is = rw is
 
-  pub completed-choice : (decision : Decision) (told : Answer) → left ≡ Choice → decision ≡ decisionOf state
-      → told ≡ answerOf (answer .number) (withDecision state decision)
-      → watchOf (withDecision state decision) due told ≡ completed state due answer left event read
-  unfolding completed decided
-  completed-choice decision told is d t = rw (is, t, d)
+  pub completed-choice : (chosen : Selector) (told : Answer) → left ≡ Choice → chosen ≡ decided state
+      → told ≡ answerOf (answer .number) chosen → watchOf chosen due told ≡ completed state due answer left event read
+  unfolding completed
+  completed-choice chosen told is c t = rw (is, t, c)
 
   pub completed-service : (after : Watch) → left ≡ Service → after ≡ servedWatch state event read
       → after ≡ completed state due answer left event read

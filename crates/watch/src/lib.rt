@@ -265,8 +265,7 @@ pub fn own_step(
     own_take(before, mode, due, event, read)
 }
 
-// What is left to do, on the state with the event's own input in it. A choice is put into the state
-// by hand: `decided` by value would copy the sixteen inputs once more.
+// What is left to do, on the state with the event's own input in it.
 pub fn completed(
     state: Selector,
     due: u64,
@@ -280,18 +279,7 @@ pub fn completed(
     match left {
         Left::Nothing => Watch { state, due, answer },
         Left::Choice => {
-            let decision = state.decision();
-            let switch = decision.switch;
-            let selection = decision.selection;
-            let inputs = state.inputs;
-            let chosen = Selector {
-                inputs,
-                time: state.time,
-                switch,
-                selection,
-                mode: state.mode,
-                held: decision.held,
-            };
+            let chosen = state.decided();
             let told = chosen.answer(answer.number);
             Watch {
                 state: chosen,

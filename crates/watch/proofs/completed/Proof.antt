@@ -11,8 +11,8 @@ enum-told c = search needs
 enum-told-2 : tie.Need-enum-told-2
 enum-told-2 c = search needs
 
-decision-requires : tie.Need-decision-requires
-decision-requires c κs = search needs
+decided-requires : tie.Need-decided-requires
+decided-requires c κs = search needs
 
 answer-requires : tie.Need-answer-requires
 answer-requires c κs = search needs
@@ -38,7 +38,7 @@ completed-spec =
     (tie.spec
     enum-told
     enum-told-2
-    decision-requires
+    decided-requires
     answer-requires
     enum-told-3
     served-requires
