@@ -5,31 +5,38 @@
  * event; its senders, one a port, are another, with one call for each question whether a frame is
  * to be sent. What each function does with any card, senders, event, frame and buffer is proved of
  * its code (crates/card, crates/sender); the library itself is what `rt staticlib card` writes,
- * libcard.a. Words and numbers are those of documents 01 and 02.
+ * libcard.a, and for Arm what `tools/card-for-arm` does. Words and numbers are those of documents 01
+ * and 02. docs/FIRMWARE.md says what to do at a reboot, when the time jumps, in an interrupt and
+ * with two cards.
  *
  *     #include "nurrispane.h"
  *     void clock_follow(uint8_t input);
+ *     void timer_at(uint64_t ms);
  *     void port_send(uint8_t port, const uint8_t *frame, size_t length);
  *     static struct nurrispane_card card;
  *     static struct nurrispane_senders senders;
  *
- *     void on_start(void)
+ *     int on_start(void)
  *     {
- *         card = nurrispane_fresh();
- *         senders = nurrispane_fresh_senders();
- *         nurrispane_step_in_place(&card, NURRISPANE_EVENT_PRIORITY, 0, 3, 1, NURRISPANE_NO_FRAME, 0);
+ *         if (!NURRISPANE_BELONGS())
+ *             return 0;
+ *         nurrispane_fresh(&card);
+ *         nurrispane_fresh_senders(&senders);
+ *         nurrispane_step(&card, NURRISPANE_EVENT_PRIORITY, 0, 3, 1, NURRISPANE_NO_FRAME, 0);
+ *         return 1;
  *     }
  *     void on_frame(uint64_t ms, uint8_t port, const uint8_t *frame, size_t length)
  *     {
- *         nurrispane_step_in_place(&card, NURRISPANE_EVENT_FRAME, ms, port, 0, frame, length);
+ *         nurrispane_step(&card, NURRISPANE_EVENT_FRAME, ms, port, 0, frame, length);
  *         if (card.answer.number == NURRISPANE_ACCEPTED)
  *             clock_follow(card.answer.selected);
+ *         timer_at(nurrispane_next_due(&card));
  *     }
  *     void on_timer(uint64_t ms, const uint8_t source[6])
  *     {
  *         uint8_t frame[NURRISPANE_FRAME_OCTETS];
  *         for (uint8_t port = 0; port < NURRISPANE_INPUTS; port++) {
- *             nurrispane_ask_in_place(&senders, card, port, ms, source, 6, frame, sizeof frame);
+ *             nurrispane_ask(&senders, &card, port, ms, source, 6, frame, sizeof frame);
  *             if (senders.frame != NURRISPANE_HEARTBEAT_NOTHING)
  *                 port_send(port, frame, sizeof frame);
  *         }
@@ -37,41 +44,42 @@
  *
  * What C owes
  *
- * - The card. Start from nurrispane_fresh(), and pass to each call the card that the last one
- *   handed out, unchanged but for `answer` and `served`, which no function reads. Then the card is the selector
+ * - The card. Start from nurrispane_fresh(), and lend to each call the card that the last one left,
+ *   unchanged but for `answer` and `served`, which no function reads. Then the card is the selector
  *   after those events, and all that is proved of the selector holds of it. A card is plain data
  *   with no pointer in it: copy it, keep it, send it to a standby card of the same byte order, go
  *   back to an older copy. A card that was filled in any other way is safe too: every field is a
- *   plain number and every value of it is answered for, but the answers may be wrong.
+ *   plain number and every value of it is answered for, but the answers may be wrong. Whatever came
+ *   in, `answer.selected` and `answer.switch_input` are 0 to 15 or 255 after a call, `clock_state`
+ *   and `switch_kind` 0 to 2: firmware may index by them.
  * - The senders. Likewise from nurrispane_fresh_senders() on, each call handing on what the last
  *   one left, unchanged but for `number` and `frame`, which no function reads. They stand beside
  *   the card and hold nothing of it: a question brings the card, and takes its state as it is.
  * - Pointers. None may be NULL, also where its length is 0 (NURRISPANE_NO_FRAME is there for that).
- *   Each must be good for as many octets as the length says, `card` for sizeof *card and `senders` for
- *   sizeof *senders. Both are aligned to 8, as C aligns them by itself; octets need no alignment.
+ *   Each must be good for as many octets as the length says, and one to a struct for the struct; a
+ *   frame for a frame event alone, as no other looks at it. Structs are aligned to 8, as C aligns
+ *   them by itself; octets need no alignment. A length is 64 bits wide on every machine.
  * - Ownership. Nothing is kept after a call returns: no pointer, no static data. What is lent for
- *   writing (`card` or `senders` in place, `buffer`) is nobody else's during the call and overlaps nothing else
- *   that is lent. Calls on different cards may run at the same time; an interrupt may make calls on
- *   a card of its own.
+ *   writing (no pointer to const) is nobody else's during the call and overlaps nothing else that is
+ *   lent. What is lent by a pointer to const is not written, so it may lie in read-only memory. Calls
+ *   on different cards may run at the same time; an interrupt may make calls on a card of its own.
  * - Time. Milliseconds from any zero, below 2^48 and never falling; else the event is refused. Each
  *   event first serves, in time order, whatever became due since the last one: the end of a
- *   hold-off, of a wait or of a frame's five seconds. Send NURRISPANE_EVENT_TICK as often as these
- *   are to be noticed without an event; how often changes no later answer. `served` in the card
- *   says how many due moments the last event's tick served: never more than 48, which bounds the
- *   time that a call takes.
+ *   hold-off, of a wait or of a frame's five seconds. Send NURRISPANE_EVENT_TICK when these are to be
+ *   noticed without an event, at the time that nurrispane_next_due() says; further ticks change no
+ *   later answer. `served` in the card says how many due moments the last event's tick served: never
+ *   more than 48, which bounds the time that a call takes.
  * - The machine. libcard.a is for x86-64 with the System V calling convention, its red zone and its
- *   SSE2 registers included. It needs memcpy and memmove: no heap, no floating point, no operating
- *   system. It is 20 KB of code and constants, with no data that is written. No call waits.
+ *   SSE2 registers included; docs/BENCHMARKS.md has its size, and that of those for Arm. It needs
+ *   memcpy, memmove and memset: no heap, no floating point, no operating system, and no data that is written.
+ *   No call waits.
  *
- * Sizes, in bytes: a card 664, aligned to 8; an input 40; an answer 6; the codes 16; a frame that
+ * Sizes, in octets: a card 664, aligned to 8; an input 40; an answer 6; the codes 16; a frame that
  * was read 9; the senders 1,544, aligned to 8; one sender 96. There is no padding in any of them, so
  * cards and senders can be compared by memcmp() and summed by a checksum.
  *
- * Stack, in bytes, measured from the call on, with what C passes by value: nurrispane_fresh 3,672,
- * nurrispane_step 14,360, nurrispane_step_in_place 14,392, nurrispane_outgoing_codes 2,984,
- * nurrispane_read_frame none that was seen, nurrispane_write_frame 3,032, nurrispane_fresh_senders
- * 1,560, nurrispane_ask_in_place 6,200.
- * tests/card measures it anew and holds it to NURRISPANE_STACK.
+ * No call takes more stack than NURRISPANE_STACK; docs/BENCHMARKS.md has what each takes, and
+ * tests/card measures it anew.
  */
 #ifndef NURRISPANE_H
 #define NURRISPANE_H
@@ -79,14 +87,29 @@
 #include <stddef.h>
 #include <stdint.h>
 
-#ifdef __cplusplus
+#if defined(__cplusplus)
 extern "C" {
 #define NURRISPANE_HOLDS(fact) static_assert(fact, #fact)
-#define NURRISPANE_ALIGNMENT(type) alignof(type)
-#else
+#define NURRISPANE_ALIGNED(type, octets) static_assert(alignof(type) == octets, #type)
+#elif defined(__STDC_VERSION__) && __STDC_VERSION__ >= 201112L
 #define NURRISPANE_HOLDS(fact) _Static_assert(fact, #fact)
-#define NURRISPANE_ALIGNMENT(type) _Alignof(type)
+#define NURRISPANE_ALIGNED(type, octets) _Static_assert(_Alignof(type) == octets, #type)
+#else
+/* C99 has no word for it: a field of -1 bits is refused. */
+#define NURRISPANE_NAME(line) NURRISPANE_PASTED(line)
+#define NURRISPANE_PASTED(line) nurrispane_holds_##line
+#define NURRISPANE_HOLDS(fact) struct NURRISPANE_NAME(__LINE__) { unsigned int holds : (fact) ? 1 : -1; }
+#define NURRISPANE_ALIGNED(type, octets) NURRISPANE_HOLDS(sizeof(type) % octets == 0)
 #endif
+
+/* Raised with each change of a struct, of a number or of what a function answers. */
+#define NURRISPANE_VERSION 1
+
+/* Whether the library that was linked is this header's: to be asked once, at the start. */
+#define NURRISPANE_BELONGS()                                               \
+    (nurrispane_version() == NURRISPANE_VERSION &&                         \
+     nurrispane_card_octets() == sizeof(struct nurrispane_card) &&         \
+     nurrispane_senders_octets() == sizeof(struct nurrispane_senders))
 
 /* Inputs 0 to 15 are also the outgoing ports. */
 #define NURRISPANE_INPUTS 16
@@ -99,10 +122,17 @@ extern "C" {
 #define NURRISPANE_SOURCE_OCTETS 6
 
 /* The frame of an event that has none, with length 0. */
+#ifdef __cplusplus
+#define NURRISPANE_NO_FRAME (reinterpret_cast<const uint8_t *>(""))
+#else
 #define NURRISPANE_NO_FRAME ((const uint8_t *)"")
+#endif
+
+/* The time of what is never due. */
+#define NURRISPANE_NEVER UINT64_MAX
 
 /* No call takes more stack than this. */
-#define NURRISPANE_STACK 15360
+#define NURRISPANE_STACK 12288
 
 /* The kinds of event, with their arguments. */
 enum nurrispane_event {
@@ -262,40 +292,49 @@ struct nurrispane_frame {
     uint8_t source[NURRISPANE_SOURCE_OCTETS]; /* who sent it */
 };
 
-/*
- * A fresh card: time 0, quality mode on, no switch, nothing selected; each input a line with
- * priority 0, hold-off 300 ms, wait 5 minutes, sending on, its signal failing. Its answer is that
- * of an accepted event on such a state: 00 ff 00 04 00 ff.
- */
-struct nurrispane_card nurrispane_fresh(void);
+/* The library's version, and how many octets it takes a card and the senders to have. */
+uint32_t nurrispane_version(void);
+uint32_t nurrispane_card_octets(void);
+uint32_t nurrispane_senders_octets(void);
 
 /*
- * One event: the card after it, with its answer. `kind`, `time`, `input` and `argument` may be any
- * numbers. `frame` is looked at for NURRISPANE_EVENT_FRAME alone: the received frame from its
- * destination address on, without FCS. A refused event has its number in `answer.number`; the five
- * other values of the answer are always those of the card that is handed out.
+ * Makes a card fresh, whatever it held: time 0, quality mode on, no switch, nothing selected; each
+ * input a line with priority 0, hold-off 300 ms, wait 5 minutes, sending on, its signal failing. Its
+ * answer is that of an accepted event on such a state: 00 ff 00 04 00 ff.
  */
-struct nurrispane_card nurrispane_step(struct nurrispane_card card, uint8_t kind, uint64_t time,
-                                       uint8_t input, uint16_t argument, const uint8_t *frame,
-                                       size_t frame_length);
+void nurrispane_fresh(struct nurrispane_card *card);
 
-/* The same in place: `*card` becomes what nurrispane_step() hands out, also where it refuses. */
-void nurrispane_step_in_place(struct nurrispane_card *card, uint8_t kind, uint64_t time,
-                              uint8_t input, uint16_t argument, const uint8_t *frame,
-                              size_t frame_length);
+/*
+ * One event: `*card` becomes the card after it, with its answer, also where it is refused. `kind`,
+ * `time`, `input` and `argument` may be any numbers. `frame` is looked at for
+ * NURRISPANE_EVENT_FRAME alone: the received frame from its destination address on, without FCS. A
+ * refused event has its number in `answer.number`; the five other values of the answer are always
+ * those of the card as it is left.
+ */
+void nurrispane_step(struct nurrispane_card *card, uint8_t kind, uint64_t time, uint8_t input,
+                     uint16_t argument, const uint8_t *frame, uint64_t frame_length);
+
+/*
+ * When something is next due: the end of a hold-off, of a wait or of a frame's five seconds. Later
+ * than the card's time; NURRISPANE_NEVER where nothing is, if no event comes. Until then a tick
+ * changes no answer and no outgoing code, so firmware may sleep that long. A time at or above 2^48
+ * cannot be reached by a tick.
+ */
+uint64_t nurrispane_next_due(const struct nurrispane_card *card);
 
 /*
  * The codes that go out of the sixteen ports, for lines as well as for frames: 15, do not use, if
  * quality mode is off, if the port's sending is off, or if it is the selected input; otherwise the
  * code of the clock quality.
  */
-struct nurrispane_codes nurrispane_outgoing_codes(struct nurrispane_card card);
+void nurrispane_outgoing_codes(const struct nurrispane_card *card, struct nurrispane_codes *codes);
 
 /*
  * Reads a received frame, from its destination address on, without FCS, for whoever wants to know
  * who sent it. A step reads the frame that it is lent by itself, and records its code alone.
  */
-struct nurrispane_frame nurrispane_read_frame(const uint8_t *frame, size_t frame_length);
+void nurrispane_read_frame(const uint8_t *frame, uint64_t frame_length,
+                           struct nurrispane_frame *told);
 
 /*
  * Writes the ESMC frame that tells `port`'s outgoing code into the first 60 octets of `buffer`,
@@ -304,12 +343,12 @@ struct nurrispane_frame nurrispane_read_frame(const uint8_t *frame, size_t frame
  * NURRISPANE_REFUSED_INPUT_OUT_OF_RANGE for a port above 15, NURRISPANE_REFUSED_SOURCE_NOT_SIX,
  * NURRISPANE_REFUSED_BUFFER_TOO_SHORT.
  */
-uint8_t nurrispane_write_frame(struct nurrispane_card card, uint8_t port, uint8_t event,
-                               const uint8_t *source, size_t source_length, uint8_t *buffer,
-                               size_t buffer_length);
+uint32_t nurrispane_write_frame(const struct nurrispane_card *card, uint8_t port, uint8_t event,
+                                const uint8_t *source, uint64_t source_length, uint8_t *buffer,
+                                uint64_t buffer_length);
 
-/* Fresh senders: nothing sent, nothing asked, no frame answered. */
-struct nurrispane_senders nurrispane_fresh_senders(void);
+/* Makes the senders fresh, whatever they held: nothing sent, nothing asked, no frame answered. */
+void nurrispane_fresh_senders(struct nurrispane_senders *senders);
 
 /*
  * Asks `port`'s sender at a time whether a frame is to be sent, with the card as it stands; the
@@ -326,9 +365,9 @@ struct nurrispane_senders nurrispane_fresh_senders(void);
  * NURRISPANE_REFUSED_INPUT_OUT_OF_RANGE for a port above 15, NURRISPANE_REFUSED_BUFFER_TOO_SHORT,
  * NURRISPANE_REFUSED_SOURCE_NOT_SIX.
  */
-void nurrispane_ask_in_place(struct nurrispane_senders *senders, struct nurrispane_card card,
-                             uint8_t port, uint64_t time, const uint8_t *source,
-                             size_t source_length, uint8_t *buffer, size_t buffer_length);
+void nurrispane_ask(struct nurrispane_senders *senders, const struct nurrispane_card *card,
+                    uint8_t port, uint64_t time, const uint8_t *source, uint64_t source_length,
+                    uint8_t *buffer, uint64_t buffer_length);
 
 /* The layout that the library was built with. */
 NURRISPANE_HOLDS(sizeof(struct nurrispane_input) == 40);
@@ -371,7 +410,7 @@ NURRISPANE_HOLDS(offsetof(struct nurrispane_card, selection) == 652);
 NURRISPANE_HOLDS(offsetof(struct nurrispane_card, selected) == 653);
 NURRISPANE_HOLDS(offsetof(struct nurrispane_card, answer) == 654);
 NURRISPANE_HOLDS(offsetof(struct nurrispane_card, served) == 660);
-NURRISPANE_HOLDS(NURRISPANE_ALIGNMENT(struct nurrispane_card) == 8);
+NURRISPANE_ALIGNED(struct nurrispane_card, 8);
 NURRISPANE_HOLDS(sizeof(struct nurrispane_codes) == 16);
 NURRISPANE_HOLDS(sizeof(struct nurrispane_frame) == 9);
 NURRISPANE_HOLDS(offsetof(struct nurrispane_frame, number) == 0);
@@ -387,10 +426,12 @@ NURRISPANE_HOLDS(sizeof(struct nurrispane_senders) == 1544);
 NURRISPANE_HOLDS(offsetof(struct nurrispane_senders, ports) == 0);
 NURRISPANE_HOLDS(offsetof(struct nurrispane_senders, number) == 1536);
 NURRISPANE_HOLDS(offsetof(struct nurrispane_senders, frame) == 1540);
-NURRISPANE_HOLDS(NURRISPANE_ALIGNMENT(struct nurrispane_senders) == 8);
+NURRISPANE_ALIGNED(struct nurrispane_senders, 8);
 
 #undef NURRISPANE_HOLDS
-#undef NURRISPANE_ALIGNMENT
+#undef NURRISPANE_ALIGNED
+#undef NURRISPANE_NAME
+#undef NURRISPANE_PASTED
 #ifdef __cplusplus
 }
 #endif

@@ -1,12 +1,14 @@
 /*
- * Holds the library to include/nurrispane.h: every field lies where the header says, the two forms
- * of a step agree, a refusal keeps what it must, any card is safe, frames are written as they are
- * read and read as they are written, senders answer as document 02 says, and no call takes more
- * stack than the header says. tests/card builds and runs it.
+ * Holds the library to include/nurrispane.h: it is the header's, every field lies where the header
+ * says, a refusal keeps what it must, any card is safe and answers in range, a frame is looked at for
+ * a frame event alone, what is next due is next due, frames are written as they are read and read as
+ * they are written, senders answer as document 02 says, and no call takes more stack than the header
+ * says. tests/card builds and runs it.
  */
 #include <stdio.h>
 #include <stdlib.h>
 #include <string.h>
+#include <sys/mman.h>
 #include <ucontext.h>
 
 #include "nurrispane.h"
@@ -55,8 +57,9 @@ static void check_fresh(void)
 {
     struct nurrispane_card card;
 
+    CHECK(NURRISPANE_BELONGS());
     memset(&card, 0xa5, sizeof card);
-    card = nurrispane_fresh();
+    nurrispane_fresh(&card);
     for (int i = 0; i < NURRISPANE_INPUTS; i++) {
         const struct nurrispane_input *input = &card.inputs[i];
 
@@ -82,14 +85,33 @@ static void check_fresh(void)
 
 static struct nurrispane_card card;
 
-/* An event in place, and by value beside it. */
 static void event(uint8_t kind, uint64_t time, uint8_t input, uint16_t argument)
 {
-    struct nurrispane_card next =
-        nurrispane_step(card, kind, time, input, argument, NURRISPANE_NO_FRAME, 0);
+    nurrispane_step(&card, kind, time, input, argument, NURRISPANE_NO_FRAME, 0);
+}
 
-    nurrispane_step_in_place(&card, kind, time, input, argument, NURRISPANE_NO_FRAME, 0);
-    CHECK(same(&card, &next));
+static struct nurrispane_card fresh(void)
+{
+    struct nurrispane_card made;
+
+    nurrispane_fresh(&made);
+    return made;
+}
+
+static struct nurrispane_codes outgoing_codes(const struct nurrispane_card *of)
+{
+    struct nurrispane_codes codes;
+
+    nurrispane_outgoing_codes(of, &codes);
+    return codes;
+}
+
+static struct nurrispane_frame read_frame(const uint8_t *frame, size_t length)
+{
+    struct nurrispane_frame told;
+
+    nurrispane_read_frame(frame, length, &told);
+    return told;
 }
 
 /* Each field is led to a value that no other has, so that two exchanged would be noticed. */
@@ -98,8 +120,9 @@ static void check_fields(void)
     static const uint8_t source[NURRISPANE_SOURCE_OCTETS] = {0x02, 0, 0, 0, 0, 1};
     uint8_t frame[NURRISPANE_FRAME_OCTETS];
     const struct nurrispane_input *line = &card.inputs[3], *ethernet = &card.inputs[9];
+    struct nurrispane_card other;
 
-    card = nurrispane_fresh();
+    nurrispane_fresh(&card);
     event(NURRISPANE_EVENT_PRIORITY, 10, 3, 7);
     event(NURRISPANE_EVENT_HOLDOFF, 20, 3, 1800);
     event(NURRISPANE_EVENT_WAIT, 30, 3, 12);
@@ -129,9 +152,10 @@ static void check_fields(void)
     event(NURRISPANE_EVENT_PRIORITY, 2200, 9, 2);
     CHECK(ethernet->ethernet == 1 && ethernet->signal == 1 && ethernet->priority == 2);
     /* a fresh card tells SEC: the frame says 4 */
-    CHECK(nurrispane_write_frame(nurrispane_fresh(), 0, 1, source, sizeof source, frame,
-                                 sizeof frame) == NURRISPANE_ACCEPTED);
-    nurrispane_step_in_place(&card, NURRISPANE_EVENT_FRAME, 2345, 9, 0, frame, sizeof frame);
+    other = fresh();
+    CHECK(nurrispane_write_frame(&other, 0, 1, source, sizeof source, frame, sizeof frame) ==
+          NURRISPANE_ACCEPTED);
+    nurrispane_step(&card, NURRISPANE_EVENT_FRAME, 2345, 9, 0, frame, sizeof frame);
     CHECK(card.answer.number == NURRISPANE_ACCEPTED);
     CHECK(ethernet->framed == 2345 && ethernet->start == 2345 && ethernet->frame == 4);
     CHECK(ethernet->line == 7 && ethernet->good == 4 && ethernet->up == 0);
@@ -163,7 +187,7 @@ static void check_fields(void)
 static int says(const uint8_t *frame, size_t length, uint8_t number, uint8_t code, int event,
                 const uint8_t *source)
 {
-    struct nurrispane_frame read = nurrispane_read_frame(frame, length);
+    struct nurrispane_frame read = read_frame(frame, length);
 
     return read.number == number && read.code == code && read.event == event &&
            memcmp(read.source, source, NURRISPANE_SOURCE_OCTETS) == 0;
@@ -223,15 +247,15 @@ static void check_frames(void)
     struct nurrispane_codes outgoing;
 
     memset(kept, 0xa5, sizeof kept);
-    card = nurrispane_fresh();
+    nurrispane_fresh(&card);
     event(NURRISPANE_EVENT_SENDING, 5, 6, 0);
-    outgoing = nurrispane_outgoing_codes(card);
+    outgoing = outgoing_codes(&card);
     for (unsigned port = 0; port < 256; port++) {
         for (unsigned flag = 0; flag < 3; flag++) {
-            uint8_t number;
+            uint32_t number;
 
             memcpy(buffer, kept, sizeof buffer);
-            number = nurrispane_write_frame(card, (uint8_t)port, (uint8_t)(flag * 100), source, 6,
+            number = nurrispane_write_frame(&card, (uint8_t)port, (uint8_t)(flag * 100), source, 6,
                                             buffer, sizeof buffer);
             if (port >= NURRISPANE_INPUTS) {
                 CHECK(number == NURRISPANE_REFUSED_INPUT_OUT_OF_RANGE);
@@ -253,10 +277,10 @@ static void check_frames(void)
         }
     }
     memcpy(buffer, kept, sizeof buffer);
-    CHECK(nurrispane_write_frame(card, 16, 0, source, 5, buffer, 59) ==
+    CHECK(nurrispane_write_frame(&card, 16, 0, source, 5, buffer, 59) ==
           NURRISPANE_REFUSED_INPUT_OUT_OF_RANGE);
     for (size_t length = 0; length < 10; length++)
-        CHECK(nurrispane_write_frame(card, 1, 0, head, length, buffer, length == 6 ? 59 : 20) ==
+        CHECK(nurrispane_write_frame(&card, 1, 0, head, length, buffer, length == 6 ? 59 : 20) ==
               (length == 6 ? NURRISPANE_REFUSED_BUFFER_TOO_SHORT
                            : NURRISPANE_REFUSED_SOURCE_NOT_SIX));
     CHECK(memcmp(buffer, kept, sizeof buffer) == 0);
@@ -290,7 +314,7 @@ static struct call any_call(const struct nurrispane_card *from)
     call.frame_length = 0;
     if (call.kind == NURRISPANE_EVENT_FRAME) {
         memset(call.frame, 0, sizeof call.frame);
-        CHECK(nurrispane_write_frame(*from, call.input % 16, (uint8_t)below(2), source, 6,
+        CHECK(nurrispane_write_frame(from, call.input % 16, (uint8_t)below(2), source, 6,
                                      call.frame, sizeof call.frame) == NURRISPANE_ACCEPTED);
         call.frame[27] = (uint8_t)arguments[below(11)];
         call.frame_length = below(20) ? 60 + below(21) : below(81);
@@ -304,26 +328,52 @@ static struct call any_call(const struct nurrispane_card *from)
 
 static struct nurrispane_card stepped(struct nurrispane_card from, const struct call *call)
 {
-    return nurrispane_step(from, call->kind, call->time, call->input, call->argument, call->frame,
-                           call->frame_length);
+    nurrispane_step(&from, call->kind, call->time, call->input, call->argument, call->frame,
+                    call->frame_length);
+    return from;
+}
+
+/* Until what is next due a tick changes no answer and no code; there it serves something. */
+static void check_due(uint64_t due)
+{
+    struct nurrispane_card early = card, there = card;
+    struct nurrispane_codes codes = outgoing_codes(&card), then;
+    uint64_t most = due < (uint64_t)1 << 48 ? due - 1 : ((uint64_t)1 << 48) - 1;
+
+    CHECK(due > card.time);
+    nurrispane_step(&early, NURRISPANE_EVENT_TICK, most, 0, 0, NURRISPANE_NO_FRAME, 0);
+    then = outgoing_codes(&early);
+    CHECK(early.answer.number == NURRISPANE_ACCEPTED && early.served == 0);
+    CHECK(memcmp(&early.answer.selected, &card.answer.selected, 5) == 0);
+    CHECK(memcmp(&codes, &then, sizeof codes) == 0);
+    early.time = card.time;
+    early.answer = card.answer;
+    early.served = card.served;
+    CHECK(same(&early, &card));
+    if (due >> 48)
+        return;
+    nurrispane_step(&there, NURRISPANE_EVENT_TICK, due, 0, 0, NURRISPANE_NO_FRAME, 0);
+    CHECK(there.answer.number == NURRISPANE_ACCEPTED && there.served == 1);
 }
 
 static void check_events(void)
 {
     unsigned long numbers[20] = {0};
 
-    card = nurrispane_fresh();
+    nurrispane_fresh(&card);
     for (int i = 0; i < RANDOM_EVENTS; i++) {
         struct call call = any_call(&card);
-        struct nurrispane_card before = card, next = stepped(card, &call);
+        struct nurrispane_card before = card;
+        uint64_t due = nurrispane_next_due(&card);
 
-        nurrispane_step_in_place(&card, call.kind, call.time, call.input, call.argument,
-                                 call.frame, call.frame_length);
-        CHECK(same(&card, &next));
+        check_due(due);
+        card = stepped(card, &call);
         CHECK(card.answer.number < 18);
         if (card.answer.number >= 8 && card.answer.number <= 13)
-            CHECK(nurrispane_read_frame(call.frame, call.frame_length).number ==
-                  card.answer.number);
+            CHECK(read_frame(call.frame, call.frame_length).number == card.answer.number);
+        /* something is served exactly where its time has come */
+        if (card.answer.number == NURRISPANE_ACCEPTED || card.answer.number >= 14)
+            CHECK((card.served > 0) == (due <= card.time));
         numbers[card.answer.number]++;
         if (card.answer.number >= 2 && card.answer.number <= 13) {
             CHECK(card.served == 0);
@@ -337,7 +387,7 @@ static void check_events(void)
         CHECK(card.switch_kind == card.answer.switch_kind);
         CHECK(card.switch_input == card.answer.switch_input);
         if (card.time > 0xf00000000000)
-            card = nurrispane_fresh();
+            nurrispane_fresh(&card);
     }
     for (int number = 2; number < 18; number++)
         CHECK(numbers[number] > 0);
@@ -347,19 +397,16 @@ static void check_events(void)
 static void check_cards(void)
 {
     for (int i = 0; i < RANDOM_CARDS; i++) {
-        struct nurrispane_card wild, next, place;
+        struct nurrispane_card wild, next;
         struct nurrispane_codes outgoing;
         struct call call;
 
         for (size_t at = 0; at < sizeof wild; at++)
             ((uint8_t *)&wild)[at] = (uint8_t)(below(3) ? below(20) : below(256));
         call = any_call(&wild);
-        place = wild;
         next = stepped(wild, &call);
-        nurrispane_step_in_place(&place, call.kind, call.time, call.input, call.argument,
-                                 call.frame, call.frame_length);
-        CHECK(same(&place, &next));
-        outgoing = nurrispane_outgoing_codes(wild);
+        nurrispane_next_due(&wild);
+        outgoing = outgoing_codes(&wild);
         for (int port = 0; port < NURRISPANE_INPUTS; port++) {
             const struct nurrispane_input *input = &next.inputs[port];
 
@@ -368,8 +415,32 @@ static void check_cards(void)
             CHECK(input->signal < 2 && input->failed < 2 && input->up < 2);
         }
         CHECK(next.mode < 2 && next.held < 2 && next.selection < 2 && next.served <= 48);
-        CHECK(next.switch_kind < 3);
+        CHECK(next.switch_kind < 3 && next.answer.switch_kind < 3 && next.answer.clock_state < 3);
+        CHECK(next.answer.selected < 16 || next.answer.selected == NURRISPANE_NO_INPUT);
+        CHECK(next.answer.switch_input < 16 || next.answer.switch_input == NURRISPANE_NO_INPUT);
+        CHECK(next.selected == next.answer.selected);
+        CHECK(next.switch_input == next.answer.switch_input);
     }
+}
+
+/* A frame is looked at for a frame event alone: here it lies where reading faults. */
+static void check_unread(void)
+{
+    uint8_t *nowhere = mmap(NULL, 4096, PROT_NONE, MAP_PRIVATE | MAP_ANONYMOUS, -1, 0);
+
+    CHECK(nowhere != MAP_FAILED);
+    for (unsigned kind = 0; kind < 256; kind++) {
+        struct nurrispane_card one = fresh(), other = fresh();
+
+        if (kind == NURRISPANE_EVENT_FRAME)
+            continue;
+        for (uint64_t time = 0; time < 3; time++) {
+            nurrispane_step(&one, (uint8_t)kind, time, 0, 1, nowhere, 60 + 1000 * time);
+            nurrispane_step(&other, (uint8_t)kind, time, 0, 1, NURRISPANE_NO_FRAME, 0);
+            CHECK(same(&one, &other));
+        }
+    }
+    munmap(nowhere, 4096);
 }
 
 /* ---- senders, against the words of document 02: every frame ever sent is kept and looked at */
@@ -418,9 +489,11 @@ static void check_senders(void)
 {
     static const uint8_t sources[8] = {2, 0, 0, 9, 9, 1, 7, 7};
     unsigned long numbers[20] = {0}, frames[3] = {0};
-    struct nurrispane_senders senders = nurrispane_fresh_senders();
+    struct nurrispane_senders senders;
     uint64_t time = 0;
 
+    memset(&senders, 0xa5, sizeof senders);
+    nurrispane_fresh_senders(&senders);
     for (int i = 0; i < NURRISPANE_INPUTS; i++) {
         for (int at = 0; at < 10; at++)
             CHECK(senders.ports[i].times[at] == 0);
@@ -429,7 +502,7 @@ static void check_senders(void)
     }
     CHECK(senders.number == NURRISPANE_ACCEPTED && senders.frame == NURRISPANE_HEARTBEAT_NOTHING);
 
-    card = nurrispane_fresh();
+    nurrispane_fresh(&card);
     for (int i = 0; i < RANDOM_QUESTIONS; i++) {
         struct nurrispane_senders before;
         uint8_t buffer[80], kept[80], wanted[80];
@@ -447,17 +520,17 @@ static void check_senders(void)
         time += below(3) ? below(120) : below(2) ? below(4) : below(1100);
         at = below(30) ? time : below(2) ? time - (time < 50 ? 0 : below(50)) : random_number();
         number = number_due(port, at, source, room);
-        code = port < 16 ? nurrispane_outgoing_codes(card).codes[port] : 0;
+        code = port < 16 ? outgoing_codes(&card).codes[port] : 0;
         frame = number == NURRISPANE_ACCEPTED ? frame_due(port, at, code) : 0;
         for (size_t o = 0; o < sizeof kept; o++)
             kept[o] = (uint8_t)below(256);
         memcpy(buffer, kept, sizeof buffer);
         memcpy(wanted, kept, sizeof wanted);
         if (frame)
-            CHECK(nurrispane_write_frame(card, (uint8_t)port, frame == NURRISPANE_HEARTBEAT_EVENT,
+            CHECK(nurrispane_write_frame(&card, (uint8_t)port, frame == NURRISPANE_HEARTBEAT_EVENT,
                                          sources, source, wanted, room) == NURRISPANE_ACCEPTED);
         before = senders;
-        nurrispane_ask_in_place(&senders, card, (uint8_t)port, at, sources, source, buffer, room);
+        nurrispane_ask(&senders, &card, (uint8_t)port, at, sources, source, buffer, room);
         CHECK(senders.number == number && senders.frame == frame);
         CHECK(memcmp(buffer, wanted, sizeof buffer) == 0);
         numbers[number]++;
@@ -476,10 +549,10 @@ static void check_senders(void)
         if (at > time)
             time = at;
         if (time >> 47) {
-            senders = nurrispane_fresh_senders();
+            nurrispane_fresh_senders(&senders);
             memset(sent_count, 0, sizeof sent_count);
             memset(asked, 0, sizeof asked);
-            card = nurrispane_fresh();
+            nurrispane_fresh(&card);
             time = 0;
         }
     }
@@ -495,8 +568,8 @@ static void check_senders(void)
             ((uint8_t *)&wild)[at] = (uint8_t)below(256);
         for (size_t at = 0; at < sizeof senders; at++)
             ((uint8_t *)&senders)[at] = (uint8_t)(below(3) ? below(20) : below(256));
-        nurrispane_ask_in_place(&senders, wild, (uint8_t)below(18), random_number() >> below(64),
-                                sources, 6, buffer, sizeof buffer);
+        nurrispane_ask(&senders, &wild, (uint8_t)below(18), random_number() >> below(64), sources, 6,
+                       buffer, sizeof buffer);
         CHECK(senders.number < 20 && senders.frame < 3);
     }
 }
@@ -513,6 +586,7 @@ static struct nurrispane_card stack_card;
 static struct nurrispane_codes stack_codes;
 static struct nurrispane_frame stack_read;
 static struct nurrispane_senders stack_senders;
+static uint64_t stack_due;
 static uint8_t stack_frame[NURRISPANE_FRAME_OCTETS];
 
 static void run_nothing(void)
@@ -521,45 +595,44 @@ static void run_nothing(void)
 
 static void run_fresh(void)
 {
-    stack_card = nurrispane_fresh();
+    nurrispane_fresh(&stack_card);
 }
 
 static void run_step(void)
 {
-    stack_card = nurrispane_step(card, stack_call.kind, stack_call.time, stack_call.input,
-                                 stack_call.argument, stack_call.frame, stack_call.frame_length);
+    nurrispane_step(&stack_card, stack_call.kind, stack_call.time, stack_call.input,
+                    stack_call.argument, stack_call.frame, stack_call.frame_length);
 }
 
-static void run_step_in_place(void)
+static void run_due(void)
 {
-    nurrispane_step_in_place(&stack_card, stack_call.kind, stack_call.time, stack_call.input,
-                             stack_call.argument, stack_call.frame, stack_call.frame_length);
+    stack_due = nurrispane_next_due(&card);
 }
 
 static void run_codes(void)
 {
-    stack_codes = nurrispane_outgoing_codes(card);
+    nurrispane_outgoing_codes(&card, &stack_codes);
 }
 
 static void run_read(void)
 {
-    stack_read = nurrispane_read_frame(stack_call.frame, stack_call.frame_length);
+    nurrispane_read_frame(stack_call.frame, stack_call.frame_length, &stack_read);
 }
 
 static void run_write(void)
 {
-    nurrispane_write_frame(card, 1, 0, stack_call.frame, 6, stack_frame, sizeof stack_frame);
+    nurrispane_write_frame(&card, 1, 0, stack_call.frame, 6, stack_frame, sizeof stack_frame);
 }
 
 static void run_fresh_senders(void)
 {
-    stack_senders = nurrispane_fresh_senders();
+    nurrispane_fresh_senders(&stack_senders);
 }
 
 static void run_ask(void)
 {
-    nurrispane_ask_in_place(&stack_senders, card, 1, stack_call.time, stack_call.frame, 6,
-                            stack_frame, sizeof stack_frame);
+    nurrispane_ask(&stack_senders, &card, 1, stack_call.time, stack_call.frame, 6, stack_frame,
+                   sizeof stack_frame);
 }
 
 static size_t stack_of(void (*run)(void))
@@ -585,16 +658,16 @@ static void check_stack(void)
         void (*run)(void);
     } runs[] = {{"fresh", run_fresh},
                 {"step", run_step},
-                {"step_in_place", run_step_in_place},
+                {"next_due", run_due},
                 {"outgoing_codes", run_codes},
                 {"read_frame", run_read},
                 {"write_frame", run_write},
                 {"fresh_senders", run_fresh_senders},
-                {"ask_in_place", run_ask}};
+                {"ask", run_ask}};
     enum { RUNS = sizeof runs / sizeof *runs };
     size_t most[RUNS] = {0}, nothing = stack_of(run_nothing);
 
-    card = nurrispane_fresh();
+    nurrispane_fresh(&card);
     for (int i = 0; i < 2000; i++) {
         stack_call = any_call(&card);
         for (int r = 0; r < RUNS; r++) {
@@ -623,6 +696,7 @@ int main(void)
     check_frames();
     check_events();
     check_cards();
+    check_unread();
     check_senders();
     check_stack();
     printf("sizes: card %zu, input %zu, answer %zu, codes %zu, frame %zu, senders %zu, "

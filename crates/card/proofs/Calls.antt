@@ -1,40 +1,56 @@
 -- A selector comes back from its numbers, so calls in a row are steps in a row. Assumes nothing.
-use Prim.Native.Nat.{ℕ, _≤_}
+use Prim.Native.Nat.{ℕ, _+_, _-_, _≤_, _<_}
 use mathlib.Core.Bool.{Bool, true, false}
 use mathlib.Core.List.{List, [], _∷_, _++_, map}
 use mathlib.Core.Path.{_≡_, refl, sym, _∙_, ap, subst}
 use native.Mathlib.Omega.{arith}
 use lib.ListN.{getD, drop}
+use borrow.Author.Tests.{le-ltb}
+use Rattle.numbers.specs.Inputs.{lastInput, timeLimit}
 use Rattle.numbers.specs.Kind.{flag}
 use Rattle.numbers.specs.Refusal.{accepted}
+use Rattle.frame.specs.Read.{readCode}
 use Rattle.frame.specs.Write.{writtenLength, frameOctets}
 use Rattle.input.specs.declared.Input.{Input}
+use Rattle.input.specs.Recorded.{tickEvent}
 use Rattle.choice.specs.declared.Selection.{Selection}
 use Rattle.choice.specs.declared.Selection.the-variants as S
+use Rattle.choice.proofs.Choosing.{Inside}
 use Rattle.decision.specs.declared.Switch.{Switch}
 use Rattle.decision.specs.declared.Switch.the-variants as W
 use Rattle.selector.specs.declared.Selector.{Selector}
 use Rattle.selector.specs.Clock.{selectedNumber, switchNumber, switchInput}
 use Rattle.selector.specs.Answer.{answerOf, outgoingCodes}
 use Rattle.selector.proofs.Ports.{getD-ports}
-use Rattle.events.specs.Step.{step}
+use Rattle.due.specs.Next.{nextDue}
+use Rattle.due.proofs.Calm.{movedTo}
+use Rattle.due.proofs.Jump.{each-before}
+use Rattle.due.proofs.Right.{ticked-each}
+use Rattle.events.specs.declared.Stepped.{Stepped}
+use Rattle.events.specs.Step.{stepRead, step}
 use Rattle.events.specs.Given.{Given, Sequence}
 use Rattle.events.specs.Sequence.{stateAfter, numberAfter, countAfter}
 use Rattle.events.specs.Due.{mostDue}
-use Rattle.events.specs.Past.{pastOf}
+use Rattle.events.specs.NextDue.{NextRight}
+use Rattle.events.specs.Past.{pastOf, recorded}
 use Rattle.events.specs.Told.{answerBy, codeBy, codesBy}
 use Rattle.events.specs.Demand1.{tickAt}
 use Rattle.events.proofs.Happened.{happened}
-use Rattle.events.proofs.Demand1.{demand-1-events}
+use Rattle.events.proofs.Agrees.{step-accepted}
+use Rattle.events.proofs.Calm.{sequence-calm}
+use Rattle.events.proofs.Demand1.{tick-early, tick-state, demand-1-events}
+use Rattle.events.proofs.Laws.{lateRefusal-other}
+use Rattle.events.proofs.NextDue.{next-right}
 use Rattle.events.proofs.Demand2.{demand-2-answers}
 use Rattle.events.proofs.Demand3.{demand-3}
 use Rattle.events.proofs.Demand4.{demand-4}
 use Rattle.card.specs.declared.Card.{Card}
 use Rattle.card.specs.declared.CardAnswer.{CardAnswer}
 use Rattle.card.specs.Flat.{isSet, inputOf, flatInput, flatAnswer, switchOf, selectionOf, isSelected, selectorOf, cardOf}
-use Rattle.card.specs.Card.{freshCard, steppedCard, stepCard, cardCodes}
-use Rattle.card.specs.Calls.{called, cardAfter, latestNumber, latestCount, withNumber, latestBy, CardRight, Demand1Card, Demand2Card, Demand3Card, Demand4Card}
+use Rattle.card.specs.Card.{freshCard, steppedCard, readFor, stepCard, cardCodes, cardDue}
+use Rattle.card.specs.Calls.{called, cardAfter, latestNumber, latestCount, withNumber, latestBy, CardRight, Demand1Card, Demand2Card, Demand3Card, Demand4Card, NextDueCard}
 use Rattle.card.proofs.Ports.{port-written}
+use Rattle.card.proofs.Range.{On, Named, stepRead-readFor, sequence-named}
 
 -- ---- back from its numbers
 
@@ -50,26 +66,28 @@ inputs-back : (inputs : List Input) → map inputOf (map flatInput inputs) ≡ i
 inputs-back [] = refl
 inputs-back (input ∷ inputs) = rw (inputOf-flatInput input, inputs-back inputs)
 
-switchOf-back : (switch : Switch) → switchOf (switchNumber switch) (record { 0 = switchInput switch }) ≡ switch
+switchOf-back : (switch : Switch) → On switch
+    → switchOf (switchNumber switch) (record { 0 = switchInput switch }) ≡ switch
 unfolding switchOf switchNumber switchInput
-switchOf-back W.Nothing = refl
-switchOf-back (W.Forced on) = refl
-switchOf-back (W.Manual on) = refl
+switchOf-back W.Nothing on = refl
+switchOf-back (W.Forced number) on = rw (le-ltb lastInput (number .0) (omega arith))
+switchOf-back (W.Manual number) on = rw (le-ltb lastInput (number .0) (omega arith))
 
-selectionOf-back : (selection : Selection)
+selectionOf-back : (selection : Selection) → Inside selection
     → selectionOf (isSelected selection) (record { 0 = selectedNumber selection }) ≡ selection
 unfolding selectionOf isSelected selectedNumber
-selectionOf-back S.Nothing = refl
-selectionOf-back (S.At number) = refl
+selectionOf-back S.Nothing inside = refl
+selectionOf-back (S.At number) inside = rw (le-ltb lastInput (number .0) (omega arith))
 
 -- A selector as a card and back is that selector, whatever is answered beside it.
-pub selectorOf-cardOf : (number count : ℕ) (state : Selector) → selectorOf (cardOf number count state) ≡ state
+pub selectorOf-cardOf : (number count : ℕ) (state : Selector) → Named state
+    → selectorOf (cardOf number count state) ≡ state
 unfolding selectorOf cardOf
-selectorOf-cardOf number count state =
+selectorOf-cardOf number count state named =
     rw (
       inputs-back (state .inputs),
-      switchOf-back (state .switch),
-      selectionOf-back (state .selection),
+      switchOf-back (state .switch) (named .switch),
+      selectionOf-back (state .selection) (named .selection),
       isSet-flag (state .mode),
       isSet-flag (state .held),
     )
@@ -83,21 +101,26 @@ selectorOf-withNumber card number count = refl
 -- ---- calls in a row
 
 -- a call on the card of a selector is a step of that selector
-called-cardOf : (number count : ℕ) (state : Selector) (given : Given)
+called-cardOf : (number count : ℕ) (state : Selector) (given : Given) → Named state
     → called (cardOf number count state) given ≡ steppedCard (step state (given .event) (given .frame))
 unfolding stepCard
-called-cardOf number count state given =
-    ap (λ (held : Selector). steppedCard (step held (given .event) (given .frame))) (selectorOf-cardOf number count state)
+called-cardOf number count state given named =
+    ap
+    (λ (held : Selector). steppedCard (stepRead held (given .event) (readFor (given .event .kind) (given .frame))))
+    (selectorOf-cardOf number count state named)
+    ∙ ap steppedCard (stepRead-readFor state (given .event) (given .frame))
 
 cardAfter-whole : (sequence : Sequence)
     → cardAfter sequence ≡ cardOf (latestNumber sequence) (latestCount sequence) (stateAfter sequence)
 unfolding cardAfter stateAfter numberAfter countAfter latestNumber latestCount freshCard
 cardAfter-whole [] = refl
 cardAfter-whole (given ∷ earlier) =
-    ap (λ (card : Card). called card given) (cardAfter-whole earlier) ∙ called-cardOf _ _ (stateAfter earlier) given
+    ap (λ (card : Card). called card given) (cardAfter-whole earlier)
+    ∙ called-cardOf _ _ (stateAfter earlier) given (sequence-named earlier)
 
 cardAfter-state : (sequence : Sequence) → selectorOf (cardAfter sequence) ≡ stateAfter sequence
-cardAfter-state sequence = ap selectorOf (cardAfter-whole sequence) ∙ selectorOf-cardOf _ _ (stateAfter sequence)
+cardAfter-state sequence =
+    ap selectorOf (cardAfter-whole sequence) ∙ selectorOf-cardOf _ _ (stateAfter sequence) (sequence-named sequence)
 
 cardAfter-answer : (sequence : Sequence)
     → cardAfter sequence .answer ≡ flatAnswer (answerOf (latestNumber sequence) (stateAfter sequence))
@@ -217,4 +240,65 @@ demand-3-card sequence =
       selected = ap (λ (answer : CardAnswer). answer .selected) (cardAfter-answer sequence);
       switch = ap (λ (answer : CardAnswer). answer .switch) (cardAfter-answer sequence);
       on = ap (λ (answer : CardAnswer). answer .on) (cardAfter-answer sequence);
+    }
+
+-- ---- what is next due
+
+module _ (sequence : Sequence) (time : ℕ) (later : stateAfter sequence .time ≤ time) (below : time < timeLimit)
+    (before : time < nextDue (stateAfter sequence)) where
+  -- before it a tick moves the time alone
+  moved : stateAfter (tickAt time ∷ sequence) ≡ movedTo (stateAfter sequence) (stateAfter sequence .inputs) time
+  moved =
+      let state = stateAfter sequence in
+      let here : state .time + (time - state .time) ≡ time = omega arith in
+      tick-state sequence time later below
+      ∙ ticked-each state time (sequence-calm sequence) later (omega arith)
+      ∙ each-before state (sequence-calm sequence) (time - state .time) (omega (arith, here))
+      ∙ ap (movedTo state (state .inputs)) here
+
+  accepts : numberAfter (tickAt time) sequence ≡ accepted
+  unfolding numberAfter
+  accepts =
+      ap (λ (after : Stepped). after .number)
+      (step-accepted (stateAfter sequence) (tickEvent time) []
+      (tick-early (stateAfter sequence) time (readCode []) later below)
+      (sym (lateRefusal-other _ _ _ _ (λ k. omega arith) (λ k. omega arith))))
+
+  quiet-answer : cardAfter (tickAt time ∷ sequence) .answer ≡ withNumber (cardAfter sequence) accepted 0 .answer
+  unfolding answerOf latestNumber
+  quiet-answer =
+      cardAfter-answer (tickAt time ∷ sequence)
+      ∙ ap (λ (number : ℕ). flatAnswer (answerOf number (stateAfter (tickAt time ∷ sequence)))) accepts
+      ∙ ap (λ (state : Selector). flatAnswer (answerOf accepted state)) moved
+      ∙ sym
+      (ap
+      (λ (answer : CardAnswer). record {
+        number = accepted;
+        selected = answer .selected;
+        state = answer .state;
+        quality = answer .quality;
+        switch = answer .switch;
+        on = answer .on;
+      })
+      (cardAfter-answer sequence))
+
+  quiet-codes : outgoingCodes (selectorOf (cardAfter (tickAt time ∷ sequence))) ≡
+      outgoingCodes (selectorOf (cardAfter sequence))
+  unfolding outgoingCodes
+  quiet-codes =
+      ap outgoingCodes (cardAfter-state (tickAt time ∷ sequence))
+      ∙ ap outgoingCodes moved
+      ∙ sym (ap outgoingCodes (cardAfter-state sequence))
+
+-- L3 in C's hands, after every sequence of calls.
+pub next-due-card : (sequence : Sequence) → NextDueCard sequence
+unfolding cardDue cardCodes
+next-due-card sequence =
+    let due : nextDue (selectorOf (cardAfter sequence)) ≡ nextDue (stateAfter sequence) =
+    ap nextDue (cardAfter-state sequence) in
+    record {
+      next = subst (NextRight (recorded sequence)) (sym due) (next-right sequence);
+      answer = λ time later below before. quiet-answer sequence time later below (omega (arith, due));
+      codes = λ time later below before.
+          ap (λ (codes : List ℕ). record { codes = codes }) (quiet-codes sequence time later below (omega (arith, due)));
     }

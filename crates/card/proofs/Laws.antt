@@ -7,9 +7,12 @@ use lib.ListN.{getD}
 use borrow.Author.Tests.{eq-eqb, ne-eqb, lt-ltb, le-ltb}
 use Rattle.numbers.specs.declared.Answer.{Answer}
 use Rattle.numbers.specs.declared.InputNumber.{InputNumber}
-use Rattle.numbers.specs.Kind.{flag}
+use Rattle.numbers.specs.Kind.{flag, kindFrame}
 use Rattle.numbers.specs.Refusal.{inputOutOfRange}
+use Rattle.frame.specs.declared.FrameRead.{FrameRead}
+use Rattle.frame.specs.declared.FrameRead.the-variants.{Code}
 use Rattle.frame.specs.declared.FrameWrite.{FrameWrite}
+use Rattle.frame.specs.Read.{readCode}
 use Rattle.frame.specs.Write.{WriteFrame}
 use Rattle.choice.specs.declared.Selection.{Selection}
 use Rattle.choice.specs.declared.Selection.the-variants as S
@@ -21,37 +24,49 @@ use Rattle.numbers.specs.Inputs.{lastInput}
 use Rattle.card.specs.declared.Card.{Card}
 use Rattle.card.specs.declared.CardInput.{CardInput}
 use Rattle.card.specs.Flat.{flatInput, flatAnswer, switchOf, selectionOf, isSelected, selectorOf, cardOf}
-use Rattle.card.specs.Card.{portCode, numberOfWrite, WritePort}
+use Rattle.card.specs.Card.{readFor, portCode, numberOfWrite, WritePort}
 
 -- ---- switchOf
 
 module _ (kind : ℕ) (on : InputNumber) where
-  pub switchOf-forced : kind ≡ switchForced → W.Forced on ≡ switchOf kind on
+  pub switchOf-nowhere : lastInput < on .0 → W.Nothing ≡ switchOf kind on
   unfolding switchOf
-  switchOf-forced e = rw (eq-eqb _ _ e)
+  switchOf-nowhere p = rw (lt-ltb _ _ p)
 
-  pub switchOf-manual : (kind ≡ switchForced → ⊥) → kind ≡ switchManual → W.Manual on ≡ switchOf kind on
+  pub switchOf-forced : on .0 ≤ lastInput → kind ≡ switchForced → W.Forced on ≡ switchOf kind on
   unfolding switchOf
-  switchOf-manual n e = rw (ne-eqb _ _ n, eq-eqb _ _ e)
+  switchOf-forced p e = rw (le-ltb _ _ p, eq-eqb _ _ e)
 
-  pub switchOf-other : (kind ≡ switchForced → ⊥) → (kind ≡ switchManual → ⊥) → W.Nothing ≡ switchOf kind on
+  pub switchOf-manual :
+      on .0 ≤ lastInput → (kind ≡ switchForced → ⊥) → kind ≡ switchManual
+      → W.Manual on ≡ switchOf kind on
   unfolding switchOf
-  switchOf-other n m = rw (ne-eqb _ _ n, ne-eqb _ _ m)
+  switchOf-manual p n e = rw (le-ltb _ _ p, ne-eqb _ _ n, eq-eqb _ _ e)
 
-pub ruleset switchOf-laws = (switchOf-forced, switchOf-manual, switchOf-other)
+  pub switchOf-other :
+      on .0 ≤ lastInput → (kind ≡ switchForced → ⊥) → (kind ≡ switchManual → ⊥)
+      → W.Nothing ≡ switchOf kind on
+  unfolding switchOf
+  switchOf-other p n m = rw (le-ltb _ _ p, ne-eqb _ _ n, ne-eqb _ _ m)
+
+pub ruleset switchOf-laws = (switchOf-nowhere, switchOf-forced, switchOf-manual, switchOf-other)
 
 -- ---- selectionOf, isSelected
 
 module _ (selection : ℕ) (number : InputNumber) where
-  pub selectionOf-nothing : selection ≡ 0 → S.Nothing ≡ selectionOf selection number
+  pub selectionOf-nowhere : lastInput < number .0 → S.Nothing ≡ selectionOf selection number
   unfolding selectionOf
-  selectionOf-nothing e = rw (eq-eqb _ _ e)
+  selectionOf-nowhere p = rw (lt-ltb _ _ p)
 
-  pub selectionOf-at : (selection ≡ 0 → ⊥) → S.At number ≡ selectionOf selection number
+  pub selectionOf-nothing : number .0 ≤ lastInput → selection ≡ 0 → S.Nothing ≡ selectionOf selection number
   unfolding selectionOf
-  selectionOf-at n = rw (ne-eqb _ _ n)
+  selectionOf-nothing p e = rw (le-ltb _ _ p, eq-eqb _ _ e)
 
-pub ruleset selectionOf-laws = (selectionOf-nothing, selectionOf-at)
+  pub selectionOf-at : number .0 ≤ lastInput → (selection ≡ 0 → ⊥) → S.At number ≡ selectionOf selection number
+  unfolding selectionOf
+  selectionOf-at p n = rw (le-ltb _ _ p, ne-eqb _ _ n)
+
+pub ruleset selectionOf-laws = (selectionOf-nowhere, selectionOf-nothing, selectionOf-at)
 
 module _ (selection : Selection) where
   pub isSelected-nothing : selection ≡ S.Nothing → 0 ≡ isSelected selection
@@ -88,11 +103,26 @@ pub cardOf-answered : (number count : ℕ) (state : Selector) (flat : List CardI
 unfolding cardOf answerOf
 cardOf-answered number count state flat selection answer f s a = rw (f, s, a)
 
+-- ---- readFor
+
+module _ (kind : ℕ) (frame : List ℕ) where
+  pub readFor-frame : (read : FrameRead) → kind ≡ kindFrame → read ≡ readCode frame → read ≡ readFor kind frame
+  unfolding readFor
+  readFor-frame read e r = rw (eq-eqb _ _ e, r)
+
+  pub readFor-other : (kind ≡ kindFrame → ⊥) → Code 0 ≡ readFor kind frame
+  unfolding readFor
+  readFor-other n = rw (ne-eqb _ _ n)
+
+pub ruleset readFor-laws = (readFor-frame, readFor-other)
+
 -- ---- WritePort
 
 module _ (card : Card) (port : ℕ) (event : Bool) (source before : List ℕ) where
-  pub writePort-no-port : lastInput < port → WritePort card port event source before inputOutOfRange before
-  writePort-no-port p = record { answered = rw (lt-ltb _ _ p); content = rw (lt-ltb _ _ p) }
+  pub writePort-no-port :
+      (answer : ℕ) → lastInput < port → answer ≡ inputOutOfRange
+      → WritePort card port event source before answer before
+  writePort-no-port answer p a = record { answered = rw (lt-ltb _ _ p, a); content = rw (lt-ltb _ _ p) }
 
   pub writePort-port : (state : Selector) (codes : List ℕ) (written : FrameWrite) (answer : ℕ) (after : List ℕ)
       → port ≤ lastInput → state ≡ selectorOf card → codes ≡ outgoingCodes state

@@ -1,28 +1,44 @@
--- What each function that C calls answers and leaves, by the selector's own definitions. Cited by `src/lib.rt`.
+-- What each function that C calls answers and leaves, by the selector's own definitions. Cited by `src/lib.rt` and
+-- `src/exports.rt`.
 -- Assumes nothing.
 use Prim.Native.Nat.{ℕ}
 use mathlib.Core.Bool.{Bool, cond}
 use mathlib.Core.List.{List}
 use mathlib.Core.Path.{_≡_}
-use lib.Dec.{ltb}
+use lib.Dec.{eqb, ltb}
 use Rattle.numbers.specs.declared.Event.{Event}
 use Rattle.numbers.specs.Inputs.{lastInput}
-use Rattle.numbers.specs.Kind.{flag}
+use Rattle.numbers.specs.Kind.{flag, kindFrame}
 use Rattle.numbers.specs.Refusal.{accepted, inputOutOfRange}
 use Rattle.frame.specs.declared.FrameMessage.{FrameMessage}
+use Rattle.frame.specs.declared.FrameRead.{FrameRead}
+use Rattle.frame.specs.declared.FrameRead.the-variants.{Code}
 use Rattle.frame.specs.declared.FrameWrite.{FrameWrite}
 use Rattle.frame.specs.declared.FrameWrite.the-variants.{Written, Refused}
-use Rattle.frame.specs.Read.{numberOfRead, codeOfRead, readFrame}
+use Rattle.frame.specs.Read.{numberOfRead, codeOfRead, readCode, readFrame}
 use Rattle.frame.specs.Write.{writeAnswer, contentAfter}
 use Rattle.selector.specs.State.{freshSelector}
 use Rattle.selector.specs.Answer.{outgoingCodes}
 use Rattle.events.specs.declared.Stepped.{Stepped}
-use Rattle.events.specs.Step.{step}
+use Rattle.due.specs.Next.{nextDue}
+use Rattle.events.specs.Step.{stepRead}
 use Rattle.sender.specs.Heartbeat.{codeOfPort}
 use Rattle.card.specs.declared.Card.{Card}
 use Rattle.card.specs.declared.CardCodes.{CardCodes}
 use Rattle.card.specs.declared.CardFrame.{CardFrame}
 use Rattle.card.specs.Flat.{selectorOf, cardOf}
+
+-- the header's version
+abbrev pub version : ℕ
+version = 1
+
+-- how long a card is in C
+abbrev pub cardOctets : ℕ
+cardOctets = 664
+
+-- how long the senders are in C
+abbrev pub sendersOctets : ℕ
+sendersOctets = 1544
 
 -- "The selector starts at time 0, quality mode on, no switch, nothing selected"
 unfoldable pub freshCard : Card
@@ -36,10 +52,18 @@ eventOf kind time input argument = record { kind = kind; time = time; input = in
 abbrev pub steppedCard : Stepped → Card
 steppedCard stepped = cardOf (stepped .number) (stepped .count) (stepped .state)
 
+-- what a lent frame says to an event: it is looked at for a frame event alone
+unfoldable pub readFor : ℕ → List ℕ → FrameRead
+readFor kind frame = cond (eqb kind kindFrame) (readCode frame) (Code 0)
+
 -- the card after one event with a lent frame, with its answer
 unfoldable pub stepCard : Card → ℕ → ℕ → ℕ → ℕ → List ℕ → Card
 stepCard card kind time input argument frame =
-    steppedCard (step (selectorOf card) (eventOf kind time input argument) frame)
+    steppedCard (stepRead (selectorOf card) (eventOf kind time input argument) (readFor kind frame))
+
+-- document 02, L3: when something is next due; 2^64 - 1 where nothing ever is
+unfoldable pub cardDue : Card → ℕ
+cardDue card = nextDue (selectorOf card)
 
 -- "Outgoing code, for each of the sixteen ports"
 unfoldable pub cardCodes : Card → CardCodes

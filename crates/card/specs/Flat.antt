@@ -3,9 +3,10 @@
 use Prim.Native.Nat.{ℕ}
 use mathlib.Core.Bool.{Bool, not, cond}
 use mathlib.Core.List.{map}
-use lib.Dec.{eqb}
+use lib.Dec.{eqb, ltb}
 use Rattle.numbers.specs.declared.Answer.{Answer}
 use Rattle.numbers.specs.declared.InputNumber.{InputNumber}
+use Rattle.numbers.specs.Inputs.{lastInput}
 use Rattle.numbers.specs.Quality.{quality}
 use Rattle.numbers.specs.Kind.{flag}
 use Rattle.input.specs.declared.Input.{Input}
@@ -84,16 +85,20 @@ flatInput input =
       spare4 = 0;
     }
 
--- "switch (00 none, 01 forced, 02 manual), its input", read back; any other kind is none
+-- "switch (00 none, 01 forced, 02 manual), its input", read back; any other kind is none, and one on no input too
 unfoldable pub switchOf : ℕ → InputNumber → Switch
 switchOf kind on =
-    cond (eqb kind switchForced) (W.Forced on)
+    cond (ltb lastInput (on .0)) W.Nothing
+    (cond (eqb kind switchForced) (W.Forced on)
     (cond (eqb kind switchManual) (W.Manual on)
-    W.Nothing)
+    W.Nothing))
 
--- what is selected, of whether anything is and its input
+-- what is selected, of whether anything is and its input; nothing where there is no such input
 unfoldable pub selectionOf : ℕ → InputNumber → Selection
-selectionOf selection number = cond (eqb selection 0) S.Nothing (S.At number)
+selectionOf selection number =
+    cond (ltb lastInput (number .0)) S.Nothing
+    (cond (eqb selection 0) S.Nothing
+    (S.At number))
 
 -- 1 where an input is selected
 unfoldable pub isSelected : Selection → ℕ

@@ -2,6 +2,7 @@
 -- holds after calls in a row. `Ports`: what is written for a port. `Asking`: the senders beside the card.
 pub mod Flat
 pub mod Card
+pub mod Range
 pub mod Calls
 pub mod Ports
 pub mod Asking

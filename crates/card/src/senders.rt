@@ -4,6 +4,7 @@
 // anything that their types hold. No public function has a `requires`.
 use crate::Card;
 use crate::selector_of;
+use crate::wide;
 use numbers::ACCEPTED;
 use sender::Heartbeat;
 use sender::Senders;
@@ -24,13 +25,6 @@ pub struct CardSenders {
     pub senders: Senders,
     pub number: u32,
     pub frame: u32,
-}
-
-// An octet as a number of C's.
-fn wide(octet: u8) -> u32
-    ensures { λ answer. ⌜ answer ≡ octet ⌝ }
-{
-    octet as u32
 }
 
 // The number of a question's refusal; 0 where it was not refused.
@@ -58,8 +52,7 @@ fn frame_of(heartbeat: Heartbeat) -> u32
 }
 
 // Sixteen fresh senders: nothing sent, nothing asked.
-#[no_mangle]
-pub extern "C" fn nurrispane_fresh_senders() -> CardSenders
+fn fresh() -> CardSenders
     ensures { λ answer. ⌜ answer ≡ freshCardSenders ⌝ }
 {
     let senders = Senders::fresh();
@@ -96,12 +89,22 @@ fn ask(
     }
 }
 
-// The same, in the caller's memory. An answered frame stands in the first 60 octets of `buffer`;
-// all else in it is kept.
+// Makes the senders fresh, whatever they held.
 #[no_mangle]
-pub extern "C" fn nurrispane_ask_in_place(
+pub extern "C" fn nurrispane_fresh_senders(senders: &mut CardSenders)
+    ensures { λ _. ⌜ now (senders .exit) ≡ freshCardSenders ⌝ }
+{
+    let new = fresh();
+    *senders = new;
+}
+
+// Asks a port's sender at a time, with the card's state: the senders after it, with the answer, take
+// the place of those before it. An answered frame stands in the first 60 octets of `buffer`; all
+// else in it is kept.
+#[no_mangle]
+pub extern "C" fn nurrispane_ask(
     senders: &mut CardSenders,
-    card: Card,
+    card: &Card,
     port: u8,
     time: u64,
     source: &[u8],
@@ -110,10 +113,11 @@ pub extern "C" fn nurrispane_ask_in_place(
     ensures { λ _. ⌜
         AskCard
         (now (senders .entry))
-        (cardQuestion card port time (now (source .entry)) (now (buffer .entry)))
+        (cardQuestion (now (card .entry)) port time (now (source .entry)) (now (buffer .entry)))
         (now (senders .exit)) (now (buffer .exit)) ⌝ }
 {
     let old = *senders;
-    let new = ask(old, card, port, time, source, buffer);
+    let held = *card;
+    let new = ask(old, held, port, time, source, buffer);
     *senders = new;
 }

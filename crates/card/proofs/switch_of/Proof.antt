@@ -13,5 +13,8 @@ returns-2 c = search switchOf-laws
 returns-3 : tie.Need-returns-3
 returns-3 c = search switchOf-laws
 
+returns-4 : tie.Need-returns-4
+returns-4 c = search switchOf-laws
+
 pub switch-of-spec : {M : Type 1} → statement M
-switch-of-spec = tie.close (tie.spec returns returns-2 returns-3)
+switch-of-spec = tie.close (tie.spec returns returns-2 returns-3 returns-4)

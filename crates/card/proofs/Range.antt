@@ -1,0 +1,233 @@
+-- The inputs that a selector names stay among the sixteen, so that C may index by what it reads. Assumes nothing.
+use Prim.Native.Nat.{ℕ, zero, suc, _≤_, _<_, _+_}
+use mathlib.Core.Bool.{Bool, true, false, cond}
+use mathlib.Core.List.{List, [], _∷_}
+use mathlib.Core.Logic.{_⊎_, inl, inr, _≢_}
+use mathlib.Core.Path.{_≡_, refl, sym, _∙_, ap, subst}
+use native.Mathlib.Omega.{arith}
+use lib.Dec.{eqb, leb, ltb}
+use borrow.Author.Tests.{ltb-false, ne-eqb}
+use Rattle.numbers.specs.declared.Event.{Event}
+use Rattle.numbers.specs.declared.InputNumber.{InputNumber}
+use Rattle.numbers.specs.Inputs.{lastInput, inputCount}
+use Rattle.numbers.specs.Kind.{kindFrame, kindForced, kindManual, kindClearSwitch}
+use Rattle.numbers.specs.Refusal.{accepted}
+use Rattle.frame.specs.declared.FrameRead.{FrameRead}
+use Rattle.frame.specs.Read.{readCode}
+use Rattle.run.proofs.Laws.{byBool}
+use Rattle.choice.specs.declared.Candidate.{Candidate}
+use Rattle.choice.specs.declared.Selection.{Selection}
+use Rattle.choice.specs.declared.Selection.the-variants as S
+use Rattle.choice.specs.Candidate.{eligibleAmong, betterAmong}
+use Rattle.choice.proofs.Choosing.{Inside, choose-inside}
+use Rattle.decision.specs.declared.Switch.{Switch}
+use Rattle.decision.specs.declared.Switch.the-variants as W
+use Rattle.decision.specs.Decision.{forcedMayStand, manualMayStand, judged, selectedBy, decide}
+use Rattle.decision.specs.Choices.{commanded}
+use Rattle.selector.specs.declared.Selector.{Selector}
+use Rattle.selector.specs.Clock.{noInput, locked, switchManual, clockState, selectedNumber, switchNumber, switchInput}
+use Rattle.selector.specs.Answer.{selectedCandidate, answerOf}
+use Rattle.selector.specs.State.{candidatesOf, decided, broughtTo}
+use Rattle.selector.specs.State as State
+use Rattle.due.specs.Next.{nextDue}
+use Rattle.due.specs.Served.{served, servedFrom, ticked}
+use Rattle.events.specs.declared.Stepped.{Stepped}
+use Rattle.events.specs.Given.{Given, Sequence}
+use Rattle.events.specs.Refusals.{frameRefusal, earlyRefusal}
+use Rattle.events.specs.Step.{recordedArgument, recordedEvent, eventTaken, placed, ethernetAt, earlyNumber, lateNumber, stepRead, step}
+use Rattle.events.specs.Sequence.{stateAfter}
+use Rattle.events.proofs.Refused.{accepted-input}
+use Rattle.events.proofs.Calm.{accepted-or-not, stepRead-refused, stepRead-barred, stepRead-taken}
+use Rattle.card.specs.declared.Card.{Card}
+use Rattle.card.specs.Flat.{switchOf, selectionOf, selectorOf, cardOf}
+use Rattle.card.specs.Card.{eventOf, readFor, stepCard}
+use Rattle.card.specs.Range.{IsInput, InRange, AnyCard}
+
+-- ---- a frame is looked at for a frame event alone
+
+pub readFor-unread : (kind : ℕ) (frame other : List ℕ) → kind ≢ kindFrame → readFor kind frame ≡ readFor kind other
+unfolding readFor
+readFor-unread kind frame other n = rw (ne-eqb _ _ n)
+
+-- and so a step is the one that reads it always
+pub stepRead-readFor : (state : Selector) (event : Event) (frame : List ℕ)
+    → stepRead state event (readFor (event .kind) frame) ≡ step state event frame
+unfolding step stepRead readFor earlyRefusal frameRefusal recordedArgument
+stepRead-readFor state event frame = byBool (eqb (event .kind) kindFrame) (λ y. rw y) (λ n. rw n)
+
+-- ---- the inputs that a selector names
+
+-- a switch is on one of the inputs
+abbrev pub On : Switch → Type 0
+On W.Nothing = Unit {0}
+On (W.Forced on) = on .0 < inputCount
+On (W.Manual on) = on .0 < inputCount
+
+-- what a selector names are inputs
+pub record Named (state : Selector) : Type 0 where
+  pub switch : On (state .switch)
+  pub selection : Inside (state .selection)
+
+kept-on : (test : Bool) (switch : Switch) → On switch → On (cond test switch W.Nothing)
+kept-on true switch on = on
+kept-on false switch on = tt
+
+switchOf-on : (kind : ℕ) (on : InputNumber) → On (switchOf kind on)
+unfolding switchOf
+switchOf-on kind on =
+    byBool (ltb lastInput (on .0)) (λ past. rw past tt)
+    (λ there. rw there
+    (go (eqb kind 1) (eqb kind 2) (omega (arith, ltb-false lastInput (on .0) there))))
+  where
+    go : (forced manual : Bool) → on .0 < inputCount → On (cond forced (W.Forced on) (cond manual (W.Manual on) W.Nothing))
+    go true manual few = few
+    go false manual few = kept-on manual (W.Manual on) few
+
+selectionOf-inside : (selection : ℕ) (number : InputNumber) → Inside (selectionOf selection number)
+unfolding selectionOf
+selectionOf-inside selection number =
+    byBool (ltb lastInput (number .0)) (λ past. rw past tt)
+    (λ there. rw there (go (eqb selection 0) (omega (arith, ltb-false lastInput (number .0) there))))
+  where
+    go : (none : Bool) → number .0 < inputCount → Inside (cond none S.Nothing (S.At number))
+    go true few = tt
+    go false few = few
+
+-- of any card
+pub selectorOf-named : (card : Card) → Named (selectorOf card)
+unfolding selectorOf
+selectorOf-named card = record { switch = switchOf-on _ _; selection = selectionOf-inside _ _ }
+
+judged-on : (candidates : List Candidate) (switch : Switch) → On switch → On (judged candidates switch)
+unfolding judged
+judged-on candidates W.Nothing on = tt
+judged-on candidates (W.Forced number) on = kept-on (forcedMayStand candidates (number .0)) (W.Forced number) on
+judged-on candidates (W.Manual number) on = kept-on (manualMayStand candidates (number .0)) (W.Manual number) on
+
+selectedBy-inside : (candidates : List Candidate) (switch : Switch) (before : Selection) → On switch
+    → Inside (selectedBy candidates switch before)
+unfolding selectedBy
+selectedBy-inside candidates W.Nothing before on =
+    choose-inside (eligibleAmong candidates) (betterAmong candidates) before
+selectedBy-inside candidates (W.Forced number) before on = on
+selectedBy-inside candidates (W.Manual number) before on = on
+
+decided-named : (state : Selector) → On (state .switch) → Named (decided state)
+unfolding decided decide
+decided-named state on =
+    let stands : On (judged (candidatesOf (state .inputs) (state .mode)) (state .switch)) =
+    judged-on (candidatesOf (state .inputs) (state .mode)) (state .switch) on in
+    record {
+      switch = stands;
+      selection =
+          selectedBy-inside (candidatesOf (state .inputs) (state .mode))
+          (judged (candidatesOf (state .inputs) (state .mode)) (state .switch))
+          (state .selection)
+          stands;
+    }
+
+moment-named : (state : Selector) (time : ℕ) → Named state → Named (State.ticked state time)
+unfolding State.ticked
+moment-named state time named = decided-named (broughtTo state time) (named .switch)
+
+servedFrom-named : (left : ℕ) (state : Selector) (count time : ℕ) → Named state
+    → Named (servedFrom left state count time .state)
+unfolding servedFrom
+servedFrom-named zero state count time named = moment-named state time named
+servedFrom-named (suc left) state count time named =
+    byBool (leb (nextDue state) time)
+    (λ e. rw e
+    (servedFrom-named left (State.ticked state (nextDue state)) (count + 1) time (moment-named state (nextDue state) named)))
+    (λ e. rw e (moment-named state time named))
+
+ticked-named : (state : Selector) (time : ℕ) → Named state → Named (ticked state time)
+unfolding served
+ticked-named state time named = servedFrom-named 48 state 0 time named
+
+commanded-on : (kind number : ℕ) (switch : Switch) → number < inputCount → On switch → On (commanded kind number switch)
+unfolding commanded
+commanded-on kind number switch few on = go (eqb kind kindForced) (eqb kind kindManual) (eqb kind kindClearSwitch)
+  where
+    go : (forced manual clears : Bool)
+        → On
+        (cond forced (W.Forced (record { 0 = number }))
+        (cond manual (W.Manual (record { 0 = number }))
+        (cond clears W.Nothing switch)))
+    go true manual clears = few
+    go false true clears = few
+    go false false true = tt
+    go false false false = on
+
+placed-named : (state : Selector) (event : Event) → event .input < inputCount → Named state → Named (placed state event)
+unfolding placed
+placed-named state event few named =
+    decided-named (eventTaken state event) (commanded-on (event .kind) (event .input) (state .switch) few (named .switch))
+
+-- A step on a state whose names are inputs leaves such a state.
+pub stepRead-named : (state : Selector) (event : Event) (read : FrameRead) → Named state
+    → Named (stepRead state event read .state)
+stepRead-named state event read named =
+    accepted-or-not (earlyNumber state event read)
+    (λ none. accepted-or-not (lateNumber (ticked state (event .time)) event)
+    (λ later. subst (λ (after : Stepped). Named (after .state)) (sym (stepRead-taken state event read none later))
+    (placed-named (ticked state (event .time)) (recordedEvent event read)
+    (accepted-input (state .time) (ethernetAt (state .inputs) (event .input)) event read none)
+    (ticked-named state (event .time) named)))
+    (λ given. subst (λ (after : Stepped). Named (after .state)) (sym (stepRead-barred state event read none given))
+    (ticked-named state (event .time) named)))
+    (λ given. subst (λ (after : Stepped). Named (after .state)) (sym (stepRead-refused state event read given)) named)
+
+-- After any sequence of events.
+pub sequence-named : (sequence : Sequence) → Named (stateAfter sequence)
+unfolding stateAfter step
+sequence-named [] = record { switch = tt; selection = tt }
+sequence-named (given ∷ earlier) =
+    stepRead-named (stateAfter earlier) (given .event) (readCode (given .frame)) (sequence-named earlier)
+
+-- ---- what C reads
+
+selected-input : (selection : Selection) → Inside selection → IsInput (selectedNumber selection)
+unfolding selectedNumber
+selected-input S.Nothing inside = inr refl
+selected-input (S.At number) inside = inl (omega arith)
+
+switch-input : (switch : Switch) → On switch → IsInput (switchInput switch)
+unfolding switchInput
+switch-input W.Nothing on = inr refl
+switch-input (W.Forced number) on = inl (omega arith)
+switch-input (W.Manual number) on = inl (omega arith)
+
+switch-kind : (switch : Switch) → switchNumber switch ≤ switchManual
+unfolding switchNumber
+switch-kind W.Nothing = omega arith
+switch-kind (W.Forced number) = omega arith
+switch-kind (W.Manual number) = omega arith
+
+clockState-most : (usable held : Bool) → clockState usable held ≤ locked
+unfolding clockState
+clockState-most true held = omega arith
+clockState-most false true = omega arith
+clockState-most false false = omega arith
+
+pub cardOf-inRange : (number count : ℕ) (state : Selector) → Named state → InRange (cardOf number count state)
+unfolding cardOf answerOf
+cardOf-inRange number count state named =
+    record {
+      selected = selected-input (state .selection) (named .selection);
+      on = switch-input (state .switch) (named .switch);
+      state = clockState-most (selectedCandidate (state .inputs) (state .mode) (state .selection) .usable) (state .held);
+      switch = switch-kind (state .switch);
+    }
+
+-- Whatever card came in, C may index by what it reads; and what is lent beside another event than a frame changes nothing.
+pub any-card : (card : Card) (kind time input argument : ℕ) (frame : List ℕ) → AnyCard card kind time input argument frame
+unfolding stepCard
+any-card card kind time input argument frame =
+    let event = eventOf kind time input argument in
+    let after = stepRead (selectorOf card) event (readFor kind frame) in
+    record {
+      inRange =
+          cardOf-inRange (after .number) (after .count) (after .state)
+          (stepRead-named (selectorOf card) event (readFor kind frame) (selectorOf-named card));
+      unread = λ other lent. rw (readFor-unread kind frame lent other);
+    }
