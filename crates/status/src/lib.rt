@@ -1,0 +1,99 @@
+// What is known of one input in a state: its raw and its passed quality, whether it is eligible, and
+// when the timer of its present run and its frame end.
+//
+// A state with any numbers in it is answered for, no sum can wrap, and no public function has a
+// `requires`.
+use input::Heard;
+use input::Input;
+use numbers::FRAME_LIFE;
+use numbers::InputNumber;
+use numbers::Quality;
+use numbers::is_failed;
+use run::Forecast;
+use run::Run;
+use selector::Selector;
+use selector::candidate_for;
+use selector::input_at;
+ghost use mathlib.Core.Path.{_≡_};
+ghost use Rattle.status.specs.Status.{endAhead};
+ghost use Rattle.status.specs.Kept.{timerAhead, frameAhead, statusOf, inputStatus};
+
+// Stands for a time that never comes.
+const NEVER: u64 = u64::MAX;
+
+// What is known of an input. `timer` is when the present run's own timer ends, needed or not: the
+// hold-off of a failed run, the wait of any other; `frame` when the last frame heard expires. Both
+// are 0 where nothing is still to end.
+pub struct Status {
+    pub raw: Quality,
+    pub passed: Quality,
+    pub eligible: bool,
+    pub timer: u64,
+    pub frame: u64,
+}
+
+// When a time of `length` ms from `start` is over, if that is later than `time`; otherwise 0.
+fn end_ahead(start: u64, length: u64, time: u64) -> u64
+    ensures { λ answer. ⌜ answer ≡ endAhead start length time ⌝ }
+{
+    if length <= NEVER - start {
+        if time < start + length {
+            return start + length;
+        }
+        return 0;
+    }
+    if time < NEVER {
+        return NEVER;
+    }
+    0
+}
+
+fn timer_ahead(run: Run, forecast: Forecast, time: u64) -> u64
+    ensures { λ answer. ⌜ answer ≡ timerAhead run forecast time ⌝ }
+{
+    if run.failed {
+        return end_ahead(run.start, forecast.holdoff, time);
+    }
+    end_ahead(run.start, forecast.wait, time)
+}
+
+fn frame_ahead(heard: Heard, time: u64) -> u64
+    ensures { λ answer. ⌜ answer ≡ frameAhead heard time ⌝ }
+{
+    let frame = heard.frame;
+    if is_failed(frame) {
+        return 0;
+    }
+    end_ahead(heard.framed, FRAME_LIFE, time)
+}
+
+// What is known of an input's record at a time, in a quality mode.
+fn status_of(input: Input, mode: bool, time: u64) -> Status
+    ensures { λ answer. ⌜ answer ≡ statusOf input mode time ⌝ }
+{
+    let forecast = input.forecast(mode);
+    let run = input.run;
+    let heard = input.heard;
+    let candidate = candidate_for(input, mode);
+    let raw = forecast.raw_at(time);
+    let passed = input.passed_quality();
+    let eligible = candidate.is_eligible();
+    let timer = timer_ahead(run, forecast, time);
+    let frame = frame_ahead(heard, time);
+    Status {
+        raw,
+        passed,
+        eligible,
+        timer,
+        frame,
+    }
+}
+
+// What is known of an input, of a fresh one where there is no such number.
+pub fn input_status(state: Selector, number: u8) -> Status
+    ensures { λ answer. ⌜ answer ≡ inputStatus state number ⌝ }
+{
+    let inputs = state.inputs;
+    let input = input_at(inputs, InputNumber(number));
+    status_of(input, state.mode, state.time)
+}
