@@ -91,7 +91,7 @@ timer-right number history time ordered =
 
 status-recorded : (number : ℕ) (history : History) → Ordered history
     → statusOf (recordAfter number history) (modeOn history) (timeOf history) ≡ statusBy history number
-unfolding statusOf statusBy
+unfolding statusOf statusBy heardBy settingsBy
 status-recorded number history ordered = λ j.
     record {
       raw = sym (raw-recalled number history (timeOf history)) j;
@@ -103,6 +103,11 @@ status-recorded number history ordered = λ j.
           j);
       timer = timer-right number history (timeOf history) ordered j;
       frame = frame-right number history (timeOf history) j;
+      signal = heard-recalled number history j .good;
+      ethernet = settings-recalled number history j .ethernet;
+      priority = settings-recalled number history j .priority;
+      locked = settings-recalled number history j .locked;
+      floor = settings-recalled number history j .floor;
     }
 
 -- WHAT IS KNOWN OF AN INPUT: after any sequence of events, it is what has happened.

@@ -35,6 +35,11 @@ statusOf input mode time =
       eligible = isEligible (candidateFor mode input);
       timer = timerAhead (input .run) (forecast input mode) time;
       frame = frameAhead (input .heard) time;
+      signal = input .heard .good;
+      ethernet = input .settings .ethernet;
+      priority = input .settings .priority;
+      locked = input .settings .locked;
+      floor = input .settings .floor;
     }
 
 -- an input of a state, at the state's time

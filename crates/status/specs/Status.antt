@@ -1,5 +1,5 @@
--- What is known of an input after the recorded events: its raw and its passed quality, whether it is eligible, and when
--- the timer of its present run and its frame end. No timer and no state. Assumes nothing.
+-- What is known of an input after the recorded events: its raw and its passed quality, whether it is eligible, when the
+-- timer of its present run and its frame end, and settings. No timer and no state. Assumes nothing.
 use Prim.Native.Nat.{ℕ}
 use mathlib.Core.Bool.{cond}
 use mathlib.Core.List.{List, [], _∷_}
@@ -7,9 +7,10 @@ use lib.Dec.{ltb}
 use Rattle.numbers.specs.declared.Event.{Event}
 use Rattle.numbers.specs.Inputs.{frameLife}
 use Rattle.numbers.specs.Kind.{kindFrame}
+use Rattle.numbers.specs.Quality.{quality}
 use Rattle.run.specs.Moments.{Moments, holdoffAt, waitAt, fails}
 use Rattle.run.specs.Passed.{runBegan}
-use Rattle.input.specs.Recorded.{History, heard, moments, timeOf, rawQualityAt, passedAt}
+use Rattle.input.specs.Recorded.{History, signalGood, isEthernet, priorityOf, isLockedOut, floorOf, heard, moments, timeOf, rawQualityAt, passedAt}
 use Rattle.choice.specs.Candidate.{isEligible}
 use Rattle.due.specs.Next.{sumOrNever}
 use Rattle.events.specs.Past.{candidateBy}
@@ -38,4 +39,9 @@ statusBy history number =
       eligible = isEligible (candidateBy history (timeOf history) number);
       timer = timerBy (moments number history) (timeOf history);
       frame = frameBy (heard number kindFrame history) (timeOf history);
+      signal = signalGood number history;
+      ethernet = isEthernet number history;
+      priority = record { 0 = priorityOf number history };
+      locked = isLockedOut number history;
+      floor = quality (floorOf number history);
     }

@@ -1,5 +1,6 @@
-// What is known of one input in a state: its raw and its passed quality, whether it is eligible, and
-// when the timer of its present run and its frame end.
+// What is known of one input in a state: its raw and its passed quality, whether it is eligible,
+// when the timer of its present run and its frame end, and of its settings those that a choice or a
+// reader looks at.
 //
 // A state with any numbers in it is answered for, no sum can wrap, and no public function has a
 // `requires`.
@@ -7,6 +8,7 @@ use input::Heard;
 use input::Input;
 use numbers::FRAME_LIFE;
 use numbers::InputNumber;
+use numbers::Priority;
 use numbers::Quality;
 use numbers::is_failed;
 use run::Forecast;
@@ -23,13 +25,18 @@ const NEVER: u64 = u64::MAX;
 
 // What is known of an input. `timer` is when the present run's own timer ends, needed or not: the
 // hold-off of a failed run, the wait of any other; `frame` when the last frame heard expires. Both
-// are 0 where nothing is still to end.
+// are 0 where nothing is still to end. `signal` is good signal.
 pub struct Status {
     pub raw: Quality,
     pub passed: Quality,
     pub eligible: bool,
     pub timer: u64,
     pub frame: u64,
+    pub signal: bool,
+    pub ethernet: bool,
+    pub priority: Priority,
+    pub locked: bool,
+    pub floor: Quality,
 }
 
 // When a time of `length` ms from `start` is over, if that is later than `time`; otherwise 0.
@@ -74,6 +81,9 @@ fn status_of(input: Input, mode: bool, time: u64) -> Status
     let forecast = input.forecast(mode);
     let run = input.run;
     let heard = input.heard;
+    let settings = input.settings;
+    let priority = settings.priority;
+    let floor = settings.floor;
     let candidate = candidate_for(input, mode);
     let raw = forecast.raw_at(time);
     let passed = input.passed_quality();
@@ -86,6 +96,11 @@ fn status_of(input: Input, mode: bool, time: u64) -> Status
         eligible,
         timer,
         frame,
+        signal: heard.good,
+        ethernet: settings.ethernet,
+        priority,
+        locked: settings.locked,
+        floor,
     }
 }
 

@@ -36,7 +36,7 @@ returns c =
       c .before .before .before .passed-quality .ensures,
       c .before .before .before .before .raw-at .ensures,
       c .before .before .before .before .before .candidate-for .ensures,
-      c .before .before .before .before .before .before .before .before .forecast .ensures,
+      c .before .before .before .before .before .before .before .before .before .before .before .forecast .ensures,
     )
 
 pub status-of-spec : {M : Type 1} → statement M
