@@ -39,17 +39,19 @@ class LineCount:
 
 
 def stream(name, source, sink):
-    """Hands a log from a file to a program and its output on to `sink`, piece by piece.
+    """Hands a log from a file to a program and its output on to `sink`, piece by piece; gives the log's front.
 
     A line that is not answered, or an answer that is not whole, is trouble."""
     ready(name)
-    asked, told, failed = LineCount(), LineCount(), []
+    asked, told, failed, front = LineCount(), LineCount(), [], []
     process = subprocess.Popen(command(name), stdin=subprocess.PIPE, stdout=subprocess.PIPE, stderr=subprocess.PIPE)
 
     def feed():
         try:
             while piece := source.read(CHUNK):
                 asked.take(piece)
+                if not front:
+                    front.append(piece)
                 process.stdin.write(piece)
             process.stdin.close()
         except BrokenPipeError:
@@ -73,6 +75,7 @@ def stream(name, source, sink):
     if failed:
         raise Trouble(failed[0])
     ended_well(name, status, said, asked, told)
+    return b"".join(front)
 
 
 def answers(name, data):
@@ -97,12 +100,14 @@ def ended_well(name, status, said, asked, told):
 
 
 def put_out(name, path, out):
-    """What a program says to a log: on standard output piece by piece, or in the file `out`, whole or not at all."""
+    """What a program says to a log: on standard output piece by piece, or in the file `out`, whole or not at all; gives
+    the log's front."""
     if out is None:
         with opened(path) as source:
-            stream(name, source, write_out)
-    else:
-        write(out, b"".join(line + b"\n" for line in answers(name, read(path))))
+            return stream(name, source, write_out)
+    data = read(path)
+    write(out, b"".join(line + b"\n" for line in answers(name, data)))
+    return data[:CHUNK]
 
 
 def opened(path):
