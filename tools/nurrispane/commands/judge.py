@@ -135,9 +135,12 @@ def by_times(data, options):
     tolerance = milliseconds(options.tolerance)
     card = read_times(options.times)
     lines = words.split_log(data)[0]
+    if card:
+        # what is right behind the log's end, if no further event comes; refused where the card ends first
+        lines = lines + [timeline.tick(card[-1][0])]
     ticked = timeline.served(lines)
     right = timeline.selections(ticked)
-    last = max([right[-1][0], card[-1][0]] if card else [right[-1][0]])
+    last = right[-1][0]
     found = [each for each in timeline.differences(right, [(0, None), *card], last) if each.end - each.start > tolerance]
     yield len(found)
     yield "times: 0 to %s ms; selections: %d; wrong for more than %d ms: %d" % (format(last, ","), len(card), tolerance, len(found))
