@@ -126,7 +126,8 @@ def svg(title, lanes, last):
         top = 26 + HEIGHT * row
         made.append('<text x="4" y="%d">%s</text>' % (top + 12, html.escape(name)))
         shown = -1.0
-        for each in stretches:
+        # what is wrong comes last, so that it shows however short it is
+        for each in sorted(stretches, key=lambda each: each.value == "wrong"):
             left, right = LEFT + each.start * scale, LEFT + each.end * scale
             if right - left < 0.5 and left < shown + 0.5 and each.value != "wrong":
                 continue
