@@ -3,7 +3,6 @@ into words. Nothing is worked out here but which of the facts is told."""
 
 import collections
 import re
-import subprocess
 
 from nurrispane import answers, programs
 from nurrispane.files import Trouble
@@ -53,8 +52,7 @@ def along(lines, numbers):
     numbers = list(numbers)
     if not numbers:
         return
-    programs.ready("facts")
-    run = subprocess.run(programs.command("facts"), input=b"".join(marked(lines, numbers)), capture_output=True)
+    run = programs.given("facts", b"".join(marked(lines, numbers)))
     if run.returncode != 0 or run.stderr:
         said = run.stderr.decode(errors="replace").strip() or "status %d" % run.returncode
         raise Trouble("the program facts says: %s" % said)

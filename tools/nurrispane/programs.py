@@ -78,10 +78,18 @@ def stream(name, source, sink):
     return b"".join(front)
 
 
+def given(name, data):
+    """A program run on data, which it reads from a file: handed over by a pipe, a large log would cost more than its replay."""
+    ready(name)
+    with tempfile.TemporaryFile() as source:
+        source.write(data)
+        source.seek(0)
+        return subprocess.run(command(name), stdin=source, capture_output=True)
+
+
 def answers(name, data):
     """The program's output for a log, line by line."""
-    ready(name)
-    run = subprocess.run(command(name), input=data, capture_output=True)
+    run = given(name, data)
     asked, told = LineCount(), LineCount()
     asked.take(data)
     told.take(run.stdout)

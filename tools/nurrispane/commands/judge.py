@@ -7,6 +7,7 @@ longer than --tolerance are told. With --candidates the known faults that would 
 candidates, never a verdict. Exit status 0: all answers are right; 1: some differ; 2: trouble."""
 
 import collections
+import functools
 import re
 import sys
 
@@ -22,6 +23,8 @@ EXAMPLES = [
 FIELDS = ["refusal", "selection", "clock state", "clock quality", "switch", "switch"]
 # What is told of sorts at most.
 MOST_SORTS = 20
+# So many answers are compared at once.
+BLOCK = 256
 
 
 def arguments(parser):
@@ -55,7 +58,7 @@ def by_answers(data, given, options):
     """How many lines differ, and then what is said of them."""
     lines, right = words.split_log(data)[0], programs.answers("replay", data)
     card = words.split_log(given)[0]
-    wrong = [place for place, pair in enumerate(zip(right, card)) if pair[0] != pair[1]]
+    wrong = list(differing(right, card))
     missing = len(right) - len(card)
     yield len(wrong) + abs(missing)
     yield "lines: %d; answers: %d; wrong: %d" % (len(lines), len(card), len(wrong))
@@ -77,6 +80,15 @@ def by_answers(data, given, options):
         yield from candidates(data, card, options.candidates)
 
 
+def differing(right, card):
+    """The places at which both have an answer and these differ; what is alike is passed over many at a time."""
+    for start in range(0, min(len(right), len(card)), BLOCK):
+        one, other = right[start:start + BLOCK], card[start:start + BLOCK]
+        if one != other:
+            yield from (start + place for place, (first, second) in enumerate(zip(one, other)) if first != second)
+
+
+@functools.lru_cache(maxsize=None)
 def sort_of(right, wrong):
     """Which parts of an answer differ."""
     one, other = answers.octets_of(right), answers.octets_of(wrong)
