@@ -6,7 +6,7 @@ hover for the reason. FILE.svg is the whole time as one small picture, FILE.vcd 
 All of it is asked of the proved programs. Exit status 0: no difference, or no ANSWERS; 1: the card differs; 2: trouble."""
 
 from nurrispane import logs, pictures, programs, words
-from nurrispane.files import FINDING, FINE, Trouble, name_of, read, write
+from nurrispane.files import FINDING, FINE, Trouble, name_of, read, write, write_out
 
 SUMMARY = "a log and a card's answers as lanes over time: a page, a small picture, or a wave file"
 EXAMPLES = [
@@ -36,4 +36,7 @@ def run(options):
     else:
         made = (pictures.page if form == "html" else pictures.svg)(title, lanes, last)
     write(options.out, made.encode())
-    return FINE if card is None or card == right else FINDING
+    differing = sum(one != other for one, other in zip(right, card or right)) + (abs(len(right) - len(card)) if card is not None else 0)
+    said = "%d lines in %d lanes are in %s" % (len(lines), len(lanes), options.out)
+    write_out((said + ("; the card differs in %d\n" % differing if card is not None else "\n")).encode())
+    return FINDING if differing else FINE
