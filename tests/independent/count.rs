@@ -7,7 +7,8 @@ use crate::generate::LAST_TIME;
 use crate::line;
 use crate::log::LogReader;
 use crate::selector::{
-    ClockState, Event, Input, InputNumber, Quality, Selector, Switch, Time, FRAME_LIFE, NEVER,
+    ClockState, Event, Input, InputNumber, Kind, Profile, Quality, Selector, Switch, Time,
+    FRAME_LIFE, NEVER, PROV, ST3E, ST4, TNC,
 };
 
 macro_rules! items {
@@ -85,6 +86,16 @@ items! {
     ForcedBelowFloor "forced-onto-input-below-its-floor"
     ManualFellByFloor "manual-cancelled-by-a-floor-event"
     ManualRefusedByFloor "manual-refused-for-the-floor-only"
+    LockedToProv "option-2-locked-to-prov"
+    ProvChosenOver "option-2-prov-better-than-another-eligible"
+    ProvNotChosen "option-2-prov-worse-than-another-eligible"
+    ProvUnplacedModeOff "option-2-unusable-prov-eligible-with-mode-off"
+    LockedToSt4 "option-2-locked-to-st4"
+    LockedToTncOrSt3e "option-2-locked-to-tnc-or-st3e"
+    Words "accepted-words"
+    WordSettled "word-settled"
+    WordSettledInvalid "word-settled-not-listed"
+    WordForgotten "word-forgotten-by-third-kind-on-third-kind"
     PassedNotTold "passed-0-with-mode-on"
     PassedWithModeOff "passed-1-to-6-with-mode-off"
     SameMillisecond "event-in-millisecond-of-the-one-before"
@@ -119,13 +130,13 @@ impl Counts {
     }
 }
 
-pub fn count(log: impl Read, output: &mut impl Write) -> io::Result<()> {
+pub fn count(profile: Profile, log: impl Read, output: &mut impl Write) -> io::Result<()> {
     let mut log = LogReader::new(log);
     let mut counts = Counts {
         items: [0; NAMES.len()],
         numbers: [0; NUMBERS],
     };
-    let mut selector = Selector::fresh();
+    let mut selector = Selector::started(profile);
     while let Some(digits) = log.next_line()? {
         let number = take(digits, &mut selector, &mut counts);
         counts.numbers[usize::from(number)] += 1;
@@ -339,8 +350,19 @@ fn count_input(event: Event, before: &Input, after: &Input, expiring: bool, coun
                 began_to_fail && after.heard.frame.is_some(),
             );
         }
-        Event::Ethernet(_) => {
+        Event::Word(_) => {
+            let settled = after.heard.settled != before.heard.settled;
+            counts.add(Item::Words);
+            counts.add_if(Item::WordSettled, settled);
+            counts.add_if(
+                Item::WordSettledInvalid,
+                settled && after.raw == Quality::INVALID,
+            );
+        }
+        Event::Kind(kind) => {
             counts.add_if(Item::KindSetAgain, began_to_fail && !after.down);
+            let again = kind == Kind::Words && before.kind == Kind::Words;
+            counts.add_if(Item::WordForgotten, again && before.heard.equal > 0);
         }
         _ => {}
     }
@@ -403,9 +425,11 @@ fn count_cancelled(event: Event, ticked: &Shown, selector: &Selector, counts: &m
 
 /// Whether only its floor keeps an input from being eligible.
 fn below_floor(selector: &Selector, input: &Input) -> bool {
-    let passed = input.passed();
-    let otherwise = Quality::PRC <= passed && passed <= Quality::SEC;
-    selector.quality_mode && !input.off_or_locked() && otherwise && passed > input.floor
+    let could_be_followed = selector.profile.place(input.passed()).is_some();
+    selector.quality_mode
+        && !input.off_or_locked()
+        && could_be_followed
+        && !input.usable(selector.quality_mode)
 }
 
 /// What the floors keep out of the choice.
@@ -417,8 +441,10 @@ fn count_floors(selector: &Selector, counts: &mut Counts) {
         .map(Input::passed)
         .min();
     counts.add_if(Item::BelowFloor, below.is_some());
+    let place = |quality| selector.profile.place(quality);
     let better = below.is_some_and(|quality| {
-        selector.clock_state == ClockState::Locked && quality < selector.clock_quality
+        let locked = selector.clock_state == ClockState::Locked;
+        locked && place(quality) < place(selector.clock_quality)
     });
     counts.add_if(Item::BetterBelowFloor, better);
     if let Switch::Forced(input) = selector.switch {
@@ -451,6 +477,30 @@ fn count_line(before: &Shown, ticked: &Shown, selector: &Selector, counts: &mut 
     }
     count_passed(selector, counts);
     count_floors(selector, counts);
+    if selector.profile != Profile::OptionI {
+        count_option_two(selector, counts);
+    }
+}
+
+/// What only option II has.
+fn count_option_two(selector: &Selector, counts: &mut Counts) {
+    let mode = selector.quality_mode;
+    let eligible = |wanted: fn(Quality) -> bool| {
+        let mut inputs = selector.inputs.iter().filter(|input| input.eligible(mode));
+        inputs.any(|input| wanted(input.passed()))
+    };
+    let (prov, other) = (
+        eligible(|quality| quality == PROV),
+        eligible(|quality| quality != PROV),
+    );
+    let locked = selector.clock_state == ClockState::Locked;
+    let to = |quality| mode && locked && selector.clock_quality == quality;
+    counts.add_if(Item::LockedToProv, to(PROV));
+    counts.add_if(Item::ProvChosenOver, to(PROV) && other);
+    counts.add_if(Item::ProvNotChosen, mode && locked && !to(PROV) && prov);
+    counts.add_if(Item::ProvUnplacedModeOff, !mode && prov);
+    counts.add_if(Item::LockedToSt4, to(ST4));
+    counts.add_if(Item::LockedToTncOrSt3e, to(TNC) || to(ST3E));
 }
 
 fn count_passed(selector: &Selector, counts: &mut Counts) {

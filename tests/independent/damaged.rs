@@ -1,11 +1,10 @@
 //! Logs that were in order (realistic or nasty) and then suffered: bits flipped, bytes
 //! cut, doubled, put in, lines swapped, joined and doubled.
 
-use crate::generate::LogSource;
+use crate::generate::{sound, LogSource, Numbers};
 use crate::line;
-use crate::nasty::{Nasty, LINES_AT_END_OF_TIME, SHORTEST_WITH_LEAPS};
+use crate::nasty::{LINES_AT_END_OF_TIME, SHORTEST_WITH_LEAPS};
 use crate::random::Random;
-use crate::realistic::Realistic;
 use crate::selector::Time;
 
 /// One line in so many suffers.
@@ -28,12 +27,12 @@ pub struct Damaged {
 }
 
 impl Damaged {
-    pub fn new(mut random: Random, lines: u64) -> Damaged {
+    pub fn new(mut random: Random, lines: u64, numbers: &'static Numbers) -> Damaged {
         let inner = Random::new(random.next(), 0);
         let sound: Box<dyn LogSource> = if random.percent(50) {
-            Box::new(Realistic::new(inner))
+            sound("realistic", inner, lines, numbers)
         } else {
-            Box::new(Nasty::new(inner, lines))
+            sound("nasty", inner, lines, numbers)
         };
         let last_lf_missing = random.percent(50);
         Damaged {

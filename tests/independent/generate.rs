@@ -12,9 +12,92 @@ use crate::random::Random;
 use crate::realistic::Realistic;
 use crate::selector::{Code, Time};
 use crate::sparse::Sparse;
+use crate::words::Words;
 
 /// "time at or above 2^48" can't come from a log; this is the last one that can.
 pub const LAST_TIME: Time = (1 << 48) - 1;
+
+/// The numbers and codes of an option, spelled out here so that the logs don't lean on the
+/// rules under test.
+pub struct Numbers {
+    /// Codes to be heard, the usual ones more often.
+    pub codes: &'static [Code],
+    /// The codes of qualities that can be followed, the best first.
+    pub followed: &'static [Code],
+    /// Codes that read as invalid.
+    pub invalid: [Code; 4],
+    /// Fixed qualities run from 1 to this, which is not to be used; floors from 1 to that.
+    pub last_fixed: u16,
+    pub last_floor: u16,
+    /// Whether there are inputs of the third kind (L12).
+    pub words: bool,
+    /// A kind of event that is unknown, and an argument of kind 10 that is out of range, with
+    /// L12 and without.
+    pub unknown: u8,
+    pub beyond_kinds: u16,
+}
+
+/// Not to be used, in both options.
+pub const DO_NOT_USE: Code = 15;
+
+pub const OPTION_ONE: Numbers = Numbers {
+    codes: &[2, 2, 2, 4, 4, 4, 8, 8, 11, 11, 15, 0, 2, 4, 1, 14],
+    followed: &[2, 4, 8, 11],
+    invalid: [0, 1, 3, 14],
+    last_fixed: 5,
+    last_floor: 4,
+    words: false,
+    unknown: 0x12,
+    beyond_kinds: 2,
+};
+
+/// PROV, 1110, is among those that can be followed: where it is placed decides.
+pub const OPTION_TWO: Numbers = Numbers {
+    codes: &[1, 1, 0, 0, 7, 7, 4, 13, 10, 12, 14, 14, 14, 15, 2, 8],
+    followed: &[1, 0, 7, 4, 13, 10, 14, 14, 12],
+    invalid: [2, 3, 5, 11],
+    last_fixed: 10,
+    last_floor: 8,
+    words: false,
+    unknown: 0x14,
+    beyond_kinds: 3,
+};
+
+pub const WITH_WORDS: Numbers = Numbers {
+    words: true,
+    ..OPTION_TWO
+};
+
+impl Numbers {
+    fn of(option: &str) -> io::Result<&'static Numbers> {
+        match option {
+            "1" => Ok(&OPTION_ONE),
+            "2" => Ok(&OPTION_TWO),
+            "words" => Ok(&WITH_WORDS),
+            _ => Err(not_understood(option)),
+        }
+    }
+
+    /// Any fixed quality; in option II PROV (9) often.
+    pub fn any_fixed(&self, random: &mut Random) -> u16 {
+        if self.last_fixed > 5 && random.percent(25) {
+            return 9;
+        }
+        random.between(1, u64::from(self.last_fixed)) as u16
+    }
+
+    pub fn any_floor(&self, random: &mut Random) -> u16 {
+        random.between(1, u64::from(self.last_floor)) as u16
+    }
+
+    /// A good code, mostly one of the best.
+    pub fn good_code(&self, random: &mut Random) -> Code {
+        match random.below(3) {
+            0 => random.pick(self.followed),
+            _ => self.followed[random.below(2) as usize],
+        }
+    }
+}
 
 /// Something that makes a log, line after line.
 pub trait LogSource {
@@ -22,21 +105,53 @@ pub trait LogSource {
     fn next_line(&mut self, log: &mut Vec<u8>);
 }
 
+impl LogSource for Box<dyn LogSource> {
+    fn next_line(&mut self, log: &mut Vec<u8>) {
+        self.as_mut().next_line(log);
+    }
+}
+
 const FLUSH_AT: usize = 60_000;
 
-/// `SEED` is a number, or `SEED.PIECE` for the further logs of one seed.
-pub fn generate(kind: &str, seed: &str, lines: &str, output: &mut impl Write) -> io::Result<()> {
+/// A log in order, or as much as its kind has it, with words where the option has them.
+pub fn sound(
+    kind: &str,
+    mut random: Random,
+    lines: u64,
+    numbers: &'static Numbers,
+) -> Box<dyn LogSource> {
+    let for_words = numbers.words.then(|| Random::new(random.next(), 1));
+    let log: Box<dyn LogSource> = match kind {
+        "realistic" => Box::new(Realistic::new(random, numbers)),
+        "nasty" => Box::new(Nasty::new(random, lines, numbers)),
+        _ => Box::new(Sparse::new(random, numbers)),
+    };
+    match for_words {
+        Some(random) => Box::new(Words::new(log, random)),
+        None => log,
+    }
+}
+
+/// `SEED` is a number, or `SEED.PIECE` for the further logs of one seed; `OPTION` 1, 2 or `words`.
+pub fn generate(
+    kind: &str,
+    seed: &str,
+    lines: &str,
+    option: &str,
+    output: &mut impl Write,
+) -> io::Result<()> {
     let lines = number(lines)?;
+    let numbers = Numbers::of(option)?;
     let (seed, piece) = seed.split_once('.').unwrap_or((seed, "0"));
     let random = Random::new(number(seed)?, number(piece)?);
     match kind {
-        "realistic" => write_lines(Realistic::new(random), lines, output),
-        "nasty" => write_lines(Nasty::new(random, lines), lines, output),
-        "sparse" => write_lines(Sparse::new(random), lines, output),
+        "realistic" | "nasty" | "sparse" => {
+            write_lines(sound(kind, random, lines, numbers), lines, output)
+        }
         "frames" => write_lines(Frames::new(random), lines, output),
-        "questions" => write_lines(Questions::new(random, lines), lines, output),
-        "headers" => write_lines(Headers::new(random), lines, output),
-        "damaged" => write_damaged(Damaged::new(random, lines), lines, output),
+        "questions" => write_lines(Questions::new(random, lines, numbers), lines, output),
+        "headers" => write_lines(Headers::new(random, numbers), lines, output),
+        "damaged" => write_damaged(Damaged::new(random, lines, numbers), lines, output),
         _ => Err(not_understood(kind)),
     }
 }

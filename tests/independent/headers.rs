@@ -3,13 +3,14 @@
 //! them, for a few Ethernet inputs; sound ones come in between, so that a wrong one taken for
 //! sound shows in the answers too. `Frames` makes the frames alone, one a line.
 
-use crate::generate::{event_line, frame_line, random_octets, sound_frame, LogSource};
+use crate::generate::{
+    event_line, frame_line, random_octets, sound_frame, LogSource, Numbers, OPTION_ONE,
+};
 use crate::hex;
 use crate::random::Random;
-use crate::selector::{Code, Time};
+use crate::selector::Time;
 
 const INPUTS: u8 = 3;
-const CODES: [Code; 8] = [2, 4, 8, 11, 15, 0, 2, 4];
 
 /// The octets that a number from 9 to 13 is about, counted from 1.
 const GROUPS: [(usize, usize); 5] = [(1, 6), (13, 15), (16, 20), (21, 21), (25, 27)];
@@ -26,13 +27,13 @@ pub struct Headers {
 }
 
 impl Headers {
-    pub fn new(random: Random) -> Headers {
+    pub fn new(random: Random, numbers: &'static Numbers) -> Headers {
         let mut setup = Vec::new();
         for n in 0..INPUTS {
             setup.extend([(0x01, n, 0), (0x07, n, 0), (0x04, n, 1), (0x10, n, 1)]);
         }
         Headers {
-            frames: FrameSource { random },
+            frames: FrameSource { random, numbers },
             now: 0,
             setup,
         }
@@ -42,6 +43,7 @@ impl Headers {
 /// Makes one frame after another.
 struct FrameSource {
     random: Random,
+    numbers: &'static Numbers,
 }
 
 impl FrameSource {
@@ -88,7 +90,7 @@ impl FrameSource {
         if !self.random.one_in(20) {
             random_octets(&mut self.random, &mut source);
         }
-        let code = self.random.pick(&CODES);
+        let code = self.random.pick(self.numbers.codes);
         let mut frame = [0; 1_514];
         frame[..60].copy_from_slice(&sound_frame(source, self.random.percent(50), code));
         match self.random.below(10) {
@@ -139,7 +141,10 @@ pub struct Frames {
 impl Frames {
     pub fn new(random: Random) -> Frames {
         Frames {
-            frames: FrameSource { random },
+            frames: FrameSource {
+                random,
+                numbers: &OPTION_ONE,
+            },
         }
     }
 

@@ -117,8 +117,10 @@ impl Senders {
 }
 
 /// The output of the mode `heartbeat`.
-pub fn heartbeat(text: &[u8]) -> String {
-    let mut selector = Naive::fresh();
+pub fn heartbeat(start: &[&str], text: &[u8]) -> String {
+    let Some(mut selector) = Naive::started(start) else {
+        return "06\n".to_string();
+    };
     let mut senders = Senders::default();
     let mut output = String::new();
     for line in naive::lines(text) {

@@ -9,11 +9,12 @@
 
 use std::collections::VecDeque;
 
-use crate::generate::{event_line, frame_line, random_octets, sound_frame, LogSource, LAST_TIME};
+use crate::generate::{
+    event_line, frame_line, random_octets, sound_frame, LogSource, Numbers, DO_NOT_USE, LAST_TIME,
+};
 use crate::random::Random;
 use crate::selector::{Code, Time, FRAME_LIFE, MINUTE};
 
-const CODES: [Code; 16] = [2, 2, 2, 4, 4, 4, 8, 8, 11, 11, 15, 0, 2, 4, 1, 14];
 const WAITS: [u16; 12] = [0, 0, 0, 0, 0, 1, 1, 1, 1, 2, 2, 12];
 const HOLD_OFFS: [u16; 8] = [300, 300, 301, 400, 500, 1_000, 1_799, 1_800];
 
@@ -54,6 +55,7 @@ struct Planned {
 
 pub struct Nasty {
     random: Random,
+    numbers: &'static Numbers,
     now: Time,
     line: u64,
     lines: u64,
@@ -67,9 +69,10 @@ pub struct Nasty {
 }
 
 impl Nasty {
-    pub fn new(random: Random, lines: u64) -> Nasty {
+    pub fn new(random: Random, lines: u64, numbers: &'static Numbers) -> Nasty {
         let mut nasty = Nasty {
             random,
+            numbers,
             now: 0,
             line: 0,
             lines,
@@ -103,10 +106,13 @@ impl Nasty {
         self.step(0, 0x04, n, 1);
         self.step(0, 0x07, n, 1);
         self.step(1, 0x01, n, 0);
-        self.tell(1, n, 2);
-        let (kind, argument) = self
-            .random
-            .pick(&[(0x05, 1), (0x04, 0), (0x08, 5), (0x0a, 0)]);
+        self.tell(1, n, self.numbers.followed[0]);
+        let (kind, argument) = self.random.pick(&[
+            (0x05, 1),
+            (0x04, 0),
+            (0x08, self.numbers.last_fixed),
+            (0x0a, 0),
+        ]);
         self.step(1 + MINUTE, kind, n, argument);
         self.step(1 + MINUTE, 0x0f, 0, 0);
         self.step(1 + MINUTE, 0x05, n, 0);
@@ -124,7 +130,7 @@ impl Nasty {
         self.step(0, 0x01, n, 0);
         self.step(1, 0x0a, n, 0);
         self.step(2, 0x0f, 0, 0);
-        self.step(3, 0x11, n, 4);
+        self.step(3, 0x11, n, self.numbers.last_floor);
         self.step(4, 0x0c, 0, 0);
         self.plan_setup();
     }
@@ -141,7 +147,7 @@ impl Nasty {
             self.step(0, 0x07, n, wait);
             self.sent[usize::from(n)].wait = wait;
             self.step(0, 0x01, n, 0);
-            let code = self.random.pick(&CODES);
+            let code = self.random.pick(self.numbers.codes);
             self.tell(0, n, code);
         }
     }
@@ -199,7 +205,7 @@ impl Nasty {
             self.busy_input()
         };
         let other = self.busy_input();
-        let code = self.random.pick(&CODES);
+        let code = self.random.pick(self.numbers.codes);
         match self.random.below(37) {
             0 | 1 => self.story_failure_of_just_the_hold_off(n, code),
             2 => self.story_long_failure(n, code),
@@ -357,7 +363,7 @@ impl Nasty {
     fn story_silence_covered(&mut self, n: u8, code: Code) {
         self.make_ethernet(n);
         self.step(0, 0x02, n, u16::from(code));
-        let fixed = self.random.between(1, 5) as u16;
+        let fixed = self.numbers.any_fixed(&mut self.random);
         let covered = self.random.pick(&[1, 3_000, 4_998, 4_999, 5_000, 5_001]);
         self.step(covered, 0x08, n, fixed);
         let uncovered = covered + self.random.pick(&[0, 1, 300, 2_000]);
@@ -397,7 +403,7 @@ impl Nasty {
     }
 
     fn story_manual(&mut self, n: u8, other: u8) {
-        let code = self.random.pick(&[2, 2, 2, 4, 8]);
+        let code = self.numbers.good_code(&mut self.random);
         let up = self.bring_up(n, code);
         if self.random.percent(50) {
             self.step(up, 0x0c, 0, 0);
@@ -405,8 +411,8 @@ impl Nasty {
         self.step(up, 0x0b, n, 0);
         let then = up + self.random.between(0, 20);
         match self.random.below(6) {
-            0 => self.tell(then, other, 2),
-            1 => self.tell(then, n, 15),
+            0 => self.tell(then, other, self.numbers.followed[0]),
+            1 => self.tell(then, n, DO_NOT_USE),
             2 => {
                 self.step(then, 0x01, n, 1);
                 self.step_about(then + self.hold_off(n), 0x01, n, 0);
@@ -440,16 +446,16 @@ impl Nasty {
 
     /// A floor set below what the input passes, with a switch on it, beside another input.
     fn story_floor(&mut self, n: u8, other: u8) {
-        let quality = self.random.between(1, 4);
-        let code = [2, 4, 8, 11][quality as usize - 1];
+        let quality = self.numbers.any_floor(&mut self.random);
+        let code = self.numbers.followed[usize::from(quality) - 1];
         let up = self.bring_up(n, code);
         match self.random.below(4) {
             0 => self.step(up, 0x0a, n, 0),
             1 | 2 => self.step(up, 0x0b, n, 0),
             _ => {}
         }
-        let floor = (quality + self.random.below(3)).saturating_sub(1);
-        self.step(up + 1, 0x11, n, floor as u16);
+        let floor = (quality + self.random.below(3) as u16).saturating_sub(1);
+        self.step(up + 1, 0x11, n, floor);
         match self.random.below(6) {
             0 => self.step(up + 1, 0x0b, n, 0),
             1 => self.step(up + 1, 0x0b, other, 0),
@@ -460,12 +466,15 @@ impl Nasty {
                 n,
                 u16::from(self.sent[usize::from(n)].ethernet),
             ),
-            4 => self.tell(up + 2, n, 2),
-            _ => self.tell(up + 2, other, 11),
+            4 => self.tell(up + 2, n, self.numbers.followed[0]),
+            _ => {
+                let code = self.random.pick(self.numbers.followed);
+                self.tell(up + 2, other, code);
+            }
         }
         if self.random.percent(60) {
             let later = self.random.pick(&[3, 4, 300, 301]);
-            let floor = self.random.pick(&[4, 4, 4, 3]);
+            let floor = self.numbers.last_floor - u16::from(self.random.one_in(4));
             self.step(up + later, 0x11, n, floor);
         }
         if self.random.percent(40) {
@@ -516,7 +525,7 @@ impl Nasty {
     /// The frame's 5,000th millisecond is the one in which the wait ends, or nearly.
     fn story_wait_and_frame_end_together(&mut self) {
         let n = self.quiet_input();
-        let code: Code = self.random.pick(&[2, 2, 4]);
+        let code = self.numbers.good_code(&mut self.random);
         self.make_ethernet(n);
         self.step(0, 0x07, n, 1);
         self.step(0, 0x01, n, 1);
@@ -543,7 +552,7 @@ impl Nasty {
         let late = self.random.below(12);
         let mut frame = back;
         for place in 0..13 {
-            self.step(frame, 0x02, n, 2);
+            self.step(frame, 0x02, n, u16::from(self.numbers.followed[0]));
             frame += if place == late {
                 self.random.between(4_999, 5_001)
             } else {
@@ -564,12 +573,17 @@ impl Nasty {
         let gap = self.random.between(4_300, 4_999);
         let last = (MINUTE - 1) / gap * gap;
         for frame in 0..=last / gap {
-            self.step(back + frame * gap, 0x02, n, 2);
+            self.step(
+                back + frame * gap,
+                0x02,
+                n,
+                u16::from(self.numbers.followed[0]),
+            );
         }
         let expiry = back + last + FRAME_LIFE;
         let next = self.random.pick(&[0, 1, back - 1, back, back + 1]);
         self.step(expiry + next, 0x0f, 0, 0);
-        self.step(expiry + next, 0x02, n, 2);
+        self.step(expiry + next, 0x02, n, u16::from(self.numbers.followed[0]));
     }
 
     /// An equal comes up while the selected one goes down, in one millisecond or nearly.
@@ -588,15 +602,16 @@ impl Nasty {
     /// Code reports that nearly settle: all invalid but not the same, or broken off.
     fn story_mixed_codes(&mut self, n: u8) {
         let ethernet = self.sent[usize::from(n)].ethernet;
-        let up = if ethernet { 0 } else { self.bring_up(n, 2) };
+        let [best, next] = [self.numbers.followed[0], self.numbers.followed[1]];
+        let up = if ethernet { 0 } else { self.bring_up(n, best) };
         let codes = if self.random.percent(60) {
-            [0, 1, 3, 14]
+            self.numbers.invalid
         } else {
-            [2, 2, 4, 15]
+            [best, best, next, DO_NOT_USE]
         };
         for _ in 0..self.random.between(3, 8) {
             let code = self.random.pick(&codes);
-            self.step(up, 0x03, n, code);
+            self.step(up, 0x03, n, u16::from(code));
         }
     }
 
@@ -645,7 +660,7 @@ impl Nasty {
         for input in [lower, higher] {
             self.step(0, 0x05, input, 0);
             self.step(0, 0x04, input, 2);
-            self.step(0, 0x08, input, 5);
+            self.step(0, 0x08, input, self.numbers.last_fixed);
             self.step(0, 0x01, input, 0);
             self.step(0, 0x09, input, 0);
         }
@@ -738,7 +753,7 @@ impl Nasty {
 
     /// A frame with something wrong in it, often more than one thing.
     fn send_damaged_frame(&mut self, input: u8, log: &mut Vec<u8>) {
-        let code = self.random.pick(&CODES);
+        let code = self.random.pick(self.numbers.codes);
         let mut frame = [0; 1_514];
         frame[..60].copy_from_slice(&sound_frame([2, 0, 0, 0, 0, input], false, code));
         let places = [0, 5, 12, 14, 15, 19, 20, 20, 20, 24, 26, 27];
@@ -771,20 +786,22 @@ impl Nasty {
         let (kind, input, argument) = match self.random.below(100) {
             0..=9 => (0x0f, 0, 0),
             10..=25 => (0x01, n, u16::from(sent.good ^ self.random.percent(70)) ^ 1),
-            26..=49 if sent.ethernet => (0x02, n, u16::from(self.random.pick(&CODES))),
-            26..=49 => (0x03, n, u16::from(self.random.pick(&CODES))),
+            26..=49 if sent.ethernet => (0x02, n, u16::from(self.random.pick(self.numbers.codes))),
+            26..=49 => (0x03, n, u16::from(self.random.pick(self.numbers.codes))),
             50..=56 => (0x04, n, self.random.pick(&[0, 1, 1, 1, 2, 2, 3, 16])),
             57..=61 => (0x05, n, u16::from(self.random.percent(25))),
             62..=66 => (0x06, n, self.random.pick(&HOLD_OFFS)),
             67..=71 => (0x07, n, self.random.pick(&WAITS)),
-            72..=75 => (0x08, n, self.random.pick(&[0, 0, 0, 0, 1, 2, 3, 4, 5])),
+            72 | 73 => (0x08, n, 0),
+            74 | 75 => (0x08, n, self.numbers.any_fixed(&mut self.random)),
             76..=80 => (0x09, n, 0),
             81 => (0x0a, n, 0),
             82..=87 => (0x0b, n, 0),
             88..=91 => (0x0c, 0, 0),
             92..=95 => (0x0d, 0, u16::from(self.random.percent(75))),
             96 => (0x0e, n, self.random.below(2) as u16),
-            97 => (0x11, n, self.random.pick(&[1, 2, 2, 3, 4, 4, 4])),
+            97 if self.random.percent(50) => (0x11, n, self.numbers.last_floor),
+            97 => (0x11, n, self.numbers.any_floor(&mut self.random)),
             _ => (0x10, n, u16::from(sent.ethernet ^ self.random.percent(30))),
         };
         self.send(kind, input, argument, log);
@@ -796,7 +813,8 @@ impl Nasty {
         match self.random.below(12) {
             0..=2 => self.send_torn(log),
             3 => {
-                let kind = self.random.pick(&[0x00, 0x12, 0x13, 0x21, 0x80, 0xff]);
+                let unknown = self.numbers.unknown;
+                let kind = self.random.pick(&[0x00, unknown, 0x13, 0x21, 0x80, 0xff]);
                 let input = self.random.below(20) as u8;
                 event_line(log, kind, self.now, input, self.random.below(3) as u16);
             }
@@ -826,7 +844,7 @@ impl Nasty {
                 };
                 match other_kind {
                     0x02 if self.random.percent(50) => event_line(log, 0x02, self.now, n, 0),
-                    0x02 => self.send_frame(n, 2, log),
+                    0x02 => self.send_frame(n, self.numbers.followed[0], log),
                     _ => event_line(log, 0x03, self.now, n, self.random.below(18) as u16),
                 }
             }
@@ -849,6 +867,7 @@ impl Nasty {
 
     /// The borders of every argument's range, and just beyond them.
     fn send_border(&mut self, n: u8, log: &mut Vec<u8>) {
+        let (fixed, floor) = (self.numbers.last_fixed, self.numbers.last_floor);
         let borders: [(u8, &[u16]); 17] = [
             (0x01, &[2, 256, 65_535]),
             (0x02, &[1, 256]),
@@ -857,7 +876,7 @@ impl Nasty {
             (0x05, &[0, 2, 256]),
             (0x06, &[299, 300, 1_800, 1_801, 0, 44]),
             (0x07, &[0, 12, 13, 256]),
-            (0x08, &[0, 5, 6, 7, 257]),
+            (0x08, &[0, fixed, fixed + 1, fixed + 2, 257]),
             (0x09, &[1, 256]),
             (0x0a, &[1, 256]),
             (0x0b, &[1, 256]),
@@ -865,8 +884,8 @@ impl Nasty {
             (0x0d, &[2, 256, 257]),
             (0x0e, &[0, 1, 2, 256]),
             (0x0f, &[1, 256]),
-            (0x10, &[2, 256, 257]),
-            (0x11, &[0, 1, 4, 5, 6, 257, 260]),
+            (0x10, &[self.numbers.beyond_kinds, 256, 257]),
+            (0x11, &[0, 1, floor, floor + 1, floor + 2, 257, 260]),
         ];
         let (kind, arguments) = self.random.pick(&borders);
         let argument = self.random.pick(arguments);
@@ -888,7 +907,7 @@ impl Nasty {
         let start = log.len();
         let n = self.busy_input();
         if self.random.percent(30) {
-            self.send_frame(n, 2, log);
+            self.send_frame(n, self.numbers.followed[0], log);
         } else {
             let kind = self
                 .random
@@ -922,7 +941,7 @@ impl Nasty {
     /// that is too long may find a good one in the rest of it.
     fn send_long(&mut self, start: usize, log: &mut Vec<u8>) {
         log.truncate(start);
-        self.send_frame(self.busy[0], 2, log);
+        self.send_frame(self.busy[0], self.numbers.followed[0], log);
         log.pop();
         let length = match self.random.below(20) {
             0 => 65_536,

@@ -5,13 +5,10 @@
 
 use std::collections::VecDeque;
 
-use crate::generate::{event_line, random_octets, LogSource};
+use crate::generate::{event_line, random_octets, sound, LogSource, Numbers};
 use crate::line;
-use crate::nasty::Nasty;
 use crate::random::Random;
-use crate::realistic::Realistic;
 use crate::selector::Time;
-use crate::sparse::Sparse;
 
 const PORTS: usize = 4;
 
@@ -34,12 +31,12 @@ pub struct Questions {
 }
 
 impl Questions {
-    pub fn new(mut random: Random, lines: u64) -> Questions {
+    pub fn new(mut random: Random, lines: u64, numbers: &'static Numbers) -> Questions {
         let inner = Random::new(random.next(), 0);
         let log: Box<dyn LogSource> = match random.below(3) {
-            0 => Box::new(Realistic::new(inner)),
-            1 => Box::new(Nasty::new(inner, lines / 6)),
-            _ => Box::new(Sparse::new(inner)),
+            0 => sound("realistic", inner, lines, numbers),
+            1 => sound("nasty", inner, lines / 6, numbers),
+            _ => sound("sparse", inner, lines, numbers),
         };
         let mut ports = [0; PORTS];
         for port in &mut ports {

@@ -3,12 +3,10 @@
 
 use std::collections::VecDeque;
 
-use crate::generate::{event_line, frame_line, random_octets, sound_frame, LogSource};
+use crate::generate::{event_line, frame_line, random_octets, sound_frame, LogSource, Numbers};
 use crate::random::Random;
 use crate::selector::{Code, Time};
 
-/// PRC and SSU-A are the usual thing, the rest happens.
-const CODES: [Code; 12] = [2, 2, 2, 4, 4, 4, 8, 8, 11, 11, 15, 0];
 const WAITS: [u16; 8] = [0, 1, 1, 1, 2, 3, 5, 12];
 
 /// What lies at the far end of an input.
@@ -34,6 +32,7 @@ enum Cause {
 
 pub struct Realistic {
     random: Random,
+    numbers: &'static Numbers,
     now: Time,
     neighbours: [Neighbour; 16],
     setup: VecDeque<(u8, u8, u16)>,
@@ -44,14 +43,14 @@ pub struct Realistic {
 }
 
 impl Realistic {
-    pub fn new(mut random: Random) -> Realistic {
+    pub fn new(mut random: Random, numbers: &'static Numbers) -> Realistic {
         let mut source = [0x02, 0, 0, 0, 0, 0];
         random_octets(&mut random, &mut source[1..5]);
         let first_ethernet = random.below(2) as usize;
         let mut neighbours = [Neighbour {
             ethernet: false,
             good: false,
-            code: 2,
+            code: numbers.followed[0],
             source,
             next_report: 0,
             hurried: 0,
@@ -61,12 +60,13 @@ impl Realistic {
         for (n, neighbour) in neighbours.iter_mut().enumerate() {
             neighbour.ethernet = n % 2 == first_ethernet;
             neighbour.source[5] = n as u8;
-            neighbour.code = random.pick(&CODES);
+            neighbour.code = random.pick(numbers.codes);
             neighbour.next_report = random.between(500, 3_000);
             neighbour.next_signal = random.between(100, 2_000);
         }
         let mut realistic = Realistic {
             random,
+            numbers,
             now: 0,
             neighbours,
             setup: VecDeque::new(),
@@ -94,14 +94,14 @@ impl Realistic {
                 self.setup.push_back((0x06, n, hold_off));
             }
             if self.random.percent(8) {
-                let fixed = self.random.between(1, 5) as u16;
+                let fixed = self.numbers.any_fixed(&mut self.random);
                 self.setup.push_back((0x08, n, fixed));
             }
             if self.random.percent(10) {
                 self.setup.push_back((0x0e, n, 0));
             }
             if self.random.percent(15) {
-                let floor = self.random.pick(&[2, 2, 1, 3]);
+                let floor = self.numbers.any_floor(&mut self.random);
                 self.setup.push_back((0x11, n, floor));
             }
         }
@@ -166,7 +166,7 @@ impl Realistic {
     fn report(&mut self, n: usize, log: &mut Vec<u8>) -> bool {
         let changed = self.random.one_in(120);
         if changed {
-            self.neighbours[n].code = self.random.pick(&CODES);
+            self.neighbours[n].code = self.random.pick(self.numbers.codes);
             self.neighbours[n].hurried = 3;
         }
         let gap = self.gap_after_report(n);
@@ -230,9 +230,10 @@ impl Realistic {
             62..=73 => (0x09, n, 0),
             74..=79 => (0x06, n, self.random.between(300, 1_800) as u16),
             80..=85 => (0x07, n, self.random.pick(&WAITS)),
-            86..=89 => (0x08, n, self.random.pick(&[0, 0, 0, 1, 2, 3, 4, 5])),
+            86 | 87 => (0x08, n, 0),
+            88 | 89 => (0x08, n, self.numbers.any_fixed(&mut self.random)),
             90..=93 => (0x0e, n, self.random.below(2) as u16),
-            94 => (0x11, n, self.random.pick(&[1, 2, 2, 3, 4, 4])),
+            94 => (0x11, n, self.numbers.any_floor(&mut self.random)),
             95..=96 => (0x0d, 0, 0),
             _ => (0x10, n, self.new_kind(at)),
         };

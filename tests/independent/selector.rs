@@ -20,9 +20,17 @@ pub type DueMoments = u32;
 /// The four bits of an SSM.
 pub type Code = u8;
 
+/// L12: "the sixteen-bit status words of table 6".
+pub type Word = u16;
+
+/// What a line or a 1,544 kbit/s input reports: a code or a word.
+pub type Report = u16;
+
 pub const INPUTS: usize = 16;
 
 pub const MINUTE: Time = 60_000;
+
+const FRESH_HOLD_OFF: Time = 300;
 
 /// "if it came less than 5,000 ms ago"
 pub const FRAME_LIFE: Time = 5_000;
@@ -36,7 +44,7 @@ pub struct InputNumber(pub u8);
 #[derive(Clone, Copy, PartialEq, Eq, PartialOrd, Ord, Debug)]
 pub struct Priority(pub u8);
 
-#[derive(Clone, Copy, PartialEq, Eq, PartialOrd, Ord, Debug)]
+#[derive(Clone, Copy, PartialEq, Eq, PartialOrd, Ord)]
 pub struct Quality(pub u8);
 
 impl InputNumber {
@@ -53,40 +61,26 @@ impl Priority {
 impl Quality {
     /// "0 is 'not told', used when quality is off"
     pub const NOT_TOLD: Quality = Quality(0);
-    pub const PRC: Quality = Quality(1);
-    pub const SSU_A: Quality = Quality(2);
-    pub const SSU_B: Quality = Quality(3);
-    pub const SEC: Quality = Quality(4);
-    pub const DNU: Quality = Quality(5);
-    pub const INVALID: Quality = Quality(6);
-    /// "7 is failed"
-    pub const FAILED: Quality = Quality(7);
-
-    /// The table of codes; "Any other of the sixteen codes reads as 6, invalid".
-    pub fn of_code(code: Code) -> Quality {
-        match code {
-            0b0010 => Quality::PRC,
-            0b0100 => Quality::SSU_A,
-            0b1000 => Quality::SSU_B,
-            0b1011 => Quality::SEC,
-            0b1111 => Quality::DNU,
-            _ => Quality::INVALID,
-        }
-    }
-
-    /// The same table the other way, for the qualities a clock can have.
-    pub fn code(self) -> Code {
-        match self {
-            Quality::PRC => 0b0010,
-            Quality::SSU_A => 0b0100,
-            Quality::SSU_B => 0b1000,
-            Quality::SEC => 0b1011,
-            _ => 0b1111,
-        }
-    }
+    /// L10: "Invalid, failed and not-told become 11, 12 and 0." Option I's 6 and 7 are kept
+    /// as 11 and 12 too: no answer shows them.
+    pub const INVALID: Quality = Quality(11);
+    pub const FAILED: Quality = Quality(12);
 
     pub fn failed(self) -> bool {
         self == Quality::FAILED
+    }
+}
+
+/// Invalid and failed as document 01 numbers them: whoever follows the moments of a replay
+/// (of option I) looks for these.
+impl std::fmt::Debug for Quality {
+    fn fmt(&self, out: &mut std::fmt::Formatter) -> std::fmt::Result {
+        let number = match *self {
+            Quality::INVALID => 6,
+            Quality::FAILED => 7,
+            Quality(number) => number,
+        };
+        write!(out, "Quality({number})")
     }
 }
 
@@ -97,6 +91,7 @@ pub enum Event {
     SignalFail,
     Frame(Code),
     LineCode(Code),
+    Word(Word),
     Priority(Priority),
     Lockout(bool),
     HoldOff(Time),
@@ -110,15 +105,24 @@ pub enum Event {
     QualityMode(bool),
     Sending(bool),
     Tick,
-    Ethernet(bool),
+    Kind(Kind),
+}
+
+/// "kind (line or Ethernet)"; L12: "An input may be of this third kind".
+#[derive(Clone, Copy, PartialEq, Eq, Debug)]
+pub enum Kind {
+    Line,
+    Ethernet,
+    Words,
 }
 
 /// "the codes heard, the count of equal ones and the frames heard"
 #[derive(Clone, Debug)]
 pub struct Heard {
-    /// "the last code that came in three consecutive code reports"
-    pub settled: Option<Code>,
-    pub latest: Code,
+    /// "the last code that came in three consecutive code reports"; L12: words too are
+    /// "accepted after three equal consecutive reports and forgotten as codes are".
+    pub settled: Option<Report>,
+    pub latest: Report,
     pub equal: u8,
     /// Code and time of "the last accepted frame".
     pub frame: Option<(Code, Time)>,
@@ -132,8 +136,13 @@ impl Heard {
         frame: None,
     };
 
-    /// Readings: "the same four bits, three recorded reports of this input in a row".
     fn code_report(&mut self, code: Code) {
+        self.report(code.into());
+    }
+
+    /// Readings: "the same four bits, three recorded reports of this input in a row", and "the
+    /// same sixteen bits". An input has codes or words, never both: a kind event forgets.
+    fn report(&mut self, code: Report) {
         if self.equal > 0 && self.latest == code {
             self.equal = 3.min(self.equal + 1);
         } else {
@@ -146,15 +155,22 @@ impl Heard {
     }
 
     /// "before any such code, 7"
-    fn line_quality(&self) -> Quality {
-        self.settled.map_or(Quality::FAILED, Quality::of_code)
+    fn line_quality(&self, profile: Profile) -> Quality {
+        self.settled
+            .map_or(Quality::FAILED, |code| profile.quality_of(code as Code))
+    }
+
+    /// Readings: "Before any: failed".
+    fn word_quality(&self, profile: Profile) -> Quality {
+        self.settled
+            .map_or(Quality::FAILED, |word| profile.quality_of_word(word))
     }
 
     /// "the code of the last accepted frame, if it came less than 5,000 ms ago;
     /// otherwise 7"
-    fn ethernet_quality(&self, now: Time) -> Quality {
+    fn ethernet_quality(&self, now: Time, profile: Profile) -> Quality {
         match self.frame {
-            Some((code, came)) if now - came < FRAME_LIFE => Quality::of_code(code),
+            Some((code, came)) if now - came < FRAME_LIFE => profile.quality_of(code),
             _ => Quality::FAILED,
         }
     }
@@ -163,7 +179,8 @@ impl Heard {
 /// One of the sixteen inputs.
 #[derive(Clone, Debug)]
 pub struct Input {
-    pub ethernet: bool,
+    pub profile: Profile,
+    pub kind: Kind,
     pub priority: Priority,
     pub locked_out: bool,
     pub hold_off: Time,
@@ -186,24 +203,26 @@ pub struct Input {
 
 impl Input {
     /// "Fresh: line, priority 0, not locked, 300 ms, 5 minutes, none fixed, sending
-    /// on, signal failing." And: "Time 0, fresh, is down." L9: "a floor 1 to 4, fresh
-    /// value 4".
-    const FRESH: Input = Input {
-        ethernet: false,
-        priority: Priority::OFF,
-        locked_out: false,
-        hold_off: 300,
-        wait: 5 * MINUTE,
-        fixed: None,
-        floor: Quality::SEC,
-        sending: true,
-        failing: true,
-        heard: Heard::NOTHING,
-        raw: Quality::FAILED,
-        run_began: 0,
-        raw_before_failure: Quality::FAILED,
-        down: true,
-    };
+    /// on, signal failing." And: "Time 0, fresh, is down."
+    fn fresh(profile: Profile) -> Input {
+        Input {
+            profile,
+            kind: Kind::Line,
+            priority: Priority::OFF,
+            locked_out: false,
+            hold_off: FRESH_HOLD_OFF,
+            wait: 5 * MINUTE,
+            fixed: None,
+            floor: profile.fresh_floor(),
+            sending: true,
+            failing: true,
+            heard: Heard::NOTHING,
+            raw: Quality::FAILED,
+            run_began: 0,
+            raw_before_failure: Quality::FAILED,
+            down: true,
+        }
+    }
 
     /// "In this order: signal failing gives 7; quality mode off gives 0; a fixed
     /// quality gives itself; otherwise what was heard."
@@ -214,10 +233,16 @@ impl Input {
             Quality::NOT_TOLD
         } else if let Some(fixed) = self.fixed {
             fixed
-        } else if self.ethernet {
-            self.heard.ethernet_quality(now)
         } else {
-            self.heard.line_quality()
+            self.heard_quality(now)
+        }
+    }
+
+    fn heard_quality(&self, now: Time) -> Quality {
+        match self.kind {
+            Kind::Line => self.heard.line_quality(self.profile),
+            Kind::Ethernet => self.heard.ethernet_quality(now, self.profile),
+            Kind::Words => self.heard.word_quality(self.profile),
         }
     }
 
@@ -278,10 +303,10 @@ impl Input {
         self.priority == Priority::OFF || self.locked_out
     }
 
-    /// "not 7 with mode off"; with mode on L9: "passed quality from 1 to the input's floor".
+    /// "not 7 with mode off"; with mode on what is within the input's floor (L9).
     pub fn usable(&self, quality_mode: bool) -> bool {
         if quality_mode {
-            (Quality::PRC..=self.floor).contains(&self.passed())
+            self.profile.within(self.passed(), self.floor)
         } else {
             !self.passed().failed()
         }
@@ -310,6 +335,7 @@ impl Input {
             // accepted but not recorded."
             Event::Frame(code) if !self.failing => self.heard.frame = Some((code, now)),
             Event::LineCode(code) if !self.failing => self.heard.code_report(code),
+            Event::Word(word) if !self.failing => self.heard.report(word),
             Event::Priority(priority) => self.priority = priority,
             Event::Lockout(set) => self.locked_out = set,
             Event::HoldOff(hold_off) => self.hold_off = hold_off,
@@ -318,8 +344,8 @@ impl Input {
             Event::Floor(floor) => self.floor = floor,
             Event::Sending(on) => self.sending = on,
             // "any event setting its kind, forget the codes heard"
-            Event::Ethernet(ethernet) => {
-                self.ethernet = ethernet;
+            Event::Kind(kind) => {
+                self.kind = kind;
                 self.heard = Heard::NOTHING;
             }
             // "or the event of that very moment is a clear-wait on it"
@@ -350,6 +376,7 @@ const NOT_ELIGIBLE: Rank = Rank::MAX;
 
 #[derive(Clone)]
 pub struct Selector {
+    pub profile: Profile,
     pub time: Time,
     pub quality_mode: bool,
     pub inputs: [Input; INPUTS],
@@ -369,18 +396,24 @@ pub struct Selector {
 impl Selector {
     /// "The selector starts at time 0, quality mode on, no switch, nothing selected."
     pub fn fresh() -> Selector {
+        Selector::started(Profile::OptionI)
+    }
+
+    /// The same in either option.
+    pub fn started(profile: Profile) -> Selector {
         Selector {
+            profile,
             time: 0,
             quality_mode: true,
-            inputs: [Input::FRESH; INPUTS],
+            inputs: std::array::from_fn(|_| Input::fresh(profile)),
             switch: Switch::None,
             selected: None,
             clock_state: ClockState::FreeRun,
-            clock_quality: Quality::SEC,
+            clock_quality: profile.own_quality(),
             was_locked: false,
             ranks: [NOT_ELIGIBLE; INPUTS],
-            due: [Input::FRESH.hold_off; INPUTS],
-            earliest_due: Input::FRESH.hold_off,
+            due: [FRESH_HOLD_OFF; INPUTS],
+            earliest_due: FRESH_HOLD_OFF,
         }
     }
 
@@ -491,15 +524,15 @@ impl Selector {
         self.rank_anew(n)
     }
 
-    /// "Better: lower passed quality (mode on only), then lower priority number."
+    /// "Better: lower passed quality (mode on only), then lower priority number." L10: PROV
+    /// "then ranks there", where it is placed.
     fn rank_anew(&mut self, n: usize) -> bool {
         let input = &self.inputs[n];
-        let rank = if !input.eligible(self.quality_mode) {
-            NOT_ELIGIBLE
-        } else if self.quality_mode {
-            Rank::from(input.passed().0) << 8 | Rank::from(input.priority.0)
-        } else {
-            Rank::from(input.priority.0)
+        let priority = Rank::from(input.priority.0);
+        let rank = match self.profile.place(input.passed()) {
+            _ if !input.eligible(self.quality_mode) => NOT_ELIGIBLE,
+            Some(place) if self.quality_mode => Rank::from(place) << 8 | priority,
+            _ => priority,
         };
         let changed = rank != self.ranks[n];
         self.ranks[n] = rank;
@@ -574,11 +607,12 @@ impl Selector {
             .filter(|input| input.usable(self.quality_mode))
             .map(Input::passed);
         self.clock_state = self.clock_state_when(locked_to.is_some());
-        // "Clock quality: 0 with mode off; the passed quality when locked; otherwise 4."
+        // "Clock quality: 0 with mode off; the passed quality when locked; otherwise 4", or
+        // 6 in option II.
         self.clock_quality = match locked_to {
             _ if !self.quality_mode => Quality::NOT_TOLD,
             Some(passed) => passed,
-            None => Quality::SEC,
+            None => self.profile.own_quality(),
         };
         self.was_locked |= locked_to.is_some();
     }
@@ -620,9 +654,22 @@ impl Selector {
         let told =
             self.quality_mode && self.inputs[port.index()].sending && self.selected != Some(port);
         if told {
-            self.clock_quality.code()
+            self.profile.code_of(self.clock_quality, port)
         } else {
             0b1111
+        }
+    }
+
+    /// L12: the word of a port, "With sending off the word is 08FF"; "With sending on, mode off
+    /// or the selected port gives 30FF". Nothing in option I.
+    pub fn outgoing_word(&self, port: InputNumber) -> Option<Word> {
+        let of_clock = self.profile.word_of(self.clock_quality, port)?;
+        if !self.inputs[port.index()].sending {
+            Some(NOT_SENDING)
+        } else if !self.quality_mode || self.selected == Some(port) {
+            Some(NOT_TO_BE_USED_WORD)
+        } else {
+            Some(of_clock)
         }
     }
 
@@ -634,4 +681,253 @@ impl Selector {
         }
         self.ranks.iter().filter(|&&rank| rank == best).count()
     }
+}
+
+/// L10: "A profile chosen once, at the fresh start": what a quality's number means in option I
+/// and in option II, how qualities rank, and what they are told as.
+#[derive(Clone, Copy, PartialEq, Eq, Debug)]
+pub enum Profile {
+    OptionI,
+    OptionII(Placed),
+}
+
+/// What is given with option II.
+#[derive(Clone, Copy, PartialEq, Eq, Debug)]
+pub struct Placed {
+    /// "the place of PROV (0 none, 1 to 8)", just below which it ranks.
+    prov: u8,
+    /// Bit i for port i: "A port marked first generation".
+    marks: u16,
+    /// Whether words are known: from L12 on.
+    words: bool,
+}
+
+/// A place among the qualities that can be followed: lower is better.
+type Place = u8;
+
+// Option I.
+pub const PRC: Quality = Quality(1);
+pub const SSU_A: Quality = Quality(2);
+pub const SSU_B: Quality = Quality(3);
+pub const SEC: Quality = Quality(4);
+pub const DNU: Quality = Quality(5);
+
+// Option II.
+pub const PRS: Quality = Quality(1);
+pub const STU: Quality = Quality(2);
+pub const ST2: Quality = Quality(3);
+pub const TNC: Quality = Quality(4);
+pub const ST3E: Quality = Quality(5);
+pub const ST3: Quality = Quality(6);
+pub const SIC: Quality = Quality(7);
+pub const ST4: Quality = Quality(8);
+pub const PROV: Quality = Quality(9);
+pub const DUS: Quality = Quality(10);
+
+/// "Do not use", in both options.
+const NOT_TO_BE_USED: Code = 0b1111;
+
+/// "A port marked first generation sends TNC and ST3E as 1010."
+const FIRST_GENERATION: Code = 0b1010;
+
+/// L12: the same for words.
+const NOT_TO_BE_USED_WORD: Word = 0x30ff;
+const FIRST_GENERATION_WORD: Word = 0x10ff;
+
+/// "With sending off the word is 08FF, which a receiver reads as STU".
+const NOT_SENDING: Word = 0x08ff;
+
+/// The level at which words are known, unless START says another.
+const LEVEL_OF_WORDS: u64 = 12;
+
+impl Profile {
+    /// START: nothing, or `2 PLACE MARKS`, and after it the level if it isn't 12 (10: words are
+    /// not known). The profile; `None` for a refused start.
+    pub fn of_start(arguments: &[&str]) -> Result<Option<Profile>, String> {
+        match arguments {
+            [] => Ok(Some(Profile::OptionI)),
+            ["2", place, marks, level @ ..] if level.len() <= 1 => {
+                let wrong = || format!("not a start: {}", arguments.join(" "));
+                let place = decimal(place).ok_or_else(wrong)?;
+                let marks = four_digits(marks).ok_or_else(wrong)?;
+                let level = level
+                    .first()
+                    .map_or(Some(LEVEL_OF_WORDS), |level| decimal(level));
+                let words = level.ok_or_else(wrong)? >= LEVEL_OF_WORDS;
+                Ok(Profile::option_two(place, marks, words))
+            }
+            _ => Err(format!("not a start: {}", arguments.join(" "))),
+        }
+    }
+
+    /// Option II; nothing for a place of PROV that is out of range, "otherwise refusal 6 and
+    /// no start".
+    pub fn option_two(place: u64, marks: u16, words: bool) -> Option<Profile> {
+        let prov = u8::try_from(place).ok().filter(|place| *place <= ST4.0)?;
+        Some(Profile::OptionII(Placed { prov, marks, words }))
+    }
+
+    /// L12: words are for option II only; "in option I it stays unknown".
+    pub fn knows_words(self) -> bool {
+        matches!(self, Profile::OptionII(placed) if placed.words)
+    }
+
+    /// L12's table; "Words not listed read as invalid."
+    pub fn quality_of_word(self, word: Word) -> Quality {
+        match word {
+            0x04ff => PRS,
+            0x08ff => STU,
+            0x0cff => ST2,
+            0x78ff => TNC,
+            0x7cff => ST3E,
+            0x10ff => ST3,
+            0x22ff => SIC,
+            0x28ff => ST4,
+            0x40ff => PROV,
+            0x30ff => DUS,
+            _ => Quality::INVALID,
+        }
+    }
+
+    /// The same table the other way. "First-generation ports send 10FF for TNC and ST3E."
+    fn word_of(self, quality: Quality, port: InputNumber) -> Option<Word> {
+        let Profile::OptionII(placed) = self else {
+            return None;
+        };
+        Some(match quality {
+            TNC | ST3E if placed.first_generation(port) => FIRST_GENERATION_WORD,
+            PRS => 0x04ff,
+            STU => 0x08ff,
+            ST2 => 0x0cff,
+            TNC => 0x78ff,
+            ST3E => 0x7cff,
+            ST3 => 0x10ff,
+            SIC => 0x22ff,
+            ST4 => 0x28ff,
+            PROV => 0x40ff,
+            _ => NOT_TO_BE_USED_WORD,
+        })
+    }
+
+    /// The table of codes; any other code is invalid.
+    pub fn quality_of(self, code: Code) -> Quality {
+        match self {
+            Profile::OptionI => match code {
+                0b0010 => PRC,
+                0b0100 => SSU_A,
+                0b1000 => SSU_B,
+                0b1011 => SEC,
+                0b1111 => DNU,
+                _ => Quality::INVALID,
+            },
+            Profile::OptionII(_) => match code {
+                0b0001 => PRS,
+                0b0000 => STU,
+                0b0111 => ST2,
+                0b0100 => TNC,
+                0b1101 => ST3E,
+                0b1010 => ST3,
+                0b1100 => SIC,
+                0b1110 => PROV,
+                0b1111 => DUS,
+                _ => Quality::INVALID,
+            },
+        }
+    }
+
+    /// The same table the other way, for the qualities a clock can have. "A locked ST4 clock
+    /// quality goes out as code 1111."
+    pub fn code_of(self, quality: Quality, port: InputNumber) -> Code {
+        match self {
+            Profile::OptionI => match quality {
+                PRC => 0b0010,
+                SSU_A => 0b0100,
+                SSU_B => 0b1000,
+                SEC => 0b1011,
+                _ => NOT_TO_BE_USED,
+            },
+            Profile::OptionII(placed) => match quality {
+                TNC | ST3E if placed.first_generation(port) => FIRST_GENERATION,
+                PRS => 0b0001,
+                STU => 0b0000,
+                ST2 => 0b0111,
+                TNC => 0b0100,
+                ST3E => 0b1101,
+                ST3 => 0b1010,
+                SIC => 0b1100,
+                PROV => 0b1110,
+                _ => NOT_TO_BE_USED,
+            },
+        }
+    }
+
+    /// Where a quality ranks, if it can be followed at all. PROV ranks strictly between the
+    /// number it is placed just below and the next one.
+    pub fn place(self, quality: Quality) -> Option<Place> {
+        match self {
+            Profile::OptionI => (PRC..=SEC).contains(&quality).then_some(2 * quality.0),
+            Profile::OptionII(placed) => match quality {
+                PROV if placed.prov == 0 => None,
+                PROV => Some(2 * placed.prov + 1),
+                _ => (PRS..=ST4).contains(&quality).then_some(2 * quality.0),
+            },
+        }
+    }
+
+    /// With mode on: "passed quality from 1 to the input's floor", and PROV "is usable if that
+    /// number is smaller than the input's floor".
+    pub fn within(self, quality: Quality, floor: Quality) -> bool {
+        self.place(quality) <= self.place(floor) && self.place(quality).is_some()
+    }
+
+    /// What the clock tells where it isn't locked. L10: "Our clock is ST3".
+    pub fn own_quality(self) -> Quality {
+        match self {
+            Profile::OptionI => SEC,
+            Profile::OptionII(_) => ST3,
+        }
+    }
+
+    /// "fresh value 4"; L10: "fresh value 6".
+    pub fn fresh_floor(self) -> Quality {
+        match self {
+            Profile::OptionI => SEC,
+            Profile::OptionII(_) => ST3,
+        }
+    }
+
+    /// Floors run from 1 to this.
+    pub fn last_floor(self) -> Quality {
+        match self {
+            Profile::OptionI => SEC,
+            Profile::OptionII(_) => ST4,
+        }
+    }
+
+    /// Fixed qualities run from 1 to this.
+    pub fn last_fixed(self) -> Quality {
+        match self {
+            Profile::OptionI => DNU,
+            Profile::OptionII(_) => DUS,
+        }
+    }
+}
+
+impl Placed {
+    fn first_generation(self, port: InputNumber) -> bool {
+        self.marks >> port.0 & 1 == 1
+    }
+}
+
+/// A number too large for its type is out of range as well.
+fn decimal(digits: &str) -> Option<u64> {
+    let right = !digits.is_empty() && digits.bytes().all(|digit| digit.is_ascii_digit());
+    right.then(|| digits.parse().unwrap_or(u64::MAX))
+}
+
+fn four_digits(digits: &str) -> Option<u16> {
+    let right = digits.len() == 4 && digits.bytes().all(|digit| digit.is_ascii_hexdigit());
+    right
+        .then(|| u16::from_str_radix(digits, 16).ok())
+        .flatten()
 }

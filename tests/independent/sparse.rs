@@ -9,7 +9,7 @@
 
 use std::collections::VecDeque;
 
-use crate::generate::{event_line, frame_line, sound_frame, LogSource, LAST_TIME};
+use crate::generate::{event_line, frame_line, sound_frame, LogSource, Numbers, LAST_TIME};
 use crate::random::Random;
 use crate::selector::{Code, Time, FRAME_LIFE, MINUTE};
 
@@ -29,6 +29,7 @@ struct Planned {
 
 pub struct Sparse {
     random: Random,
+    numbers: &'static Numbers,
     now: Time,
     /// The inputs of this log; the others stay fresh.
     group: [u8; GROUP],
@@ -42,11 +43,12 @@ pub struct Sparse {
 }
 
 impl Sparse {
-    pub fn new(mut random: Random) -> Sparse {
+    pub fn new(mut random: Random, numbers: &'static Numbers) -> Sparse {
         let mut sparse = Sparse {
             group: some_inputs(&mut random),
             crowded: random.percent(30),
             random,
+            numbers,
             now: 0,
             hold_offs: [300; GROUP],
             ethernet: [false; GROUP],
@@ -102,6 +104,18 @@ impl Sparse {
     /// Something ends so long after now.
     fn ends(&mut self, after: Time) {
         self.ends.push(self.now + after);
+    }
+
+    /// A fixed quality, mostly one of the best two; in option II PROV now and then.
+    fn quality(&mut self) -> u16 {
+        if self.random.percent(20) {
+            return self.numbers.any_fixed(&mut self.random);
+        }
+        self.random.between(1, 2) as u16
+    }
+
+    fn code(&mut self) -> u16 {
+        u16::from(self.numbers.good_code(&mut self.random))
     }
 
     fn member(&mut self) -> usize {
@@ -188,15 +202,16 @@ impl Sparse {
 
     /// Several equals, all of them down, recover one after another.
     fn episode_waits_in_turn(&mut self) {
-        let quality = self.random.between(1, 2) as u16;
+        let quality = self.quality();
         let mut good = 2_000;
         let first = self.member();
         let count = self.random.between(2, GROUP as u64) as usize;
         for place in 0..count {
             // The higher numbers first, or it makes no difference.
             let member = (first + GROUP - place) % GROUP;
-            let other_quality = self.random.one_in(10);
-            self.waits(member, good, quality + u16::from(other_quality));
+            let another = self.random.one_in(10);
+            let quality = if another { self.quality() } else { quality };
+            self.waits(member, good, quality);
             good += self.apart();
         }
         if self.random.percent(40) {
@@ -260,7 +275,7 @@ impl Sparse {
             _ => self.random.between(1, FRAME_LIFE - 1),
         };
         let frame = 2_000 + MINUTE - before_the_end;
-        let code = self.random.pick(&[2, 2, 2, 4]);
+        let code = self.code();
         self.step(frame, 0x02, n, code);
         self.step(frame, 0x08, n, 0);
         self.ends(frame + FRAME_LIFE);
@@ -276,14 +291,14 @@ impl Sparse {
 
     /// Ethernet inputs that are up fall silent one after another.
     fn episode_silent_in_turn(&mut self) {
-        let code: Code = self.random.pick(&[2, 4]);
+        let code = self.code();
         let mut heard = 1;
         for member in 0..self.random.between(2, GROUP as u64) as usize {
             let n = self.group[member];
             self.make_ethernet(member);
             self.step(0, 0x08, n, 0);
             self.step(0, 0x01, n, 0);
-            self.step(heard, 0x02, n, u16::from(code));
+            self.step(heard, 0x02, n, code);
             self.step(heard, 0x09, n, 0);
             self.ends(heard + FRAME_LIFE);
             self.ends(heard + FRAME_LIFE + self.hold_offs[member]);
@@ -311,7 +326,7 @@ impl Sparse {
         self.waits(0, 2_000, 1);
         let gone = 2_000 + MINUTE - self.random.below(900);
         let frame = gone - FRAME_LIFE - self.hold_offs[silent];
-        self.step(frame, 0x02, n, 2);
+        self.step(frame, 0x02, n, u16::from(self.numbers.followed[0]));
         self.step(frame, 0x08, n, 0);
         self.ends(gone);
     }
@@ -320,13 +335,13 @@ impl Sparse {
     fn episode_floors(&mut self) {
         let low = self.member();
         let (low, high) = (self.group[low], self.group[(low + 1) % GROUP]);
-        let quality = self.random.between(2, 4) as u16;
+        let quality = self.numbers.any_floor(&mut self.random).max(2);
         for member in 0..GROUP {
             let n = self.group[member];
             self.step(0, 0x08, n, quality);
             self.step(0, 0x01, n, 0);
             self.step(0, 0x09, n, 0);
-            self.step(0, 0x11, n, 4);
+            self.step(0, 0x11, n, self.numbers.last_floor);
         }
         let below = quality.max(3) - 1;
         self.step(1, 0x08, low, below);
@@ -355,8 +370,8 @@ impl Sparse {
         }
         if self.random.percent(80) {
             self.step(9, 0x0c, 0, 0);
-            self.step(9, 0x11, low, 4);
-            self.step(9, 0x11, high, 4);
+            self.step(9, 0x11, low, self.numbers.last_floor);
+            self.step(9, 0x11, high, self.numbers.last_floor);
         }
     }
 
@@ -381,7 +396,7 @@ impl Sparse {
         }
         for n in 0..16 {
             self.step(good, 0x01, n, 0);
-            self.step(heard, 0x02, n, 2);
+            self.step(heard, 0x02, n, u16::from(self.numbers.followed[0]));
             good += if alone { 1 } else { self.random.below(3) };
             heard += if alone { 1 } else { self.random.below(3) };
         }
@@ -399,7 +414,7 @@ impl Sparse {
         let mut failed = 2;
         for member in 0..GROUP {
             let n = self.group[member];
-            let quality = self.random.between(1, 2) as u16;
+            let quality = self.quality();
             self.step(0, 0x08, n, quality);
             self.step(0, 0x01, n, 0);
             self.step(1, 0x09, n, 0);
@@ -431,7 +446,7 @@ impl Sparse {
         let n = self.group[member];
         match self.random.below(7) {
             6 => {
-                let floor = self.random.pick(&[1, 2, 4, 4]);
+                let floor = self.numbers.any_floor(&mut self.random);
                 self.step(0, 0x11, n, floor);
             }
             0 => {
