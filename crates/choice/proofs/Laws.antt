@@ -1,54 +1,75 @@
 -- The definitions of `specs/`, a law for each way through the function that meets it. Assumes nothing.
-use Prim.Native.Nat.{ℕ, _+_, _≤_, _<_}
+use Prim.Native.Nat.{ℕ, _+_, _*_, _≤_, _<_}
 use mathlib.Core.Bool.{Bool, true, false, not}
 use mathlib.Core.List.{List}
 use mathlib.Core.Path.{_≡_, refl, sym, _∙_}
 use native.Mathlib.Omega.{arith}
 use native.Mathlib.Numerals.{add-one}
-use lib.Dec.{leb, ltb}
+use lib.Dec.{eqb, leb, ltb}
 use lib.ListN.{length, getD, List·getD-eq-default}
 use borrow.Author.Tests.{lt-ltb, le-ltb, le-leb, lt-leb, eq-eqb, ne-eqb}
 use Rattle.numbers.specs.declared.InputNumber.{InputNumber}
 use Rattle.numbers.specs.declared.Priority.{Priority}
 use Rattle.numbers.specs.declared.Quality.{Quality}
 use Rattle.numbers.specs.Inputs.{inputCount}
-use Rattle.numbers.specs.Quality.{notTold, isFailed}
+use Rattle.numbers.specs.Quality.{notTold, prov, isFailed}
 use Rattle.numbers.specs.Truth.{alike}
 use Rattle.choice.specs.declared.Candidate.{Candidate}
 use Rattle.choice.specs.declared.Seen.{Seen}
 use Rattle.choice.specs.declared.Selection.{Selection}
 use Rattle.choice.specs.declared.Selection.the-variants.{Nothing, At}
-use Rattle.choice.specs.Candidate.{nobody, isWithin, isUsable, isAdmitted, rankedQuality, isEligible, isBetter, isLike, eligibleAmong, betterAmong, isLower, lowerAmong, anyLower}
+use Rattle.choice.specs.declared.Rank.{Rank}
+use Rattle.choice.specs.Rank.{isPlaced, rankOf, floorRank}
+use Rattle.choice.specs.Candidate.{nobody, isUsable, isAdmitted, rankedQuality, isEligible, isBetter, isLike, eligibleAmong, betterAmong, isLower, lowerAmong, anyLower}
 use Rattle.choice.specs.Choice.{seeded, offered, scanned, choose}
 
--- ---- isWithin, isUsable
+-- ---- isPlaced, rankOf
 
-module _ (floor passed : Quality) where
-  pub isWithin-high : 1 ≤ passed .0 → leb (passed .0) (floor .0) ≡ isWithin floor passed
-  unfolding isWithin
-  isWithin-high h = rw (le-leb _ _ h)
+module _ (place : ℕ) (told : Quality) where
+  pub isPlaced-prov : told .0 ≡ prov .0 → not (eqb place 0) ≡ isPlaced place told
+  unfolding isPlaced
+  isPlaced-prov e = rw (eq-eqb (told .0) (prov .0) e)
 
-  pub isWithin-low : passed .0 < 1 → false ≡ isWithin floor passed
-  unfolding isWithin
-  isWithin-low h = rw (lt-leb _ _ h)
+  pub isPlaced-other : (told .0 ≡ prov .0 → ⊥) → false ≡ isPlaced place told
+  unfolding isPlaced
+  isPlaced-other e = rw (ne-eqb (told .0) (prov .0) e)
 
-pub ruleset isWithin-laws = (isWithin-high, isWithin-low)
+  pub rankOf-placed : (test : Bool) → test ≡ isPlaced place told → test ≡ true
+      → _≡_ {A = Rank} (record { 0 = 2 * place + 1 }) (rankOf place told)
+  unfolding rankOf
+  rankOf-placed test q t = rw (← q, t)
 
-module _ (mode : Bool) (floor passed : Quality) (test : Bool) where
-  pub isUsable-failed : test ≡ isFailed passed → test ≡ true → false ≡ isUsable mode floor passed
+  pub rankOf-numbered : (test : Bool) → test ≡ isPlaced place told → test ≡ false
+      → _≡_ {A = Rank} (record { 0 = 2 * told .0 }) (rankOf place told)
+  unfolding rankOf
+  rankOf-numbered test q t = rw (← q, t)
+
+pub ruleset isPlaced-laws = (isPlaced-prov, isPlaced-other)
+
+pub ruleset rankOf-laws = (rankOf-placed, rankOf-numbered)
+
+-- ---- isUsable
+
+module _ (mode : Bool) (floor : ℕ) (rank : Rank) (passed : Quality) (test : Bool) where
+  pub isUsable-failed : test ≡ isFailed passed → test ≡ true → false ≡ isUsable mode floor rank passed
   unfolding isUsable
   isUsable-failed q t = rw (← q, t)
 
-  pub isUsable-on : (within : Bool) → test ≡ isFailed passed → test ≡ false → mode ≡ true
-      → within ≡ isWithin floor passed → within ≡ isUsable mode floor passed
+  pub isUsable-not-told : test ≡ isFailed passed → test ≡ false → mode ≡ true → rank .0 < 1
+      → false ≡ isUsable mode floor rank passed
   unfolding isUsable
-  isUsable-on within q t m w = w ∙ (rw (← q, t, m))
+  isUsable-not-told q t m h = rw (← q, t, m, lt-leb _ _ h)
 
-  pub isUsable-off : test ≡ isFailed passed → test ≡ false → mode ≡ false → true ≡ isUsable mode floor passed
+  pub isUsable-on : (most : ℕ) → test ≡ isFailed passed → test ≡ false → mode ≡ true → 1 ≤ rank .0
+      → most ≡ floorRank floor → leb (rank .0) most ≡ isUsable mode floor rank passed
+  unfolding isUsable
+  isUsable-on most q t m h f = rw (← q, t, m, le-leb _ _ h, f)
+
+  pub isUsable-off : test ≡ isFailed passed → test ≡ false → mode ≡ false → true ≡ isUsable mode floor rank passed
   unfolding isUsable
   isUsable-off q t m = rw (← q, t, m)
 
-pub ruleset isUsable-laws = (isUsable-failed, isUsable-on, isUsable-off)
+pub ruleset isUsable-laws = (isUsable-failed, isUsable-not-told, isUsable-on, isUsable-off)
 
 -- ---- isAdmitted
 
@@ -96,24 +117,24 @@ pub ruleset isEligible-laws = (isEligible-admitted, isEligible-barred)
 -- ---- isBetter
 
 module _ (candidate other : Candidate) where
-  pub isBetter-quality : candidate .quality .0 < other .quality .0 → true ≡ isBetter candidate other
+  pub isBetter-rank : candidate .rank .0 < other .rank .0 → true ≡ isBetter candidate other
   unfolding isBetter
-  isBetter-quality h = rw (lt-ltb _ _ h)
+  isBetter-rank h = rw (lt-ltb _ _ h)
 
-  pub isBetter-priority : candidate .quality .0 ≡ other .quality .0
+  pub isBetter-priority : candidate .rank .0 ≡ other .rank .0
       → ltb (candidate .priority .0) (other .priority .0) ≡ isBetter candidate other
   unfolding isBetter
   isBetter-priority e =
-      let h : other .quality .0 ≤ candidate .quality .0 = omega arith in
-      rw (le-ltb (candidate .quality .0) (other .quality .0) h, eq-eqb (candidate .quality .0) (other .quality .0) e)
+      let h : other .rank .0 ≤ candidate .rank .0 = omega arith in
+      rw (le-ltb (candidate .rank .0) (other .rank .0) h, eq-eqb (candidate .rank .0) (other .rank .0) e)
 
-  pub isBetter-not : other .quality .0 ≤ candidate .quality .0 → (candidate .quality .0 ≡ other .quality .0 → ⊥)
+  pub isBetter-not : other .rank .0 ≤ candidate .rank .0 → (candidate .rank .0 ≡ other .rank .0 → ⊥)
       → false ≡ isBetter candidate other
   unfolding isBetter
   isBetter-not h e =
-      rw (le-ltb (candidate .quality .0) (other .quality .0) h, ne-eqb (candidate .quality .0) (other .quality .0) e)
+      rw (le-ltb (candidate .rank .0) (other .rank .0) h, ne-eqb (candidate .rank .0) (other .rank .0) e)
 
-pub ruleset isBetter-laws = (isBetter-quality, isBetter-priority, isBetter-not)
+pub ruleset isBetter-laws = (isBetter-rank, isBetter-priority, isBetter-not)
 
 -- ---- alike, isLike
 
@@ -127,12 +148,12 @@ pub ruleset alike-laws = (alike-yes, alike-no)
 
 module _ (seen other : Seen) where
   pub isLike-locked : (locked : Bool) → seen .passed .0 ≡ other .passed .0 → seen .priority .0 ≡ other .priority .0
-      → seen .floor .0 ≡ other .floor .0 → locked ≡ alike (seen .locked) (other .locked) → locked ≡ isLike seen other
+      → seen .floor ≡ other .floor → locked ≡ alike (seen .locked) (other .locked) → locked ≡ isLike seen other
   unfolding isLike
   isLike-locked locked q p f l = rw (eq-eqb _ _ q, eq-eqb _ _ p, eq-eqb _ _ f, l)
 
   pub isLike-floor : seen .passed .0 ≡ other .passed .0 → seen .priority .0 ≡ other .priority .0
-      → (seen .floor .0 ≡ other .floor .0 → ⊥) → false ≡ isLike seen other
+      → (seen .floor ≡ other .floor → ⊥) → false ≡ isLike seen other
   unfolding isLike
   isLike-floor q p n = rw (eq-eqb _ _ q, eq-eqb _ _ p, ne-eqb _ _ n)
 
@@ -159,18 +180,18 @@ pub ruleset candidateAt-laws = (candidateAt-nobody)
 
 -- ---- isLower
 
-module _ (found : Bool) (candidate : Candidate) (quality : Quality) (test : Bool) where
-  pub isLower-lower : test ≡ isEligible candidate → test ≡ true → candidate .quality .0 < quality .0
-      → true ≡ isLower found candidate quality
+module _ (found : Bool) (candidate : Candidate) (rank : Rank) (test : Bool) where
+  pub isLower-lower : test ≡ isEligible candidate → test ≡ true → candidate .rank .0 < rank .0
+      → true ≡ isLower found candidate rank
   unfolding isLower
   isLower-lower q t h = rw (← q, t, lt-ltb _ _ h)
 
-  pub isLower-higher : test ≡ isEligible candidate → test ≡ true → quality .0 ≤ candidate .quality .0
-      → found ≡ isLower found candidate quality
+  pub isLower-higher : test ≡ isEligible candidate → test ≡ true → rank .0 ≤ candidate .rank .0
+      → found ≡ isLower found candidate rank
   unfolding isLower
   isLower-higher q t h = rw (← q, t, le-ltb _ _ h)
 
-  pub isLower-not : test ≡ isEligible candidate → test ≡ false → found ≡ isLower found candidate quality
+  pub isLower-not : test ≡ isEligible candidate → test ≡ false → found ≡ isLower found candidate rank
   unfolding isLower
   isLower-not q t = rw (← q, t)
 
@@ -178,19 +199,19 @@ pub ruleset isLower-laws = (isLower-lower, isLower-higher, isLower-not)
 
 -- ---- lowerAmong: the loop of `has_lower`
 
-pub lowerAmong-none : (candidates : List Candidate) (quality : Quality) → false ≡ lowerAmong candidates quality 0
+pub lowerAmong-none : (candidates : List Candidate) (rank : Rank) → false ≡ lowerAmong candidates rank 0
 unfolding lowerAmong
-lowerAmong-none candidates quality = refl
+lowerAmong-none candidates rank = refl
 
-pub lowerAmong-more : (candidates : List Candidate) (quality : Quality) (count : ℕ) (found next : Bool)
-    (candidate : Candidate) → found ≡ lowerAmong candidates quality count → candidate ≡ getD candidates count nobody
-    → next ≡ isLower found candidate quality → next ≡ lowerAmong candidates quality (count + 1)
+pub lowerAmong-more : (candidates : List Candidate) (rank : Rank) (count : ℕ) (found next : Bool)
+    (candidate : Candidate) → found ≡ lowerAmong candidates rank count → candidate ≡ getD candidates count nobody
+    → next ≡ isLower found candidate rank → next ≡ lowerAmong candidates rank (count + 1)
 unfolding lowerAmong
-lowerAmong-more candidates quality count found next candidate f k n = rw (add-one count) (rw (← k, ← f) n)
+lowerAmong-more candidates rank count found next candidate f k n = rw (add-one count) (rw (← k, ← f) n)
 
-pub lowerAmong-all : (candidates : List Candidate) (quality : Quality) (count : ℕ) (found : Bool)
-    → found ≡ lowerAmong candidates quality count → count ≤ 16 → 16 ≤ count → found ≡ anyLower candidates quality
-lowerAmong-all candidates quality count found f h k = let z : count ≡ 16 = omega arith in f ∙ (rw z)
+pub lowerAmong-all : (candidates : List Candidate) (rank : Rank) (count : ℕ) (found : Bool)
+    → found ≡ lowerAmong candidates rank count → count ≤ 16 → 16 ≤ count → found ≡ anyLower candidates rank
+lowerAmong-all candidates rank count found f h k = let z : count ≡ 16 = omega arith in f ∙ (rw z)
 
 pub ruleset lowerAmong-laws = (lowerAmong-none, lowerAmong-more, lowerAmong-all)
 

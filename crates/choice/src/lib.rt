@@ -5,28 +5,34 @@
 use numbers::INPUT_COUNT;
 use numbers::InputNumber;
 use numbers::NOT_TOLD;
-use numbers::PRC;
+use numbers::PROV;
 use numbers::Priority;
 use numbers::Quality;
 use numbers::is_failed;
 ghost use mathlib.Core.Path.{_≡_};
 ghost use lib.ListN.{getD};
 ghost use Rattle.numbers.specs.Truth.{alike};
-ghost use Rattle.choice.specs.Candidate.{nobody, isWithin, isUsable, isAdmitted, rankedQuality, candidateOf, isEligible, isBetter, isLike, eligibleAmong, betterAmong, isLower, anyLower};
+ghost use Rattle.choice.specs.Rank.{isPlaced, rankOf, floorRank};
+ghost use Rattle.choice.specs.Candidate.{nobody, isUsable, isAdmitted, rankedQuality, candidateOf, isEligible, isBetter, isLike, eligibleAmong, betterAmong, isLower, anyLower};
 ghost use Rattle.choice.specs.Choice.{seeded, offered, choose};
 
-// What a choice looks at of an input: nothing else makes a candidate.
+// What a choice looks at of an input, the floor as it was set, 0 for none: with the profile and the
+// mode nothing else makes a candidate.
 pub struct Seen {
     pub passed: Quality,
     pub priority: Priority,
-    pub floor: Quality,
+    pub floor: u8,
     pub locked: bool,
 }
 
-// One input as a choice sees it: the quality by which it ranks (0 for all with quality mode off),
+// What qualities are compared by, lower is better.
+pub struct Rank(pub u16);
+
+// One input as a choice sees it: its quality (0 for all with quality mode off) and how it ranks,
 // its priority, whether it is neither off nor locked, and whether its passed quality is usable.
 pub struct Candidate {
     pub quality: Quality,
+    pub rank: Rank,
     pub priority: Priority,
     pub admitted: bool,
     pub usable: bool,
@@ -35,6 +41,7 @@ pub struct Candidate {
 // Stands where there is no such input: not eligible.
 pub const NOBODY: Candidate = Candidate {
     quality: NOT_TOLD,
+    rank: Rank(0),
     priority: Priority(0),
     admitted: false,
     usable: false,
@@ -46,25 +53,45 @@ pub enum Selection {
     At(InputNumber),
 }
 
-// Whether a passed quality is one to follow down to a floor: from 1 to it.
-fn is_within(floor: Quality, passed: Quality) -> bool
-    ensures { λ answer. ⌜ answer ≡ isWithin floor passed ⌝ }
+// A number doubled, with room for it.
+fn doubled(number: u8) -> u16
+    ensures { λ answer. ⌜ answer ≡ floorRank number ⌝ }
 {
-    if PRC.0 <= passed.0 {
-        return passed.0 <= floor.0;
+    2 * (number as u16)
+}
+
+// Whether a quality is PROV, and has a place.
+fn is_placed(place: u8, quality: Quality) -> bool
+    ensures { λ answer. ⌜ answer ≡ isPlaced place quality ⌝ }
+{
+    if quality.0 == PROV.0 {
+        return place != 0;
     }
     false
 }
 
-// Whether a passed quality is usable: not failed, and with quality mode on within the floor.
-pub fn is_usable(mode: bool, floor: Quality, passed: Quality) -> bool
-    ensures { λ answer. ⌜ answer ≡ isUsable mode floor passed ⌝ }
+// The rank of a quality: twice its number, and PROV between two where it is placed.
+pub fn rank_of(place: u8, quality: Quality) -> Rank
+    ensures { λ answer. ⌜ answer ≡ rankOf place quality ⌝ }
+{
+    if is_placed(place, quality) {
+        return Rank(2 * (place as u16) + 1);
+    }
+    Rank(2 * (quality.0 as u16))
+}
+
+// Whether a passed quality is usable: not failed, and with quality mode on from 1 to the floor.
+pub fn is_usable(mode: bool, floor: u8, rank: Rank, passed: Quality) -> bool
+    ensures { λ answer. ⌜ answer ≡ isUsable mode floor rank passed ⌝ }
 {
     if is_failed(passed) {
         return false;
     }
     if mode {
-        return is_within(floor, passed);
+        if rank.0 < 1 {
+            return false;
+        }
+        return rank.0 <= doubled(floor);
     }
     true
 }
@@ -99,7 +126,7 @@ impl Seen {
     {
         if self.passed.0 == other.passed.0 {
             if self.priority.0 == other.priority.0 {
-                if self.floor.0 == other.floor.0 {
+                if self.floor == other.floor {
                     return are_alike(self.locked, other.locked);
                 }
                 return false;
@@ -110,18 +137,24 @@ impl Seen {
     }
 }
 
-// An input as a choice sees it.
-pub fn candidate_of(seen: Seen, mode: bool) -> Candidate
-    ensures { λ answer. ⌜ answer ≡ candidateOf (seen .passed) (seen .priority) (seen .locked) (seen .floor) mode ⌝ }
+// An input as a choice sees it, where `place` is that of PROV and `floor` the one in force.
+pub fn candidate_of(
+    place: u8,
+    floor: u8,
+    passed: Quality,
+    priority: Priority,
+    locked: bool,
+    mode: bool,
+) -> Candidate
+    ensures { λ answer. ⌜ answer ≡ candidateOf place floor passed priority locked mode ⌝ }
 {
-    let passed = seen.passed;
-    let priority = seen.priority;
-    let floor = seen.floor;
     let quality = ranked_quality(mode, passed);
-    let admitted = is_admitted(priority, seen.locked);
-    let usable = is_usable(mode, floor, passed);
+    let admitted = is_admitted(priority, locked);
+    let rank = rank_of(place, quality);
+    let usable = is_usable(mode, floor, rank, passed);
     Candidate {
         quality,
+        rank,
         priority,
         admitted,
         usable,
@@ -142,10 +175,10 @@ impl Candidate {
     pub fn is_better(self, other: Candidate) -> bool
         ensures { λ answer. ⌜ answer ≡ isBetter self other ⌝ }
     {
-        if self.quality.0 < other.quality.0 {
+        if self.rank.0 < other.rank.0 {
             return true;
         }
-        if self.quality.0 == other.quality.0 {
+        if self.rank.0 == other.rank.0 {
             return self.priority.0 < other.priority.0;
         }
         false
@@ -173,26 +206,26 @@ pub fn candidate_at(candidates: [Candidate; 16], number: InputNumber) -> Candida
     NOBODY
 }
 
-// Whether an eligible input has a quality lower than `quality`.
-pub fn has_lower(candidates: [Candidate; 16], quality: Quality) -> bool
-    ensures { λ answer. ⌜ answer ≡ anyLower candidates quality ⌝ }
+// Whether an eligible input ranks lower than `rank`.
+pub fn has_lower(candidates: [Candidate; 16], rank: Rank) -> bool
+    ensures { λ answer. ⌜ answer ≡ anyLower candidates rank ⌝ }
 {
     let mut found = false;
     let mut at: usize = 0;
     while at < 16 {
         let candidate = candidates[at];
-        found = is_lower(found, candidate, quality);
+        found = is_lower(found, candidate, rank);
         at += 1;
     }
     found
 }
 
 // Whether one was found before, or this one is eligible and lower.
-fn is_lower(found: bool, candidate: Candidate, quality: Quality) -> bool
-    ensures { λ answer. ⌜ answer ≡ isLower found candidate quality ⌝ }
+fn is_lower(found: bool, candidate: Candidate, rank: Rank) -> bool
+    ensures { λ answer. ⌜ answer ≡ isLower found candidate rank ⌝ }
 {
     if candidate.is_eligible() {
-        if candidate.quality.0 < quality.0 {
+        if candidate.rank.0 < rank.0 {
             return true;
         }
         return found;

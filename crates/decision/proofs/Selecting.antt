@@ -47,16 +47,16 @@ module _ (candidates : List Candidate) (on : ℕ) where
   pub manualMayStand-eligible : manualMayStand candidates on ≡ true → eligibleAmong candidates on ≡ true
   unfolding manualMayStand
   manualMayStand-eligible x =
-      both-first (eligibleAmong candidates on) (not (anyLower candidates (getD candidates on nobody .quality))) x
+      both-first (eligibleAmong candidates on) (not (anyLower candidates (getD candidates on nobody .rank))) x
 
   -- "and, mode on, no eligible input has lower passed quality"
   pub manualMayStand-lower : manualMayStand candidates on ≡ true
       → (number : ℕ) → number < inputCount → eligibleAmong candidates number ≡ true
-      → getD candidates on nobody .quality .0 ≤ getD candidates number nobody .quality .0
+      → getD candidates on nobody .rank .0 ≤ getD candidates number nobody .rank .0
   unfolding manualMayStand
   manualMayStand-lower x =
-      let lower : Bool = anyLower candidates (getD candidates on nobody .quality) in
-      lower-none candidates (getD candidates on nobody .quality)
+      let lower : Bool = anyLower candidates (getD candidates on nobody .rank) in
+      lower-none candidates (getD candidates on nobody .rank)
       (not-true lower (both-second (eligibleAmong candidates on) (not lower) x))
 
 -- an eligible input is neither off nor locked
@@ -102,7 +102,7 @@ module _ (choice : ChoiceMoment) (earlier : Choices) where
   -- "it may override priority only": no eligible input has lower quality than that of a standing manual switch
   pub selection-lower : (on : ℕ) → decidedOver (choice ∷ earlier) .switch ≡ W.Manual (record { 0 = on })
       → (number : ℕ) → number < inputCount → eligibleAmong (choice .candidates) number ≡ true
-      → getD (choice .candidates) on nobody .quality .0 ≤ getD (choice .candidates) number nobody .quality .0
+      → getD (choice .candidates) on nobody .rank .0 ≤ getD (choice .candidates) number nobody .rank .0
   unfolding decidedOver decide
   selection-lower on x =
       manualMayStand-lower (choice .candidates) on

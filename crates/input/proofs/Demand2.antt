@@ -1,11 +1,11 @@
 -- DEMAND 2 for one input. No premise but that the times of the recorded events do not fall. Assumes nothing.
 use Prim.Native.Nat.{ℕ, _+_, _-_, _≤_}
 use mathlib.Core.Bool.{Bool, false}
-use mathlib.Core.List.{[], _∷_}
 use mathlib.Core.Path.{_≡_, refl, sym, _∙_, ap, subst}
 use native.Mathlib.Omega.{arith}
 use lib.Dec.{eqb}
-use Rattle.numbers.specs.declared.Event.{Event}
+use Rattle.numbers.specs.Recorded.{Recorded}
+use Rattle.numbers.specs.From.{started, _following_}
 use Rattle.numbers.specs.Quality.{isFailed}
 use Rattle.numbers.specs.Kind.{kindClearWait}
 use Rattle.run.specs.declared.Forecast.{Forecast}
@@ -30,10 +30,12 @@ forecastAfter input history = forecast (recordAfter input history) (modeOn histo
 pub settled-moments : (input : ℕ) (history : History)
     → Settled (forecastAfter input history) (kept (moments input history)) (timeOf history)
 unfolding kept moments
-settled-moments input [] = settled-fresh (forecastAfter input []) (ap isFailed (sym (raw-recalled input [] 0) ∙ raw-fresh input))
-settled-moments input (event ∷ earlier) =
+settled-moments input (started profile) =
+    settled-fresh (forecastAfter input (started profile))
+    (ap isFailed (sym (raw-recalled input (started profile) 0) ∙ raw-fresh input profile))
+settled-moments input (event following earlier) =
     rw (moment-recalled, ← atMoment-taken)
-    (settled-atMoment _ (forecastAfter input (event ∷ earlier)) (event .time) (isOn input kindClearWait event))
+    (settled-atMoment _ (forecastAfter input (event following earlier)) (event .time) (isOn input kindClearWait event))
 
 -- no event until a time: one step comes to every moment in between
 pub kept-until : (input : ℕ) (history : History) (time : ℕ) → timeOf history ≤ time
@@ -47,7 +49,7 @@ kept-until input history time later =
     rw z)
 
 -- whichever input the event is on, its moment is taken with the forecast after it
-takes-run : (input : ℕ) (event : Event) (mode : Bool) (before : Input)
+takes-run : (input : ℕ) (event : Recorded) (mode : Bool) (before : Input)
     → takes input event mode before .run ≡
     atMoment (before .run) (forecast (takes input event mode before) mode) (event .time) (isOn input kindClearWait event)
 unfolding takes afterEvent settle isOn forecast
@@ -62,17 +64,17 @@ tick-run input time mode = refl
 pub run-moments : (input : ℕ) (history : History) → Ordered history
     → recordAfter input history .run ≡ kept (moments input history)
 unfolding recordAfter kept moments
-run-moments input [] ordered = refl
-run-moments input (event ∷ earlier) ordered =
+run-moments input (started profile) ordered = refl
+run-moments input (event following earlier) ordered =
     let clears = isOn input kindClearWait event in
-    let forecasts = forecastAfter input (event ∷ earlier) in
-    takes-run input event (modeOn (event ∷ earlier)) (tick (recordAfter input earlier) (event .time) (modeOn earlier)) ∙
+    let forecasts = forecastAfter input (event following earlier) in
+    takes-run input event (modeOn (event following earlier)) (tick (recordAfter input earlier) (event .time) (modeOn earlier)) ∙
     ap (λ (run : Run). atMoment run forecasts (event .time) clears)
     (tick-run (recordAfter input earlier) (event .time) (modeOn earlier) ∙
     ap (λ (run : Run). broughtTo run (forecastAfter input earlier) (event .time)) (run-moments input earlier (ordered .1)) ∙
     sym (kept-until input earlier (event .time) (ordered .0))) ∙
     atMoment-taken _ forecasts (event .time) clears ∙
-    ap (λ (shown : ℕ → Moment). taken (shown (event .time)) (kept (eachMillisecond (momentOf input earlier false) (timeOf earlier) (event .time - timeOf earlier) (moments input earlier)))) (sym (moment-recalled input (event ∷ earlier) clears))
+    ap (λ (shown : ℕ → Moment). taken (shown (event .time)) (kept (eachMillisecond (momentOf input earlier false) (timeOf earlier) (event .time - timeOf earlier) (moments input earlier)))) (sym (moment-recalled input (event following earlier) clears))
 
 -- nothing is due at the time of the last event
 pub settled-record : (input : ℕ) (history : History) → Ordered history
@@ -126,16 +128,16 @@ settle-tick input history time ordered later =
     (settled-record input history ordered)))
 
 -- an event on another input that leaves the mode as it is
-pub takes-other : (input : ℕ) (event : Event) (history : History) → Ordered history → timeOf history ≤ event .time
-    → eqb (event .input) input ≡ false → modeOn (event ∷ history) ≡ modeOn history
-    → recordAfter input (event ∷ history) ≡ tick (recordAfter input history) (event .time) (modeOn history)
+pub takes-other : (input : ℕ) (event : Recorded) (history : History) → Ordered history → timeOf history ≤ event .time
+    → eqb (event .input) input ≡ false → modeOn (event following history) ≡ modeOn history
+    → recordAfter input (event following history) ≡ tick (recordAfter input history) (event .time) (modeOn history)
 unfolding recordAfter takes
 takes-other input event history ordered later other mode =
     rw (other, mode) (settle-tick input history (event .time) ordered later)
 
 -- a tick is an event that nothing hears
 pub takes-tick : (input : ℕ) (history : History) (time : ℕ) → Ordered history → timeOf history ≤ time
-    → recordAfter input (tickEvent time ∷ history) ≡ tick (recordAfter input history) time (modeOn history)
+    → recordAfter input (tickEvent time following history) ≡ tick (recordAfter input history) time (modeOn history)
 unfolding recordAfter takes afterEvent heardAfter settingsAfter lastArgument isOn
 takes-tick input history time ordered later =
     byBool (eqb 0 input)
@@ -176,7 +178,7 @@ pub demand-2-tick-adds-nothing : (input : ℕ) (history : History) (time later :
     → time ≤ later → TickAddsNothing input history time later
 unfolding lastArgument isOn
 demand-2-tick-adds-nothing input history time later ordered i j =
-    sym (passed-tick input (tickEvent time ∷ history) later (i, ordered) j) ∙
-    ap (λ (after : Input). passedOf (tick after later (modeOn (tickEvent time ∷ history)))) (takes-tick input history time ordered i) ∙
+    sym (passed-tick input (tickEvent time following history) later (i, ordered) j) ∙
+    ap (λ (after : Input). passedOf (tick after later (modeOn (tickEvent time following history)))) (takes-tick input history time ordered i) ∙
     ap passedOf (demand-2-two-pieces input history time later ordered i j) ∙
     passed-tick input history later ordered (omega arith)

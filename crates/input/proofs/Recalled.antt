@@ -6,50 +6,53 @@ use mathlib.Core.Path.{_≡_, refl, fun-ext}
 use native.Mathlib.Omega.{arith}
 use lib.Dec.{leb, ltb, eqb}
 use borrow.Author.Tests.{ltb-true, ltb-false, leb-true, leb-false, lt-ltb, le-ltb}
-use Rattle.numbers.specs.declared.Event.{Event}
+use Rattle.numbers.specs.declared.Profile.{Profile}
+use Rattle.numbers.specs.Recorded.{Recorded}
+use Rattle.numbers.specs.From.{started, _following_}
+use Rattle.numbers.specs.declared.InputKind.{InputKind}
 use Rattle.numbers.specs.declared.Priority.{Priority}
 use Rattle.numbers.specs.declared.Quality.{Quality}
-use Rattle.numbers.specs.Quality.{quality, notTold, failed, qualityOfCode}
+use Rattle.numbers.specs.Quality.{quality, notTold, failed}
 use Rattle.numbers.specs.Inputs.{freshWait, frameLife, reportsNeeded}
-use Rattle.numbers.specs.Kind.{kindSignal, kindFrame, kindLineCode, kindPriority, kindLockout, kindHoldoff, kindWait, kindFixedQuality, kindSending, kindInputKind, kindFloor}
+use Rattle.numbers.specs.Kind.{kindSignal, kindPriority, kindLockout, kindHoldoff, kindWait, kindFixedQuality, kindSending, kindInputKind, kindFloor, inputKindOf, takesFrames, isCounted, isFrame}
 use Rattle.run.specs.Run.{rawAt, isExpired, momentAt}
 use Rattle.run.proofs.Laws.{byBool}
 use Rattle.input.specs.declared.Heard.{Heard}
 use Rattle.input.specs.declared.Settings.{Settings}
-use Rattle.input.specs.Recorded.{History, isOn, lastArgument, modeOn, signalGood, isEthernet, priorityOf, isLockedOut, holdoffOf, waitOf, fixedOf, floorOf, isSending, heard, isThird, lineQuality, frameQuality, rawQualityAt, momentOf}
+use Rattle.input.specs.Recorded.{History, isOn, lastArgument, modeOn, signalGood, inputKind, floorSet, priorityOf, isLockedOut, holdoffOf, waitOf, fixedOf, isSending, heard, isThird, lineQuality, frameQuality, rawQualityAt, momentOf}
 use Rattle.input.specs.Record.{forgotten, freshSettings, countAfter, lineAfter, heardAfter, settingsAfter, qualityNow, canExpire, forecast, settle, tick, afterEvent, takes, recordAfter}
 
 -- ---- what the reports heard come to
 
-unfoldable pub lastCode : List Event → ℕ
+unfoldable pub lastCode : List Recorded → ℕ
 lastCode [] = 0
 lastCode (report ∷ earlier) = report .argument
 
-unfoldable pub codeCount : List Event → ℕ
+unfoldable pub codeCount : List Recorded → ℕ
 codeCount [] = 0
 codeCount (report ∷ earlier) = countAfter (report .argument) (lastCode earlier) (codeCount earlier)
 
-unfoldable pub lineSaid : List Event → Quality
+unfoldable pub lineSaid : List Recorded → Quality
 lineSaid [] = failed
-lineSaid (report ∷ earlier) = lineAfter (report .argument) (codeCount (report ∷ earlier)) (lineSaid earlier)
+lineSaid (report ∷ earlier) = lineAfter (report .said) (codeCount (report ∷ earlier)) (lineSaid earlier)
 
-unfoldable pub frameTime : List Event → ℕ
+unfoldable pub frameTime : List Recorded → ℕ
 frameTime [] = 0
 frameTime (report ∷ earlier) = report .time
 
-unfoldable pub frameSaid : List Event → Quality
+unfoldable pub frameSaid : List Recorded → Quality
 frameSaid [] = failed
-frameSaid (report ∷ earlier) = qualityOfCode (report .argument)
+frameSaid (report ∷ earlier) = report .said
 
 -- what was heard, and the settings, by the recorded events
 unfoldable pub heardBy : ℕ → History → Heard
 heardBy input history =
     record {
-      framed = frameTime (heard input kindFrame history);
-      frame = frameSaid (heard input kindFrame history);
-      line = lineSaid (heard input kindLineCode history);
-      code = lastCode (heard input kindLineCode history);
-      count = codeCount (heard input kindLineCode history);
+      framed = frameTime (heard input isFrame history);
+      frame = frameSaid (heard input isFrame history);
+      line = lineSaid (heard input isCounted history);
+      last = lastCode (heard input isCounted history);
+      count = codeCount (heard input isCounted history);
       good = signalGood input history;
     }
 
@@ -60,8 +63,8 @@ settingsBy input history =
       wait = lastArgument input kindWait freshWait history;
       priority = record { 0 = priorityOf input history };
       fixed = quality (fixedOf input history);
-      floor = quality (floorOf input history);
-      ethernet = isEthernet input history;
+      floor = floorSet input history;
+      kind = inputKind input history;
       locked = isLockedOut input history;
       sending = isSending input history;
     }
@@ -69,7 +72,7 @@ settingsBy input history =
 -- ---- one event more
 
 -- a function of a list that is forgotten, longer by one, or kept
-split : {A : Type 0} (f : List Event → A) (g p : Bool) (report : Event) (earlier : List Event)
+split : {A : Type 0} (f : List Recorded → A) (g p : Bool) (report : Recorded) (earlier : List Recorded)
     → cond g (f []) (cond p (f (report ∷ earlier)) (f earlier)) ≡ f (cond g [] (cond p (report ∷ earlier) earlier))
 split f true p report earlier = refl
 split f false true report earlier = refl
@@ -83,6 +86,10 @@ set-cond : (b : Bool) (x y : ℕ) → cond b (not (eqb x 0)) (not (eqb y 0)) ≡
 set-cond true x y = refl
 set-cond false x y = refl
 
+kind-cond : (b : Bool) (x y : ℕ) → cond b (inputKindOf x) (inputKindOf y) ≡ inputKindOf (cond b x y)
+kind-cond true x y = refl
+kind-cond false x y = refl
+
 abbrev priority : ℕ → Priority
 priority number = record { 0 = number }
 
@@ -94,34 +101,34 @@ priority-cond : (b : Bool) (x y : ℕ) → cond b (priority x) (priority y) ≡ 
 priority-cond true x y = refl
 priority-cond false x y = refl
 
-module _ (input : ℕ) (event : Event) (earlier : History) where
+module _ (input : ℕ) (event : Recorded) (earlier : History) where
   heard-on : eqb (event .input) input ≡ true
-      → heardAfter (heardBy input earlier) (event .kind) (event .argument) (event .time) ≡ heardBy input (event ∷ earlier)
+      → heardAfter (heardBy input earlier) (event .kind) (event .argument) (event .said) (event .time) ≡ heardBy input (event following earlier)
   unfolding heardAfter heardBy heard lastArgument isOn lastCode codeCount lineSaid frameTime frameSaid
   heard-on on =
       let kind = event .kind in
       let good = signalGood input earlier in
       let g = eqb kind kindInputKind || (eqb kind kindSignal && not (eqb (event .argument) 0) && good) in
-      let frames = heard input kindFrame earlier in
-      let codes = heard input kindLineCode earlier in
-      let f = eqb kind kindFrame && good in
-      let c = eqb kind kindLineCode && good in
+      let frames = heard input isFrame earlier in
+      let codes = heard input isCounted earlier in
+      let f = isFrame kind && good in
+      let c = isCounted kind && good in
       rw on
       (λ j. record {
         framed = split frameTime g f event frames j;
         frame = split frameSaid g f event frames j;
         line = split lineSaid g c event codes j;
-        code = split lastCode g c event codes j;
+        last = split lastCode g c event codes j;
         count = split codeCount g c event codes j;
         good = good-cond (eqb kind kindSignal) (event .argument) (lastArgument input kindSignal 1 earlier) j;
       })
 
-  heard-off : eqb (event .input) input ≡ false → heardBy input earlier ≡ heardBy input (event ∷ earlier)
+  heard-off : eqb (event .input) input ≡ false → heardBy input earlier ≡ heardBy input (event following earlier)
   unfolding heardBy heard lastArgument isOn
   heard-off off = rw off
 
   settings-on : eqb (event .input) input ≡ true
-      → settingsAfter (settingsBy input earlier) (event .kind) (event .argument) ≡ settingsBy input (event ∷ earlier)
+      → settingsAfter (settingsBy input earlier) (event .kind) (event .argument) ≡ settingsBy input (event following earlier)
   unfolding settingsAfter settingsBy lastArgument isOn
   settings-on on =
       let kind = event .kind in
@@ -132,38 +139,38 @@ module _ (input : ℕ) (event : Event) (earlier : History) where
         wait = cond (eqb kind kindWait) a (lastArgument input kindWait freshWait earlier);
         priority = priority-cond (eqb kind kindPriority) a (priorityOf input earlier) j;
         fixed = quality-cond (eqb kind kindFixedQuality) a (fixedOf input earlier) j;
-        floor = quality-cond (eqb kind kindFloor) a (floorOf input earlier) j;
-        ethernet = set-cond (eqb kind kindInputKind) a (lastArgument input kindInputKind 0 earlier) j;
+        floor = cond (eqb kind kindFloor) a (floorSet input earlier);
+        kind = kind-cond (eqb kind kindInputKind) a (lastArgument input kindInputKind 0 earlier) j;
         locked = set-cond (eqb kind kindLockout) a (lastArgument input kindLockout 0 earlier) j;
         sending = set-cond (eqb kind kindSending) a (lastArgument input kindSending 1 earlier) j;
       })
 
-  settings-off : eqb (event .input) input ≡ false → settingsBy input earlier ≡ settingsBy input (event ∷ earlier)
+  settings-off : eqb (event .input) input ≡ false → settingsBy input earlier ≡ settingsBy input (event following earlier)
   unfolding settingsBy lastArgument isOn
   settings-off off = rw off
 
 -- ---- the record
 
-heard-fresh : (input : ℕ) → forgotten false ≡ heardBy input []
+heard-fresh : (input : ℕ) (profile : Profile) → forgotten false ≡ heardBy input (started profile)
 unfolding heardBy heard lastArgument lastCode codeCount lineSaid frameTime frameSaid
-heard-fresh input = refl
+heard-fresh input profile = refl
 
 pub heard-recalled : (input : ℕ) (history : History) → recordAfter input history .heard ≡ heardBy input history
 unfolding recordAfter takes afterEvent settle tick
-heard-recalled input [] = heard-fresh input
-heard-recalled input (event ∷ earlier) =
+heard-recalled input (started profile) = heard-fresh input profile
+heard-recalled input (event following earlier) =
     byBool (eqb (event .input) input)
     (λ e. rw (e, heard-recalled input earlier) (heard-on input event earlier e))
     (λ e. rw (e, heard-recalled input earlier) (heard-off input event earlier e))
 
-settings-fresh : (input : ℕ) → freshSettings ≡ settingsBy input []
-unfolding settingsBy lastArgument
-settings-fresh input = refl
+settings-fresh : (input : ℕ) (profile : Profile) → freshSettings ≡ settingsBy input (started profile)
+unfolding settingsBy lastArgument inputKindOf
+settings-fresh input profile = refl
 
 pub settings-recalled : (input : ℕ) (history : History) → recordAfter input history .settings ≡ settingsBy input history
 unfolding recordAfter takes afterEvent settle tick
-settings-recalled input [] = settings-fresh input
-settings-recalled input (event ∷ earlier) =
+settings-recalled input (started profile) = settings-fresh input profile
+settings-recalled input (event following earlier) =
     byBool (eqb (event .input) input)
     (λ e. rw (e, settings-recalled input earlier) (settings-on input event earlier e))
     (λ e. rw (e, settings-recalled input earlier) (settings-off input event earlier e))
@@ -207,7 +214,7 @@ count-third third second first count least =
     (λ k. rw (countAfter-other second first count k, e, k) (count-second third second)))
     (λ e. rw (countAfter-other third second (countAfter second first count) e, e))
 
-counted : (report : Event) (earlier : List Event) → ltb (codeCount (report ∷ earlier)) 3 ≡ not (isThird report earlier)
+counted : (report : Recorded) (earlier : List Recorded) → ltb (codeCount (report ∷ earlier)) 3 ≡ not (isThird report earlier)
 unfolding codeCount isThird lastCode
 counted report [] = rw (count-first (report .argument))
 counted report (before ∷ []) = rw (count-first (before .argument)) (count-second (report .argument) (before .argument))
@@ -220,12 +227,12 @@ cond-not true x y = refl
 cond-not false x y = refl
 
 -- what the record keeps of the codes is what they say
-line-said : (codes : List Event) → lineSaid codes ≡ lineQuality codes
+line-said : (codes : List Recorded) → lineSaid codes ≡ lineQuality codes
 unfolding lineSaid lineQuality lineAfter
 line-said [] = refl
 line-said (report ∷ earlier) =
     rw (counted report earlier, line-said earlier)
-    (cond-not (isThird report earlier) (lineQuality earlier) (qualityOfCode (report .argument)))
+    (cond-not (isThird report earlier) (lineQuality earlier) (report .said))
 
 -- ---- raw quality
 
@@ -240,11 +247,11 @@ either true = refl
 either false = refl
 
 -- the frames heard, at a time
-frame-said : (frames : List Event) (time : ℕ)
+frame-said : (frames : List Recorded) (time : ℕ)
     → frameQuality frames time ≡ cond (leb (frameTime frames + frameLife) time) failed (frameSaid frames)
 unfolding frameQuality frameTime frameSaid
 frame-said [] time = either (leb frameLife time)
-frame-said (report ∷ earlier) time = swap time (report .time + frameLife) (qualityOfCode (report .argument)) failed
+frame-said (report ∷ earlier) time = swap time (report .time + frameLife) (report .said) failed
 
 -- raw quality is what is forecast of it
 raw-any : (good mode fixed ethernet gone : Bool) (f l x : Quality)
@@ -262,10 +269,10 @@ pub raw-recalled : (input : ℕ) (history : History) (time : ℕ)
 unfolding rawQualityAt rawAt isExpired forecast qualityNow canExpire heardBy settingsBy
 raw-recalled input history time =
     rw (heard-recalled input history, settings-recalled input history, frame-said, ← line-said)
-    (raw-any (signalGood input history) (modeOn history) (eqb (fixedOf input history) 0) (isEthernet input history)
-    (leb (frameTime (heard input kindFrame history) + frameLife) time)
-    (frameSaid (heard input kindFrame history))
-    (lineSaid (heard input kindLineCode history))
+    (raw-any (signalGood input history) (modeOn history) (eqb (fixedOf input history) 0) (takesFrames (inputKind input history))
+    (leb (frameTime (heard input isFrame history) + frameLife) time)
+    (frameSaid (heard input isFrame history))
+    (lineSaid (heard input isCounted history))
     (quality (fixedOf input history)))
 
 holdoff-recalled : (input : ℕ) (history : History)
@@ -292,6 +299,6 @@ moment-recalled input history clears =
       clears = clears;
     })
 
-pub raw-fresh : (input : ℕ) → rawQualityAt input [] 0 ≡ failed
+pub raw-fresh : (input : ℕ) (profile : Profile) → rawQualityAt input (started profile) 0 ≡ failed
 unfolding rawQualityAt lastArgument
-raw-fresh input = refl
+raw-fresh input profile = refl

@@ -1,9 +1,9 @@
 -- Demand 2 for one input: the record passes what the recorded events define, and ticks add nothing.
 -- Assumes nothing.
 use Prim.Native.Nat.{ℕ}
-use mathlib.Core.List.{_∷_}
 use mathlib.Core.Path.{_≡_}
 use Rattle.numbers.specs.declared.Quality.{Quality}
+use Rattle.numbers.specs.From.{_following_}
 use Rattle.input.specs.Recorded.{History, tickEvent, modeOn, timeOf, PassedAt, passedAt}
 use Rattle.input.specs.Record.{tick, passedOf, recordAfter}
 
@@ -27,4 +27,4 @@ TwoPieces input history time later =
 -- a tick in between changes no later passed quality
 abbrev pub TickAddsNothing : ℕ → History → ℕ → ℕ → Type 0
 TickAddsNothing input history time later =
-    passedAt input (tickEvent time ∷ history) later ≡ passedAt input history later
+    passedAt input (tickEvent time following history) later ≡ passedAt input history later

@@ -2,13 +2,14 @@
 -- Assumes nothing.
 use Prim.Native.Nat.{ℕ, _+_, _*_}
 use mathlib.Core.Bool.{Bool, true, false, not, _&&_, _||_, cond}
-use mathlib.Core.List.{[], _∷_}
 use lib.Dec.{ltb, eqb}
-use Rattle.numbers.specs.declared.Event.{Event}
+use Rattle.numbers.specs.Recorded.{Recorded}
+use Rattle.numbers.specs.From.{started, _following_}
+use Rattle.numbers.specs.declared.InputKind.the-variants as N
 use Rattle.numbers.specs.declared.Quality.{Quality}
-use Rattle.numbers.specs.Quality.{quality, notTold, failed, qualityOfCode}
-use Rattle.numbers.specs.Inputs.{minute, freshHoldoff, freshWait, freshFloor, reportsNeeded}
-use Rattle.numbers.specs.Kind.{kindSignal, kindFrame, kindLineCode, kindPriority, kindLockout, kindHoldoff, kindWait, kindFixedQuality, kindClearWait, kindSending, kindInputKind, kindFloor}
+use Rattle.numbers.specs.Quality.{quality, notTold, failed}
+use Rattle.numbers.specs.Inputs.{minute, freshHoldoff, freshWait, reportsNeeded}
+use Rattle.numbers.specs.Kind.{kindSignal, kindPriority, kindLockout, kindHoldoff, kindWait, kindFixedQuality, kindClearWait, kindSending, kindInputKind, kindFloor, inputKindOf, takesFrames, isCounted, isFrame}
 use Rattle.run.specs.declared.Forecast.{Forecast}
 use Rattle.run.specs.declared.Run.{Run}
 use Rattle.run.specs.Run.{freshRun, atMoment, broughtTo, passedQuality}
@@ -19,14 +20,13 @@ use Rattle.input.specs.Recorded.{History, modeOn}
 
 -- "forget the codes heard, the count of equal ones and the frames heard"
 abbrev pub forgotten : Bool → Heard
-forgotten good = record { framed = 0; frame = failed; line = failed; code = 0; count = 0; good = good }
+forgotten good = record { framed = 0; frame = failed; line = failed; last = 0; count = 0; good = good }
 
 -- "signal failing"
 abbrev pub freshHeard : Heard
 freshHeard = forgotten false
 
--- "Fresh: line, priority 0, not locked, 300 ms, 5 minutes, none fixed, sending on"; document 02, L9: a floor with "fresh
--- value 4"
+-- "Fresh: line, priority 0, not locked, 300 ms, 5 minutes, none fixed, sending on"
 abbrev pub freshSettings : Settings
 freshSettings =
     record {
@@ -34,8 +34,8 @@ freshSettings =
       wait = freshWait;
       priority = record { 0 = 0 };
       fixed = quality 0;
-      floor = quality freshFloor;
-      ethernet = false;
+      floor = 0;
+      kind = N.Line;
       locked = false;
       sending = true;
     }
@@ -44,27 +44,27 @@ freshSettings =
 abbrev pub freshInput : Input
 freshInput = record { heard = freshHeard; run = freshRun; settings = freshSettings }
 
--- the count of equal codes, one report later; three stands for any more
+-- the count of equal codes or words, one report later; three stands for any more
 unfoldable pub countAfter : ℕ → ℕ → ℕ → ℕ
 countAfter code before count = cond (eqb code before) (cond (ltb count reportsNeeded) (count + 1) reportsNeeded) 1
 
--- what a line's codes say, once a code has come so many times in a row
-unfoldable pub lineAfter : ℕ → ℕ → Quality → Quality
-lineAfter code count line = cond (ltb count reportsNeeded) line (qualityOfCode code)
+-- what codes or words say, once one that says `said` has come so many times in a row
+unfoldable pub lineAfter : Quality → ℕ → Quality → Quality
+lineAfter said count line = cond (ltb count reportsNeeded) line said
 
 -- what was heard, after an event on this input
-unfoldable pub heardAfter : Heard → ℕ → ℕ → ℕ → Heard
-heardAfter heard kind argument time =
+unfoldable pub heardAfter : Heard → ℕ → ℕ → Quality → ℕ → Heard
+heardAfter heard kind argument said time =
     let forgets = eqb kind kindInputKind || (eqb kind kindSignal && not (eqb argument 0) && heard .good) in
-    let frame = eqb kind kindFrame && heard .good in
-    let code = eqb kind kindLineCode && heard .good in
-    let count = countAfter argument (heard .code) (heard .count) in
+    let frame = isFrame kind && heard .good in
+    let counted = isCounted kind && heard .good in
+    let count = countAfter argument (heard .last) (heard .count) in
     record {
       framed = cond forgets 0 (cond frame time (heard .framed));
-      frame = cond forgets failed (cond frame (qualityOfCode argument) (heard .frame));
-      line = cond forgets failed (cond code (lineAfter argument count (heard .line)) (heard .line));
-      code = cond forgets 0 (cond code argument (heard .code));
-      count = cond forgets 0 (cond code count (heard .count));
+      frame = cond forgets failed (cond frame said (heard .frame));
+      line = cond forgets failed (cond counted (lineAfter said count (heard .line)) (heard .line));
+      last = cond forgets 0 (cond counted argument (heard .last));
+      count = cond forgets 0 (cond counted count (heard .count));
       good = cond (eqb kind kindSignal) (eqb argument 0) (heard .good);
     }
 
@@ -76,8 +76,8 @@ settingsAfter settings kind argument =
       wait = cond (eqb kind kindWait) argument (settings .wait);
       priority = cond (eqb kind kindPriority) (record { 0 = argument }) (settings .priority);
       fixed = cond (eqb kind kindFixedQuality) (quality argument) (settings .fixed);
-      floor = cond (eqb kind kindFloor) (quality argument) (settings .floor);
-      ethernet = cond (eqb kind kindInputKind) (not (eqb argument 0)) (settings .ethernet);
+      floor = cond (eqb kind kindFloor) argument (settings .floor);
+      kind = cond (eqb kind kindInputKind) (inputKindOf argument) (settings .kind);
       locked = cond (eqb kind kindLockout) (not (eqb argument 0)) (settings .locked);
       sending = cond (eqb kind kindSending) (not (eqb argument 0)) (settings .sending);
     }
@@ -89,12 +89,12 @@ qualityNow heard settings mode =
     cond (not (heard .good)) failed
     (cond (not mode) notTold
     (cond (not (eqb (settings .fixed .0) 0)) (settings .fixed)
-    (cond (settings .ethernet) (heard .frame)
+    (cond (takesFrames (settings .kind)) (heard .frame)
     (heard .line))))
 
 -- raw quality is that of a frame, which expires
 unfoldable pub canExpire : Heard → Settings → Bool → Bool
-canExpire heard settings mode = heard .good && mode && eqb (settings .fixed .0) 0 && settings .ethernet
+canExpire heard settings mode = heard .good && mode && eqb (settings .fixed .0) 0 && takesFrames (settings .kind)
 
 -- how raw quality goes on if no event comes, and the timers in force
 unfoldable pub forecast : Input → Bool → Forecast
@@ -120,11 +120,11 @@ unfoldable pub tick : Input → ℕ → Bool → Input
 tick input time mode = withRun input (broughtTo (input .run) (forecast input mode) time)
 
 -- an event on this input taken at its time, with the quality mode in force after it
-unfoldable pub afterEvent : Input → ℕ → ℕ → ℕ → Bool → Input
-afterEvent input kind argument time mode =
+unfoldable pub afterEvent : Input → ℕ → ℕ → Quality → ℕ → Bool → Input
+afterEvent input kind argument said time mode =
     settle
     (record {
-      heard = heardAfter (input .heard) kind argument time;
+      heard = heardAfter (input .heard) kind argument said time;
       run = input .run;
       settings = settingsAfter (input .settings) kind argument;
     })
@@ -137,14 +137,14 @@ abbrev pub passedOf : Input → Quality
 passedOf input = passedQuality (input .run)
 
 -- any event as one input takes it: its own, or a moment like another
-unfoldable pub takes : ℕ → Event → Bool → Input → Input
+unfoldable pub takes : ℕ → Recorded → Bool → Input → Input
 takes number event mode input =
     cond (eqb (event .input) number)
-    (afterEvent input (event .kind) (event .argument) (event .time) mode)
+    (afterEvent input (event .kind) (event .argument) (event .said) (event .time) mode)
     (settle input (event .time) mode false)
 
 -- the record of an input after the recorded events: for each a tick at its time, and then the event itself
 unfoldable pub recordAfter : ℕ → History → Input
-recordAfter number [] = freshInput
-recordAfter number (event ∷ earlier) =
-    takes number event (modeOn (event ∷ earlier)) (tick (recordAfter number earlier) (event .time) (modeOn earlier))
+recordAfter number (started profile) = freshInput
+recordAfter number (event following earlier) =
+    takes number event (modeOn (event following earlier)) (tick (recordAfter number earlier) (event .time) (modeOn earlier))

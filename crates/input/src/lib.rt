@@ -5,17 +5,18 @@
 // event's own moment, and hands the record back; `tick` brings it to a time at which no event has
 // come yet. Every time and every setting is safe, and no public function has a `requires`.
 use numbers::FAILED;
+use numbers::InputKind;
 use numbers::NOT_TOLD;
 use numbers::Priority;
 use numbers::Quality;
-use numbers::SEC;
-use numbers::quality_of_code;
+use numbers::takes_frames;
 use run::Forecast;
 use run::Run;
 ghost use mathlib.Core.Path.{_≡_};
 ghost use Prim.Native.Nat.{_*_};
 ghost use Rattle.numbers.specs.Inputs.{minute};
-ghost use Rattle.numbers.specs.Kind.{flag, kindSignal, kindFrame, kindLineCode, kindPriority, kindLockout, kindHoldoff, kindWait, kindFixedQuality, kindClearWait, kindSending, kindInputKind, kindFloor};
+ghost use Rattle.numbers.specs.Quality.{notTold};
+ghost use Rattle.numbers.specs.Kind.{flag, kindArgument, kindFloor, kindSignal, kindFrame, kindLineCode, kindPriority, kindLockout, kindHoldoff, kindWait, kindFixedQuality, kindClearWait, kindSending, kindInputKind};
 ghost use Rattle.input.specs.Record.{freshInput, countAfter, lineAfter, forgotten, heardAfter, settingsAfter, qualityNow, canExpire, forecast, settle, tick, afterEvent, passedOf};
 
 // How many equal codes in a row settle a line's quality.
@@ -26,33 +27,30 @@ const FRESH_HOLDOFF: u16 = 300;
 
 const FRESH_WAIT: u8 = 5;
 
-// A fresh input's floor: any usable quality.
-const FRESH_FLOOR: Quality = SEC;
-
 // A minute in ms.
 const MINUTE: u64 = 60_000;
 
-// What was heard: when the last frame came and what it said; what the last code that came three
-// times in a row said; the last code with its count, three for any more; and whether the signal is
-// good. 7 where nothing was heard.
+// What was heard: when the last frame came and what it said; what the last code or word that came
+// three times in a row said; the last one with its count, three for any more; and whether the
+// signal is good. Failed where nothing was heard.
 pub struct Heard {
     pub framed: u64,
     pub frame: Quality,
     pub line: Quality,
-    pub code: u8,
+    pub last: u16,
     pub count: u8,
     pub good: bool,
 }
 
-// What the operator has set. The hold-off is in ms, the wait in minutes; fixed quality 0 is none;
-// the floor is the worst quality that is followed.
+// What the operator has set. The hold-off is in ms, the wait in minutes; fixed quality 0 is none,
+// and floor 0 the fresh one.
 pub struct Settings {
     pub holdoff: u16,
     pub wait: u8,
     pub priority: Priority,
     pub fixed: Quality,
-    pub floor: Quality,
-    pub ethernet: bool,
+    pub floor: u8,
+    pub kind: InputKind,
     pub locked: bool,
     pub sending: bool,
 }
@@ -64,7 +62,7 @@ pub struct Input {
 }
 
 // How many equal codes have come in a row, three for any more.
-fn count_after(code: u8, last: u8, count: u8) -> u8
+fn count_after(code: u16, last: u16, count: u8) -> u8
     ensures { λ answer. ⌜ answer ≡ countAfter code last count ⌝ }
 {
     if code == last {
@@ -76,14 +74,14 @@ fn count_after(code: u8, last: u8, count: u8) -> u8
     1
 }
 
-// What a line's codes say, once a code has come `count` times in a row.
-fn line_after(code: u8, count: u8, line: Quality) -> Quality
-    ensures { λ answer. ⌜ answer ≡ lineAfter code count line ⌝ }
+// What codes or words say, once one that says `said` has come `count` times in a row.
+fn line_after(said: Quality, count: u8, line: Quality) -> Quality
+    ensures { λ answer. ⌜ answer ≡ lineAfter said count line ⌝ }
 {
     if count < REPORTS_NEEDED {
         return line;
     }
-    quality_of_code(code)
+    said
 }
 
 // The codes heard, the count of equal ones and the frames heard are forgotten.
@@ -94,7 +92,7 @@ fn forgotten(good: bool) -> Heard
         framed: 0,
         frame: FAILED,
         line: FAILED,
-        code: 0,
+        last: 0,
         count: 0,
         good,
     }
@@ -103,7 +101,7 @@ fn forgotten(good: bool) -> Heard
 impl Heard {
     // A signal report. A repeated fail or good changes nothing.
     fn signal(mut self, fail: bool) -> Heard
-        ensures { λ answer. ⌜ answer ≡ heardAfter self kindSignal (flag fail) 0 ⌝ }
+        ensures { λ answer. ⌜ answer ≡ heardAfter self kindSignal (flag fail) notTold 0 ⌝ }
     {
         if fail {
             if self.good {
@@ -115,30 +113,29 @@ impl Heard {
         self
     }
 
-    // A code report, recorded while the signal is good.
-    fn code(mut self, code: u8) -> Heard
-        ensures { λ answer. ⌜ answer ≡ heardAfter self kindLineCode code 0 ⌝ }
+    // A code or a word with what it says, recorded while the signal is good.
+    fn counted(mut self, number: u16, said: Quality) -> Heard
+        ensures { λ answer. ⌜ answer ≡ heardAfter self kindLineCode number said 0 ⌝ }
     {
         if self.good {
-            let count = count_after(code, self.code, self.count);
+            let count = count_after(number, self.last, self.count);
             let old = self.line;
-            let line = line_after(code, count, old);
+            let line = line_after(said, count, old);
             self.line = line;
-            self.code = code;
+            self.last = number;
             self.count = count;
             return self;
         }
         self
     }
 
-    // A frame with its code, recorded while the signal is good.
-    fn frame(mut self, code: u8, time: u64) -> Heard
-        ensures { λ answer. ⌜ answer ≡ heardAfter self kindFrame code time ⌝ }
+    // A frame with what it says, recorded while the signal is good.
+    fn frame(mut self, said: Quality, time: u64) -> Heard
+        ensures { λ answer. ⌜ answer ≡ heardAfter self kindFrame 0 said time ⌝ }
     {
         if self.good {
-            let frame = quality_of_code(code);
             self.framed = time;
-            self.frame = frame;
+            self.frame = said;
             return self;
         }
         self
@@ -152,7 +149,8 @@ fn quality_now(heard: Heard, settings: Settings, mode: bool) -> Quality
     if heard.good {
         if mode {
             if settings.fixed.0 == 0 {
-                if settings.ethernet {
+                let kind = settings.kind;
+                if takes_frames(kind) {
                     return heard.frame;
                 }
                 return heard.line;
@@ -171,7 +169,8 @@ fn can_expire(heard: Heard, settings: Settings, mode: bool) -> bool
     if heard.good {
         if mode {
             if settings.fixed.0 == 0 {
-                return settings.ethernet;
+                let kind = settings.kind;
+                return takes_frames(kind);
             }
             return false;
         }
@@ -199,13 +198,14 @@ impl Input {
     {
         let heard = forgotten(false);
         let run = Run::fresh();
+        let kind = InputKind::Line;
         let settings = Settings {
             holdoff: FRESH_HOLDOFF,
             wait: FRESH_WAIT,
             priority: Priority(0),
             fixed: NOT_TOLD,
-            floor: FRESH_FLOOR,
-            ethernet: false,
+            floor: 0,
+            kind,
             locked: false,
             sending: true,
         };
@@ -259,7 +259,7 @@ impl Input {
     }
 
     pub fn signal(mut self, fail: bool, time: u64, mode: bool) -> Input
-        ensures { λ answer. ⌜ answer ≡ afterEvent self kindSignal (flag fail) time mode ⌝ }
+        ensures { λ answer. ⌜ answer ≡ afterEvent self kindSignal (flag fail) notTold time mode ⌝ }
     {
         let old = self.heard;
         let heard = old.signal(fail);
@@ -267,26 +267,27 @@ impl Input {
         self.settle(time, mode, false)
     }
 
-    pub fn code(mut self, code: u8, time: u64, mode: bool) -> Input
-        ensures { λ answer. ⌜ answer ≡ afterEvent self kindLineCode code time mode ⌝ }
+    // A code or a word, with what it says.
+    pub fn counted(mut self, number: u16, said: Quality, time: u64, mode: bool) -> Input
+        ensures { λ answer. ⌜ answer ≡ afterEvent self kindLineCode number said time mode ⌝ }
     {
         let old = self.heard;
-        let heard = old.code(code);
+        let heard = old.counted(number, said);
         self.heard = heard;
         self.settle(time, mode, false)
     }
 
-    pub fn frame(mut self, code: u8, time: u64, mode: bool) -> Input
-        ensures { λ answer. ⌜ answer ≡ afterEvent self kindFrame code time mode ⌝ }
+    pub fn frame(mut self, said: Quality, time: u64, mode: bool) -> Input
+        ensures { λ answer. ⌜ answer ≡ afterEvent self kindFrame 0 said time mode ⌝ }
     {
         let old = self.heard;
-        let heard = old.frame(code, time);
+        let heard = old.frame(said, time);
         self.heard = heard;
         self.settle(time, mode, false)
     }
 
     pub fn priority(mut self, priority: Priority, time: u64, mode: bool) -> Input
-        ensures { λ answer. ⌜ answer ≡ afterEvent self kindPriority (priority .0) time mode ⌝ }
+        ensures { λ answer. ⌜ answer ≡ afterEvent self kindPriority (priority .0) notTold time mode ⌝ }
     {
         let mut settings = self.settings;
         settings.priority = priority;
@@ -295,7 +296,7 @@ impl Input {
     }
 
     pub fn lockout(mut self, locked: bool, time: u64, mode: bool) -> Input
-        ensures { λ answer. ⌜ answer ≡ afterEvent self kindLockout (flag locked) time mode ⌝ }
+        ensures { λ answer. ⌜ answer ≡ afterEvent self kindLockout (flag locked) notTold time mode ⌝ }
     {
         let mut settings = self.settings;
         settings.locked = locked;
@@ -304,7 +305,7 @@ impl Input {
     }
 
     pub fn hold_off(mut self, holdoff: u16, time: u64, mode: bool) -> Input
-        ensures { λ answer. ⌜ answer ≡ afterEvent self kindHoldoff holdoff time mode ⌝ }
+        ensures { λ answer. ⌜ answer ≡ afterEvent self kindHoldoff holdoff notTold time mode ⌝ }
     {
         let mut settings = self.settings;
         settings.holdoff = holdoff;
@@ -313,7 +314,7 @@ impl Input {
     }
 
     pub fn wait(mut self, minutes: u8, time: u64, mode: bool) -> Input
-        ensures { λ answer. ⌜ answer ≡ afterEvent self kindWait minutes time mode ⌝ }
+        ensures { λ answer. ⌜ answer ≡ afterEvent self kindWait minutes notTold time mode ⌝ }
     {
         let mut settings = self.settings;
         settings.wait = minutes;
@@ -322,7 +323,7 @@ impl Input {
     }
 
     pub fn fixed_quality(mut self, quality: Quality, time: u64, mode: bool) -> Input
-        ensures { λ answer. ⌜ answer ≡ afterEvent self kindFixedQuality (quality .0) time mode ⌝ }
+        ensures { λ answer. ⌜ answer ≡ afterEvent self kindFixedQuality (quality .0) notTold time mode ⌝ }
     {
         let mut settings = self.settings;
         settings.fixed = quality;
@@ -330,23 +331,14 @@ impl Input {
         self.settle(time, mode, false)
     }
 
-    pub fn floor(mut self, floor: Quality, time: u64, mode: bool) -> Input
-        ensures { λ answer. ⌜ answer ≡ afterEvent self kindFloor (floor .0) time mode ⌝ }
-    {
-        let mut settings = self.settings;
-        settings.floor = floor;
-        self.settings = settings;
-        self.settle(time, mode, false)
-    }
-
     pub fn clear_wait(self, time: u64, mode: bool) -> Input
-        ensures { λ answer. ⌜ answer ≡ afterEvent self kindClearWait 0 time mode ⌝ }
+        ensures { λ answer. ⌜ answer ≡ afterEvent self kindClearWait 0 notTold time mode ⌝ }
     {
         self.settle(time, mode, true)
     }
 
     pub fn sending(mut self, sending: bool, time: u64, mode: bool) -> Input
-        ensures { λ answer. ⌜ answer ≡ afterEvent self kindSending (flag sending) time mode ⌝ }
+        ensures { λ answer. ⌜ answer ≡ afterEvent self kindSending (flag sending) notTold time mode ⌝ }
     {
         let mut settings = self.settings;
         settings.sending = sending;
@@ -354,14 +346,34 @@ impl Input {
         self.settle(time, mode, false)
     }
 
+    pub fn floor(mut self, floor: u8, time: u64, mode: bool) -> Input
+        ensures { λ answer. ⌜ answer ≡ afterEvent self kindFloor floor notTold time mode ⌝ }
+    {
+        let mut settings = self.settings;
+        settings.floor = floor;
+        self.settings = settings;
+        self.settle(time, mode, false)
+    }
+
     // The input's kind set, also to the kind it has: what was heard is forgotten.
-    pub fn kind(mut self, ethernet: bool, time: u64, mode: bool) -> Input
-        ensures { λ answer. ⌜ answer ≡ afterEvent self kindInputKind (flag ethernet) time mode ⌝ }
+    pub fn kind(mut self, kind: InputKind, time: u64, mode: bool) -> Input
+        ensures { λ answer. ⌜ answer ≡ afterEvent self kindInputKind (kindArgument kind) notTold time mode ⌝ }
     {
         let old = self.heard;
         let heard = forgotten(old.good);
-        let mut settings = self.settings;
-        settings.ethernet = ethernet;
+        let before = self.settings;
+        let priority = before.priority;
+        let fixed = before.fixed;
+        let settings = Settings {
+            holdoff: before.holdoff,
+            wait: before.wait,
+            priority,
+            fixed,
+            floor: before.floor,
+            kind,
+            locked: before.locked,
+            sending: before.sending,
+        };
         self.heard = heard;
         self.settings = settings;
         self.settle(time, mode, false)

@@ -1,26 +1,51 @@
--- Document 01, "Qualities and codes": the table as one statement about `qualityOfCode` and `codeOfQuality`.
--- Assumes nothing.
+-- The tables of codes and words, one computed statement each. Assumes nothing.
 use Prim.Native.Nat.{ℕ}
+use mathlib.Core.Bool.{true}
 use mathlib.Core.List.{List, [], _∷_, map}
 use mathlib.Core.Path.{_≡_}
 use Rattle.numbers.specs.declared.Quality.{Quality}
-use Rattle.numbers.specs.Quality.{prc, ssuA, ssuB, sec, dnu, invalid, qualityOfCode, codeOfQuality}
+use Rattle.numbers.specs.declared.Profile.the-variants as P
+use Rattle.numbers.specs.Quality.{prc, ssuA, ssuB, sec, dnu, prs, stu, st2, tnc, st3e, st3, sic, st4, prov, dus, invalid}
+use Rattle.numbers.specs.Profile.{toldBy, paperNumber}
+use Rattle.numbers.specs.Codes.{qualityOfCode, codeOfQuality, qualityOfWord, wordOfQuality}
 
 -- the sixteen codes, 0000 to 1111
 abbrev pub codes : List ℕ
 codes = 0 ∷ 1 ∷ 2 ∷ 3 ∷ 4 ∷ 5 ∷ 6 ∷ 7 ∷ 8 ∷ 9 ∷ 10 ∷ 11 ∷ 12 ∷ 13 ∷ 14 ∷ 15 ∷ []
 
--- what each of them says
-abbrev pub said : List Quality
-said =
-    invalid ∷ invalid ∷ prc ∷ invalid ∷ ssuA ∷ invalid ∷ invalid ∷ invalid ∷
-    ssuB ∷ invalid ∷ invalid ∷ sec ∷ invalid ∷ invalid ∷ invalid ∷ dnu ∷ []
+-- the qualities of option I
+abbrev pub toldOne : List Quality
+toldOne = prc ∷ ssuA ∷ ssuB ∷ sec ∷ dnu ∷ []
 
--- the five qualities that have a code
-abbrev pub told : List Quality
-told = prc ∷ ssuA ∷ ssuB ∷ sec ∷ dnu ∷ []
+-- the qualities of option II that have a code, and the one that has a word only
+abbrev pub coded : List Quality
+coded = prs ∷ stu ∷ st2 ∷ tnc ∷ st3e ∷ st3 ∷ sic ∷ prov ∷ dus ∷ []
 
--- the table holds: each code reads as its row says, and each of the five writes a code that reads back as itself
+abbrev pub toldTwo : List Quality
+toldTwo = st4 ∷ coded
+
+-- document 01's table, by its own numbers: each code reads as its row says, 0000 as 6, and each of the five writes a code
+-- that reads back as itself
 pub record CodeTable : Type 0 where
-  pub read : map qualityOfCode codes ≡ said
-  pub back : map (λ (written : Quality). qualityOfCode (codeOfQuality written)) told ≡ told
+  pub read : map (λ (code : ℕ). paperNumber P.OptionOne (qualityOfCode P.OptionOne code)) codes ≡
+      6 ∷ 6 ∷ 1 ∷ 6 ∷ 2 ∷ 6 ∷ 6 ∷ 6 ∷ 3 ∷ 6 ∷ 6 ∷ 4 ∷ 6 ∷ 6 ∷ 6 ∷ 5 ∷ []
+  pub back : map (λ (told : Quality). qualityOfCode P.OptionOne (codeOfQuality P.OptionOne told)) toldOne ≡ toldOne
+
+-- option II's, for any place and marks: 0000 as STU; all that have a code read back, and ST4 reads as DUS
+pub record CodeTableTwo (place marks : ℕ) : Type 0 where
+  pub read : map (λ (code : ℕ). qualityOfCode (P.OptionTwo place marks) code) codes ≡
+      stu ∷ prs ∷ invalid ∷ invalid ∷ tnc ∷ invalid ∷ invalid ∷ st2 ∷
+      invalid ∷ invalid ∷ st3 ∷ invalid ∷ sic ∷ st3e ∷ prov ∷ dus ∷ []
+  pub back : map (λ (told : Quality).
+      qualityOfCode (P.OptionTwo place marks) (codeOfQuality (P.OptionTwo place marks) told)) toldTwo ≡ dus ∷ coded
+  -- "A port marked first generation sends TNC and ST3E as 1010"
+  pub marked : map (λ (told : Quality). codeOfQuality (P.OptionTwo place marks) (toldBy true told)) (tnc ∷ st3e ∷ []) ≡
+      0b1010 ∷ 0b1010 ∷ []
+
+-- the ten words, in and out; "Each second-generation quality written reads back as itself"
+pub record WordTable : Type 0 where
+  pub written : map wordOfQuality toldTwo ≡
+      0x28ff ∷ 0x04ff ∷ 0x08ff ∷ 0x0cff ∷ 0x78ff ∷ 0x7cff ∷ 0x10ff ∷ 0x22ff ∷ 0x40ff ∷ 0x30ff ∷ []
+  -- "First-generation ports send 10FF for TNC and ST3E"
+  pub marked : map (λ (told : Quality). wordOfQuality (toldBy true told)) (tnc ∷ st3e ∷ []) ≡ 0x10ff ∷ 0x10ff ∷ []
+  pub back : map (λ (told : Quality). qualityOfWord (wordOfQuality told)) toldTwo ≡ toldTwo

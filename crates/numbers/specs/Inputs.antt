@@ -22,10 +22,6 @@ freshHoldoff = 300
 abbrev pub freshWait : ℕ
 freshWait = 5
 
--- document 02, L9: "Each input gets a floor 1 to 4, fresh value 4"
-abbrev pub freshFloor : ℕ
-freshFloor = 4
-
 -- "less than 5,000 ms ago"
 abbrev pub frameLife : ℕ
 frameLife = 5000

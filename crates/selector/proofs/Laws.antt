@@ -1,13 +1,18 @@
 -- The definitions of `specs/`, a law for each way through the function that meets it. Assumes nothing.
-use Prim.Native.Nat.{ℕ, zero, suc, _+_, _≤_, _<_}
-use mathlib.Core.Bool.{Bool, true, false}
+use Prim.Native.Nat.{ℕ, zero, suc, _+_, _/_, _%_, _≤_, _<_}
+use mathlib.Core.Bool.{Bool, true, false, cond}
 use mathlib.Core.List.{List, [], _∷_}
 use mathlib.Core.Path.{_≡_, refl, sym, _∙_, ap}
 use native.Mathlib.Omega.{arith}
+use native.Mathlib.Numerals.{add-one}
 use lib.Dec.{eqb}
 use lib.ListN.{length, getD, set}
 use Rattle.numbers.specs.declared.InputNumber.{InputNumber}
-use Rattle.numbers.specs.Quality.{notTold, sec, codeDnu}
+use Rattle.numbers.specs.declared.Profile.{Profile}
+use Rattle.numbers.specs.declared.Quality.{Quality}
+use Rattle.numbers.specs.Quality.{notTold}
+use Rattle.numbers.specs.Profile.{isMarked, halved}
+use Rattle.numbers.specs.Codes.{codeDnu, wordStu, wordDus}
 use Rattle.input.specs.declared.Input.{Input}
 use Rattle.input.specs.Record.{freshInput}
 use Rattle.choice.specs.declared.Candidate.{Candidate}
@@ -19,7 +24,7 @@ use Rattle.decision.specs.declared.Switch.the-variants as W
 use Rattle.selector.specs.State.{candidateFor}
 use Rattle.selector.proofs.Filled.{filled, filled-turn}
 use Rattle.selector.proofs.Ports.{port-number}
-use Rattle.selector.specs.Answer.{noInput, freeRun, holdover, locked, selectedCandidate, clockState, clockQuality, outgoingCode, selectedNumber, switchNumber, switchInput, codeFor, ports}
+use Rattle.selector.specs.Answer.{noInput, freeRun, holdover, locked, selectedCandidate, clockState, clockQuality, outgoingCode, selectedNumber, switchNumber, switchInput, outgoingWord, signFor, ports}
 
 -- ---- getD
 
@@ -49,14 +54,14 @@ pub ruleset inputAt-laws = (inputAt-inside, inputAt-past)
 
 -- ---- selectedCandidate
 
-module _ (inputs : List Input) (mode : Bool) (selection : Selection) where
-  pub selectedCandidate-nothing : selection ≡ S.Nothing → nobody ≡ selectedCandidate inputs mode selection
+module _ (profile : Profile) (inputs : List Input) (mode : Bool) (selection : Selection) where
+  pub selectedCandidate-nothing : selection ≡ S.Nothing → nobody ≡ selectedCandidate profile inputs mode selection
   unfolding selectedCandidate
   selectedCandidate-nothing s = rw s
 
   pub selectedCandidate-at : (number : InputNumber) (input : Input) (candidate : Candidate) → selection ≡ S.At number
-      → input ≡ getD inputs (number .0) freshInput → candidate ≡ candidateFor mode input
-      → candidate ≡ selectedCandidate inputs mode selection
+      → input ≡ getD inputs (number .0) freshInput → candidate ≡ candidateFor profile mode input
+      → candidate ≡ selectedCandidate profile inputs mode selection
   unfolding selectedCandidate
   selectedCandidate-at number input candidate s i c = c ∙ (rw (s, i))
 
@@ -79,16 +84,16 @@ module _ (isClockLocked held : Bool) where
 
 pub ruleset clockState-laws = (clockState-locked, clockState-holdover, clockState-free)
 
-module _ (mode : Bool) (candidate : Candidate) where
-  pub clockQuality-off : mode ≡ false → notTold ≡ clockQuality mode candidate
+module _ (own : Quality) (mode : Bool) (candidate : Candidate) where
+  pub clockQuality-off : mode ≡ false → notTold ≡ clockQuality own mode candidate
   unfolding clockQuality
   clockQuality-off m = rw m
 
-  pub clockQuality-locked : mode ≡ true → candidate .usable ≡ true → candidate .quality ≡ clockQuality mode candidate
+  pub clockQuality-locked : mode ≡ true → candidate .usable ≡ true → candidate .quality ≡ clockQuality own mode candidate
   unfolding clockQuality
   clockQuality-locked m u = rw (m, u)
 
-  pub clockQuality-own : mode ≡ true → candidate .usable ≡ false → sec ≡ clockQuality mode candidate
+  pub clockQuality-own : mode ≡ true → candidate .usable ≡ false → own ≡ clockQuality own mode candidate
   unfolding clockQuality
   clockQuality-own m u = rw (m, u)
 
@@ -114,6 +119,27 @@ module _ (mode sending isSelected : Bool) (code : ℕ) where
   outgoingCode-told m s i = rw (m, s, i)
 
 pub ruleset outgoingCode-laws = (outgoingCode-off, outgoingCode-silent, outgoingCode-selected, outgoingCode-told)
+
+module _ (mode sending isSelected : Bool) (word : ℕ) where
+  pub outgoingWord-silent : sending ≡ false → wordStu ≡ outgoingWord mode sending isSelected word
+  unfolding outgoingWord
+  outgoingWord-silent s = rw s
+
+  pub outgoingWord-off : sending ≡ true → mode ≡ false → wordDus ≡ outgoingWord mode sending isSelected word
+  unfolding outgoingWord
+  outgoingWord-off s m = rw (s, m)
+
+  pub outgoingWord-selected : sending ≡ true → mode ≡ true → isSelected ≡ true
+      → wordDus ≡ outgoingWord mode sending isSelected word
+  unfolding outgoingWord
+  outgoingWord-selected s m i = rw (s, m, i)
+
+  pub outgoingWord-told : sending ≡ true → mode ≡ true → isSelected ≡ false
+      → word ≡ outgoingWord mode sending isSelected word
+  unfolding outgoingWord
+  outgoingWord-told s m i = rw (s, m, i)
+
+pub ruleset outgoingWord-laws = (outgoingWord-silent, outgoingWord-off, outgoingWord-selected, outgoingWord-told)
 
 -- ---- selectedNumber, switchNumber, switchInput
 
@@ -157,22 +183,42 @@ pub ruleset switchNumber-laws = (switchNumber-nothing, switchNumber-forced, swit
 
 pub ruleset switchInput-laws = (switchInput-nothing, switchInput-forced, switchInput-manual)
 
--- ---- codeFor
+-- ---- signFor, for codes and for words
 
 -- a turn of the loop over the ports
-pub codeFor-turn : (inputs : List Input) (mode : Bool) (selected code port : ℕ) (into now : List ℕ) (told : ℕ) (zeroed : Input)
-    → now ≡ filled (codeFor inputs mode selected code) port ports into
-    → told ≡ outgoingCode mode (getD inputs port zeroed .settings .sending) (eqb selected port) code
+pub signFor-turn : (rule : Bool → Bool → Bool → ℕ → ℕ) (inputs : List Input) (mode : Bool) (selected marks sign first port rest : ℕ) (into now : List ℕ)
+    (chosen told : ℕ) (zeroed : Input)
+    → now ≡ filled (signFor rule inputs mode selected marks sign first) port ports into
+    → rest ≡ halved port marks
+    → chosen ≡ cond (eqb (rest % 2) 1) first sign
+    → told ≡ rule mode (getD inputs port zeroed .settings .sending) (eqb selected port) chosen
     → length inputs ≡ 16
     → length into ≡ 16 → port < 16
-    → set now port told ≡ filled (codeFor inputs mode selected code) (port + 1) ports into
-unfolding codeFor
-codeFor-turn inputs mode selected code port into now told zeroed e o h k lt =
+    → set now port told ≡ filled (signFor rule inputs mode selected marks sign first) (port + 1) ports into
+unfolding signFor
+signFor-turn rule inputs mode selected marks sign first port rest into now chosen told zeroed e r c o h k lt =
     let m : port < length inputs = omega arith in
-    filled-turn (codeFor inputs mode selected code) 16 port ports into now 0 told e
+    let same : chosen ≡ cond (isMarked marks port) first sign =
+    c ∙ ap (λ (x : ℕ). cond (eqb (x % 2) 1) first sign) r in
+    filled-turn (signFor rule inputs mode selected marks sign first) 16 port ports into now 0 told e
     (rw (port-number port lt)
     (o ∙
-    ap (λ (x : Input). outgoingCode mode (x .settings .sending) (eqb selected port) code) (getD-any inputs port zeroed freshInput m)))
+    ap (λ (x : ℕ). rule mode (getD inputs port zeroed .settings .sending) (eqb selected port) x) same ∙
+    ap
+    (λ (x : Input).
+    rule mode (x .settings .sending) (eqb selected port) (cond (isMarked marks port) first sign))
+    (getD-any inputs port zeroed freshInput m)))
     refl
     k
     lt
+
+-- what is left of the marks, one port on
+pub halved-turn : (port marks rest : ℕ) → rest ≡ halved port marks → rest / 2 ≡ halved (port + 1) marks
+unfolding halved
+halved-turn port marks rest e = rw (add-one port) (ap (λ (x : ℕ). x / 2) e)
+
+pub halved-none : (marks : ℕ) → marks ≡ halved 0 marks
+unfolding halved
+halved-none marks = refl
+
+pub ruleset halved-laws = (halved-turn, halved-none)

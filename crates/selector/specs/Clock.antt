@@ -4,7 +4,8 @@ use Prim.Native.Nat.{ℕ}
 use mathlib.Core.Bool.{Bool, not, _||_, cond}
 use mathlib.Core.List.{List, [], _∷_}
 use Rattle.numbers.specs.declared.Quality.{Quality}
-use Rattle.numbers.specs.Quality.{notTold, sec, codeDnu}
+use Rattle.numbers.specs.Quality.{notTold}
+use Rattle.numbers.specs.Codes.{codeDnu, wordStu, wordDus}
 use Rattle.choice.specs.declared.Candidate.{Candidate}
 use Rattle.choice.specs.declared.Selection.{Selection}
 use Rattle.choice.specs.declared.Selection.the-variants as S
@@ -35,16 +36,24 @@ clockState isClockLocked held =
     (cond held holdover
     freeRun)
 
--- "Clock quality: 0 with mode off; the passed quality when locked; otherwise 4"
-unfoldable pub clockQuality : Bool → Candidate → Quality
-clockQuality mode candidate =
+-- "Clock quality: 0 with mode off; the passed quality when locked; otherwise 4", or what the option's own clock tells
+unfoldable pub clockQuality : Quality → Bool → Candidate → Quality
+clockQuality own mode candidate =
     cond (not mode) notTold
     (cond (candidate .usable) (candidate .quality)
-    sec)
+    own)
 
 -- "1111 if mode is off, if its sending is off, or if it is the selected input; otherwise the code of the clock quality"
 unfoldable pub outgoingCode : Bool → Bool → Bool → ℕ → ℕ
 outgoingCode mode sending isSelected code = cond (not mode || not sending || isSelected) codeDnu code
+
+-- document 02, L12: "With sending off the word is 08FF"; "With sending on, mode off or the selected port gives 30FF";
+-- otherwise the word of the clock quality
+unfoldable pub outgoingWord : Bool → Bool → Bool → ℕ → ℕ
+outgoingWord mode sending isSelected word =
+    cond (not sending) wordStu
+    (cond (not mode || isSelected) wordDus
+    word)
 
 -- "selected input or ff"
 unfoldable pub selectedNumber : Selection → ℕ

@@ -5,6 +5,8 @@ use mathlib.Core.Bool.{Bool, true, false}
 use mathlib.Core.List.{List, map}
 use lib.ListN.{replicate}
 use Rattle.numbers.specs.Inputs.{inputCount}
+use Rattle.numbers.specs.declared.Profile.{Profile}
+use Rattle.numbers.specs.Profile.{limitsOf, placeOf, floorIn}
 use Rattle.input.specs.declared.Input.{Input}
 use Rattle.input.specs.Record.{freshInput, tick, passedOf}
 use Rattle.choice.specs.declared.Candidate.{Candidate}
@@ -16,14 +18,15 @@ use Rattle.decision.specs.declared.Switch.the-variants as W
 use Rattle.decision.specs.Decision.{decide}
 use Rattle.selector.specs.declared.Selector.{Selector}
 
--- "The selector starts at time 0, quality mode on, no switch, nothing selected"
-abbrev pub freshSelector : Selector
-freshSelector =
+-- "The selector starts at time 0, quality mode on, no switch, nothing selected"; "A profile chosen once"
+abbrev pub freshSelector : Profile → Selector
+freshSelector profile =
     record {
       inputs = replicate inputCount freshInput;
       time = 0;
       switch = W.Nothing;
       selection = S.Nothing;
+      profile = profile;
       mode = true;
       held = false;
     }
@@ -39,13 +42,16 @@ seenOf input =
     }
 
 -- an input as a choice sees it
-unfoldable pub candidateFor : Bool → Input → Candidate
-candidateFor mode input =
-    candidateOf (passedOf input) (input .settings .priority) (input .settings .locked) (input .settings .floor) mode
+unfoldable pub candidateFor : Profile → Bool → Input → Candidate
+candidateFor profile mode input =
+    candidateOf (placeOf profile) (floorIn (limitsOf profile .own) (input .settings .floor)) (passedOf input)
+    (input .settings .priority)
+    (input .settings .locked)
+    mode
 
 -- what a choice looks at of all inputs
-abbrev pub candidatesOf : List Input → Bool → List Candidate
-candidatesOf inputs mode = map (candidateFor mode) inputs
+abbrev pub candidatesOf : Profile → List Input → Bool → List Candidate
+candidatesOf profile inputs mode = map (candidateFor profile mode) inputs
 
 -- the state with what a choice leaves
 abbrev pub withDecision : Selector → Decision → Selector
@@ -55,13 +61,15 @@ withDecision state decision =
       time = state .time;
       switch = decision .switch;
       selection = decision .selection;
+      profile = state .profile;
       mode = state .mode;
       held = decision .held;
     }
 
--- what "the switch judged, the choice made" come to
+-- what the switch judged and the choice made come to
 abbrev pub decisionOf : Selector → Decision
-decisionOf state = decide (candidatesOf (state .inputs) (state .mode)) (state .switch) (state .selection) (state .held)
+decisionOf state =
+    decide (candidatesOf (state .profile) (state .inputs) (state .mode)) (state .switch) (state .selection) (state .held)
 
 -- "the switch judged, the choice made"
 unfoldable pub decided : Selector → Selector
@@ -75,6 +83,7 @@ broughtTo state time =
       time = time;
       switch = state .switch;
       selection = state .selection;
+      profile = state .profile;
       mode = state .mode;
       held = state .held;
     }

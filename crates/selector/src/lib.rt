@@ -16,16 +16,24 @@ use numbers::CODE_DNU;
 use numbers::INPUT_COUNT;
 use numbers::InputNumber;
 use numbers::NOT_TOLD;
+use numbers::Profile;
 use numbers::Quality;
-use numbers::SEC;
+use numbers::WORD_DUS;
+use numbers::WORD_STU;
 use numbers::code_of_quality;
+use numbers::floor_in;
+use numbers::limits_of;
+use numbers::marks_of;
+use numbers::place_of;
+use numbers::told_by;
+use numbers::word_of_quality;
 ghost use mathlib.Core.Path.{_≡_};
-ghost use mathlib.Core.Bool.{false};
+ghost use mathlib.Core.Bool.{false, cond};
 ghost use mathlib.Core.List.{map};
 ghost use lib.ListN.{getD};
 ghost use Rattle.input.specs.Record.{freshInput, settle, tick};
 ghost use Rattle.selector.specs.State.{seenOf, candidateFor, candidatesOf, freshSelector, decisionOf, decided, ticked};
-ghost use Rattle.selector.specs.Answer.{selectedNumber, switchNumber, switchInput, clockState, clockQuality, outgoingCode, selectedCandidate, codeFor, ports, answerOf, outgoingCodes};
+ghost use Rattle.selector.specs.Answer.{selectedNumber, switchNumber, switchInput, clockState, clockQuality, outgoingCode, outgoingWord, selectedCandidate, signFor, ports, qualityOf, answerOf, outgoingCodes, outgoingWords};
 
 // Stands for no input in an answer.
 const NO_INPUT: u8 = 255;
@@ -51,6 +59,7 @@ pub struct Selector {
     pub time: u64,
     pub switch: Switch,
     pub selection: Selection,
+    pub profile: Profile,
     pub mode: bool,
     pub held: bool,
 }
@@ -73,32 +82,37 @@ pub fn seen_of(input: Input) -> Seen
     let passed = input.passed_quality();
     let settings = input.settings;
     let priority = settings.priority;
-    let floor = settings.floor;
     Seen {
         passed,
         priority,
-        floor,
+        floor: settings.floor,
         locked: settings.locked,
     }
 }
 
 // An input as a choice sees it.
-pub fn candidate_for(input: Input, mode: bool) -> Candidate
-    ensures { λ answer. ⌜ answer ≡ candidateFor mode input ⌝ }
+pub fn candidate_for(profile: Profile, input: Input, mode: bool) -> Candidate
+    ensures { λ answer. ⌜ answer ≡ candidateFor profile mode input ⌝ }
 {
     let seen = seen_of(input);
-    candidate_of(seen, mode)
+    let passed = seen.passed;
+    let priority = seen.priority;
+    let place = place_of(profile);
+    let limits = limits_of(profile);
+    let own = limits.own;
+    let floor = floor_in(own, seen.floor);
+    candidate_of(place, floor, passed, priority, seen.locked, mode)
 }
 
 // What a choice looks at of all inputs.
-pub fn candidates_of(inputs: [Input; 16], mode: bool) -> [Candidate; 16]
-    ensures { λ answer. ⌜ answer ≡ candidatesOf inputs mode ⌝ }
+pub fn candidates_of(profile: Profile, inputs: [Input; 16], mode: bool) -> [Candidate; 16]
+    ensures { λ answer. ⌜ answer ≡ candidatesOf profile inputs mode ⌝ }
 {
     let mut candidates = [NOBODY; 16];
     let mut at: usize = 0;
     while at < 16 {
         let input = inputs[at];
-        let candidate = candidate_for(input, mode);
+        let candidate = candidate_for(profile, input, mode);
         candidates[at] = candidate;
         at += 1;
     }
@@ -137,8 +151,8 @@ pub fn settle_all(inputs: [Input; 16], time: u64, mode: bool) -> [Input; 16]
 
 impl Selector {
     // Time 0, quality mode on, no switch, nothing selected, sixteen fresh inputs.
-    pub fn fresh() -> Selector
-        ensures { λ answer. ⌜ answer ≡ freshSelector ⌝ }
+    pub fn fresh(profile: Profile) -> Selector
+        ensures { λ answer. ⌜ answer ≡ freshSelector profile ⌝ }
     {
         let input = Input::fresh();
         let inputs = [input; 16];
@@ -149,6 +163,7 @@ impl Selector {
             time: 0,
             switch,
             selection,
+            profile,
             mode: true,
             held: false,
         }
@@ -160,7 +175,8 @@ impl Selector {
         ensures { λ answer. ⌜ answer ≡ decisionOf self ⌝ }
     {
         let inputs = self.inputs;
-        let candidates = candidates_of(inputs, self.mode);
+        let profile = self.profile;
+        let candidates = candidates_of(profile, inputs, self.mode);
         let switch = self.switch;
         let selection = self.selection;
         decide(candidates, switch, selection, self.held)
@@ -171,7 +187,8 @@ impl Selector {
         ensures { λ answer. ⌜ answer ≡ decided self ⌝ }
     {
         let inputs = self.inputs;
-        let candidates = candidates_of(inputs, self.mode);
+        let profile = self.profile;
+        let candidates = candidates_of(profile, inputs, self.mode);
         let before = self.switch;
         let earlier = self.selection;
         let decision = decide(candidates, before, earlier, self.held);
@@ -182,6 +199,7 @@ impl Selector {
             time: self.time,
             switch,
             selection,
+            profile,
             mode: self.mode,
             held: decision.held,
         }
@@ -205,8 +223,11 @@ impl Selector {
         let inputs = self.inputs;
         let switch = self.switch;
         let selection = self.selection;
-        let candidate = selected_candidate(inputs, self.mode, selection);
-        let quality = clock_quality(self.mode, candidate);
+        let profile = self.profile;
+        let limits = limits_of(profile);
+        let own = limits.own;
+        let candidate = selected_candidate(profile, inputs, self.mode, selection);
+        let quality = clock_quality(own, self.mode, candidate);
         Answer {
             number,
             selected: selected_number(selection),
@@ -217,44 +238,155 @@ impl Selector {
         }
     }
 
+    // The clock quality.
+    pub fn quality(self) -> Quality
+        ensures { λ answer. ⌜ answer ≡ qualityOf self ⌝ }
+    {
+        let inputs = self.inputs;
+        let selection = self.selection;
+        let profile = self.profile;
+        let limits = limits_of(profile);
+        let own = limits.own;
+        let candidate = selected_candidate(profile, inputs, self.mode, selection);
+        clock_quality(own, self.mode, candidate)
+    }
+
     // The codes that go out of the sixteen ports.
     pub fn outgoing_codes(self) -> [u8; 16]
         ensures { λ answer. ⌜ answer ≡ outgoingCodes self ⌝ }
     {
         let inputs = self.inputs;
         let selection = self.selection;
-        let candidate = selected_candidate(inputs, self.mode, selection);
-        let quality = clock_quality(self.mode, candidate);
-        let code = code_of_quality(quality);
+        let profile = self.profile;
+        let quality = self.quality();
+        let code = code_of_quality(profile, quality);
+        let told = told_by(true, quality);
+        let first = code_of_quality(profile, told);
+        let marks = marks_of(profile);
         let selected = selected_number(selection);
-        codes_for(inputs, self.mode, selected, code)
+        codes_for(inputs, self.mode, selected, marks, code, first)
+    }
+
+    // The words that go out of the sixteen ports, in option II.
+    pub fn outgoing_words(self) -> [u16; 16]
+        ensures { λ answer. ⌜ answer ≡ outgoingWords self ⌝ }
+    {
+        let inputs = self.inputs;
+        let selection = self.selection;
+        let profile = self.profile;
+        let quality = self.quality();
+        let word = word_of_quality(quality);
+        let told = told_by(true, quality);
+        let first = word_of_quality(told);
+        let marks = marks_of(profile);
+        let selected = selected_number(selection);
+        words_for(inputs, self.mode, selected, marks, word, first)
     }
 }
 
-// The codes that go out of the sixteen ports, where the clock quality has a code.
-fn codes_for(inputs: [Input; 16], mode: bool, selected: u8, code: u8) -> [u8; 16]
-    ensures { λ answer. ⌜ answer ≡ map (codeFor inputs mode selected code) ports ⌝ }
+// One of two codes.
+fn code_by(marked: bool, first: u8, code: u8) -> u8
+    ensures { λ answer. ⌜ answer ≡ cond marked first code ⌝ }
+{
+    if marked {
+        return first;
+    }
+    code
+}
+
+// The codes that go out of the sixteen ports, where the clock quality has a code, and another on a
+// port marked first generation.
+fn codes_for(
+    inputs: [Input; 16],
+    mode: bool,
+    selected: u8,
+    marks: u16,
+    code: u8,
+    first: u8,
+) -> [u8; 16]
+    ensures { λ answer. ⌜ answer ≡
+        map (signFor outgoingCode inputs mode selected marks code first) ports ⌝ }
 {
     let mut codes = [0u8; 16];
+    let mut rest = marks;
     let mut port: u8 = 0;
     while port < INPUT_COUNT {
         let input = inputs[port as usize];
         let settings = input.settings;
-        codes[port as usize] = outgoing_code(mode, settings.sending, selected == port, code);
+        let told = code_by(rest % 2 == 1, first, code);
+        codes[port as usize] = outgoing_code(mode, settings.sending, selected == port, told);
+        rest = rest / 2;
         port += 1;
     }
     codes
 }
 
+// One of two words.
+fn word_by(marked: bool, first: u16, word: u16) -> u16
+    ensures { λ answer. ⌜ answer ≡ cond marked first word ⌝ }
+{
+    if marked {
+        return first;
+    }
+    word
+}
+
+// The words that go out of the sixteen ports.
+fn words_for(
+    inputs: [Input; 16],
+    mode: bool,
+    selected: u8,
+    marks: u16,
+    word: u16,
+    first: u16,
+) -> [u16; 16]
+    ensures { λ answer. ⌜ answer ≡
+        map (signFor outgoingWord inputs mode selected marks word first) ports ⌝ }
+{
+    let mut words = [0u16; 16];
+    let mut rest = marks;
+    let mut port: u8 = 0;
+    while port < INPUT_COUNT {
+        let input = inputs[port as usize];
+        let settings = input.settings;
+        let told = word_by(rest % 2 == 1, first, word);
+        words[port as usize] = outgoing_word(mode, settings.sending, selected == port, told);
+        rest = rest / 2;
+        port += 1;
+    }
+    words
+}
+
+// The word that goes out of a port.
+fn outgoing_word(mode: bool, sending: bool, selected: bool, word: u16) -> u16
+    ensures { λ answer. ⌜ answer ≡ outgoingWord mode sending selected word ⌝ }
+{
+    if sending {
+        if mode {
+            if selected {
+                return WORD_DUS;
+            }
+            return word;
+        }
+        return WORD_DUS;
+    }
+    WORD_STU
+}
+
 // The selected input as a choice sees it; none where nothing is selected.
-fn selected_candidate(inputs: [Input; 16], mode: bool, selection: Selection) -> Candidate
-    ensures { λ answer. ⌜ answer ≡ selectedCandidate inputs mode selection ⌝ }
+fn selected_candidate(
+    profile: Profile,
+    inputs: [Input; 16],
+    mode: bool,
+    selection: Selection,
+) -> Candidate
+    ensures { λ answer. ⌜ answer ≡ selectedCandidate profile inputs mode selection ⌝ }
 {
     match selection {
         Selection::Nothing => NOBODY,
         Selection::At(number) => {
             let input = input_at(inputs, number);
-            candidate_for(input, mode)
+            candidate_for(profile, input, mode)
         }
     }
 }
@@ -271,15 +403,15 @@ fn clock_state(locked: bool, held: bool) -> u8
     FREE_RUN
 }
 
-// 0 with mode off; the passed quality when locked; otherwise 4.
-fn clock_quality(mode: bool, candidate: Candidate) -> Quality
-    ensures { λ answer. ⌜ answer ≡ clockQuality mode candidate ⌝ }
+// 0 with mode off; the passed quality when locked; otherwise the clock's own.
+fn clock_quality(own: Quality, mode: bool, candidate: Candidate) -> Quality
+    ensures { λ answer. ⌜ answer ≡ clockQuality own mode candidate ⌝ }
 {
     if mode {
         if candidate.usable {
             return candidate.quality;
         }
-        return SEC;
+        return own;
     }
     NOT_TOLD
 }

@@ -8,7 +8,7 @@ passed-quality-requires : tie.Need-passed-quality-requires
 passed-quality-requires c κs = search needs
 
 returns : tie.Need-returns
-returns c = rw (c .before .before .before .passed-quality .ensures)
+returns c = rw (c .before .before .passed-quality .ensures)
 
 pub seen-of-spec : {M : Type 1} → statement M
 seen-of-spec = tie.close (tie.spec passed-quality-requires returns)

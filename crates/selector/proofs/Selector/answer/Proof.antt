@@ -5,6 +5,9 @@ use borrow.Author.Needs.{needs}
 use Rattle.selector.proofs.Selector.answer.Statement.{statement}
 use Rattle.selector.proofs.Selector.answer.Tie as tie
 
+limits-of-requires : tie.Need-limits-of-requires
+limits-of-requires c κs = search needs
+
 selected-candidate-requires : tie.Need-selected-candidate-requires
 selected-candidate-requires c κs = search needs
 
@@ -33,12 +36,14 @@ returns c =
       c .before .before .before .selected-number .ensures,
       c .before .before .before .before .clock-quality .ensures,
       c .before .before .before .before .before .selected-candidate .ensures,
+      c .before .before .before .before .before .before .before .limits-of .ensures,
     )
 
 pub answer-spec : {M : Type 1} → statement M
 answer-spec =
     tie.close
     (tie.spec
+    limits-of-requires
     selected-candidate-requires
     clock-quality-requires
     selected-number-requires

@@ -1,0 +1,163 @@
+-- The definitions of `specs/Profile` and `specs/Codes`, a law for each way through the function that meets it. Assumes
+-- nothing.
+use Prim.Native.Nat.{ℕ, _≤_, _<_}
+use mathlib.Core.Bool.{Bool, true, false}
+use mathlib.Core.Path.{_≡_, refl}
+use borrow.Author.Tests.{eq-eqb, ne-eqb, lt-ltb, le-ltb}
+use Rattle.numbers.specs.declared.Quality.{Quality}
+use Rattle.numbers.specs.declared.Limits.{Limits}
+use Rattle.numbers.specs.declared.Profile.{Profile}
+use Rattle.numbers.specs.declared.Profile.the-variants as P
+use Rattle.numbers.specs.Refusal.{accepted, argumentOutOfRange}
+use Rattle.numbers.specs.Quality.{notTold, tnc, st3e, st3, invalid, failed}
+use Rattle.numbers.specs.Profile.{limitsOf, placeOf, lastPlace, startNumber, marksOf, floorIn, toldBy, numberInOne, paperNumber}
+use Rattle.numbers.specs.declared.InputKind.{InputKind}
+use Rattle.numbers.specs.declared.InputKind.the-variants as N
+use Rattle.numbers.specs.Kind.{inputKindOf}
+use Rattle.numbers.specs.Codes.{codesOne, codesTwo, codeDnu, saidBy, signOf, qualityOfCode, codeOfQuality, qualityOfWord}
+
+-- ---- a function of the profile is given by its two cases
+
+module _ (profile : Profile) (code : ℕ) (said : Quality) where
+  pub qualityOfCode-one : profile ≡ P.OptionOne → said ≡ saidBy codesOne code → said ≡ qualityOfCode profile code
+  unfolding qualityOfCode
+  qualityOfCode-one p s = rw (p, s)
+
+  pub qualityOfCode-two : (place marks : ℕ) → profile ≡ P.OptionTwo place marks → said ≡ saidBy codesTwo code
+      → said ≡ qualityOfCode profile code
+  unfolding qualityOfCode
+  qualityOfCode-two place marks p s = rw (p, s)
+
+pub ruleset qualityOfCode-laws = (qualityOfCode-one, qualityOfCode-two)
+
+module _ (profile : Profile) (told : Quality) (code : ℕ) where
+  pub codeOfQuality-one : profile ≡ P.OptionOne → code ≡ signOf codesOne codeDnu told
+      → code ≡ codeOfQuality profile told
+  unfolding codeOfQuality
+  codeOfQuality-one p s = rw (p, s)
+
+  pub codeOfQuality-two : (place marks : ℕ) → profile ≡ P.OptionTwo place marks → code ≡ signOf codesTwo codeDnu told
+      → code ≡ codeOfQuality profile told
+  unfolding codeOfQuality
+  codeOfQuality-two place marks p s = rw (p, s)
+
+pub ruleset codeOfQuality-laws = (codeOfQuality-one, codeOfQuality-two)
+
+module _ (profile : Profile) where
+  pub placeOf-one : profile ≡ P.OptionOne → 0 ≡ placeOf profile
+  unfolding placeOf
+  placeOf-one p = rw p
+
+  module _ (place marks : ℕ) where
+    pub placeOf-two : profile ≡ P.OptionTwo place marks → place ≡ placeOf profile
+    unfolding placeOf
+    placeOf-two p = rw p
+
+    pub marksOf-two : profile ≡ P.OptionTwo place marks → marks ≡ marksOf profile
+    unfolding marksOf
+    marksOf-two p = rw p
+
+  pub marksOf-one : profile ≡ P.OptionOne → 0 ≡ marksOf profile
+  unfolding marksOf
+  marksOf-one p = rw p
+
+pub ruleset marksOf-laws = (marksOf-one, marksOf-two)
+
+pub ruleset placeOf-laws = (placeOf-one, placeOf-two)
+
+-- what was found for a profile is its row, once the profile is told
+pub limitsOf-told : (profile told : Profile) (found : Limits) → profile ≡ told → found ≡ limitsOf told
+    → found ≡ limitsOf profile
+limitsOf-told profile told found isTold isRow = rw (isTold, isRow)
+
+-- ---- floorIn
+
+module _ (own : Quality) (floor : ℕ) where
+  pub floorIn-fresh : floor ≡ 0 → own .0 ≡ floorIn own floor
+  unfolding floorIn
+  floorIn-fresh e = rw (eq-eqb _ _ e)
+
+  pub floorIn-set : (floor ≡ 0 → ⊥) → floor ≡ floorIn own floor
+  unfolding floorIn
+  floorIn-set e = rw (ne-eqb _ _ e)
+
+pub ruleset floorIn-laws = (floorIn-fresh, floorIn-set)
+
+-- ---- toldBy
+
+module _ (marked : Bool) (told : Quality) where
+  pub toldBy-tnc : marked ≡ true → told .0 ≡ tnc .0 → st3 ≡ toldBy marked told
+  unfolding toldBy
+  toldBy-tnc m e = rw (m, eq-eqb (told .0) (tnc .0) e)
+
+  pub toldBy-st3e : marked ≡ true → (told .0 ≡ tnc .0 → ⊥) → told .0 ≡ st3e .0 → st3 ≡ toldBy marked told
+  unfolding toldBy
+  toldBy-st3e m n e = rw (m, ne-eqb (told .0) (tnc .0) n, eq-eqb (told .0) (st3e .0) e)
+
+  pub toldBy-itself : marked ≡ true → (told .0 ≡ tnc .0 → ⊥) → (told .0 ≡ st3e .0 → ⊥) → told ≡ toldBy marked told
+  unfolding toldBy
+  toldBy-itself m n e = rw (m, ne-eqb (told .0) (tnc .0) n, ne-eqb (told .0) (st3e .0) e)
+
+  pub toldBy-unmarked : marked ≡ false → told ≡ toldBy marked told
+  unfolding toldBy
+  toldBy-unmarked m = rw m
+
+pub ruleset toldBy-laws = (toldBy-tnc, toldBy-st3e, toldBy-itself, toldBy-unmarked)
+
+-- ---- paperNumber
+
+module _ (told : Quality) where
+  pub numberInOne-invalid : told .0 ≡ invalid .0 → 6 ≡ numberInOne told
+  unfolding numberInOne
+  numberInOne-invalid e = rw (eq-eqb (told .0) (invalid .0) e)
+
+  pub numberInOne-failed : (told .0 ≡ invalid .0 → ⊥) → told .0 ≡ failed .0 → 7 ≡ numberInOne told
+  unfolding numberInOne
+  numberInOne-failed n e = rw (ne-eqb (told .0) (invalid .0) n, eq-eqb (told .0) (failed .0) e)
+
+  pub numberInOne-itself : (told .0 ≡ invalid .0 → ⊥) → (told .0 ≡ failed .0 → ⊥) → told .0 ≡ numberInOne told
+  unfolding numberInOne
+  numberInOne-itself n e = rw (ne-eqb (told .0) (invalid .0) n, ne-eqb (told .0) (failed .0) e)
+
+pub ruleset numberInOne-laws = (numberInOne-invalid, numberInOne-failed, numberInOne-itself)
+
+module _ (profile : Profile) (told : Quality) where
+  pub paperNumber-one : (number : ℕ) → profile ≡ P.OptionOne → number ≡ numberInOne told → number ≡ paperNumber profile told
+  unfolding paperNumber
+  paperNumber-one number p n = rw (p, n)
+
+  pub paperNumber-two : (place marks : ℕ) → profile ≡ P.OptionTwo place marks → told .0 ≡ paperNumber profile told
+  unfolding paperNumber
+  paperNumber-two place marks p = rw p
+
+pub ruleset paperNumber-laws = (paperNumber-one, paperNumber-two)
+
+-- ---- startNumber
+
+module _ (profile : Profile) (place : ℕ) where
+  pub startNumber-refused : place ≡ placeOf profile → lastPlace < place → argumentOutOfRange ≡ startNumber profile
+  unfolding startNumber
+  startNumber-refused p h = rw (← p, lt-ltb lastPlace place h)
+
+  pub startNumber-starts : place ≡ placeOf profile → place ≤ lastPlace → accepted ≡ startNumber profile
+  unfolding startNumber
+  startNumber-starts p h = rw (← p, le-ltb lastPlace place h)
+
+pub ruleset startNumber-laws = (startNumber-refused, startNumber-starts)
+
+-- ---- inputKindOf
+
+module _ (argument : ℕ) where
+  pub inputKindOf-line : argument ≡ 0 → N.Line ≡ inputKindOf argument
+  unfolding inputKindOf
+  inputKindOf-line a = rw (eq-eqb argument 0 a)
+
+  pub inputKindOf-ethernet : (argument ≡ 0 → ⊥) → argument ≡ 1 → N.Ethernet ≡ inputKindOf argument
+  unfolding inputKindOf
+  inputKindOf-ethernet a b = rw (ne-eqb argument 0 a, eq-eqb argument 1 b)
+
+  pub inputKindOf-words : (argument ≡ 0 → ⊥) → (argument ≡ 1 → ⊥) → N.Words ≡ inputKindOf argument
+  unfolding inputKindOf
+  inputKindOf-words a b = rw (ne-eqb argument 0 a, ne-eqb argument 1 b)
+
+pub ruleset inputKindOf-laws = (inputKindOf-line, inputKindOf-ethernet, inputKindOf-words)

@@ -1,0 +1,67 @@
+-- Document 02, L10: "A profile chosen once, at the fresh start". What the two options differ in, a row each.
+-- Cited by `src/lib.rt`. Assumes nothing.
+use Prim.Native.Nat.{ℕ, zero, suc, _/_, _%_}
+use mathlib.Core.Bool.{Bool, true, false, _&&_, _||_, cond}
+use lib.Dec.{eqb, ltb}
+use Rattle.numbers.specs.declared.Quality.{Quality}
+use Rattle.numbers.specs.declared.Limits.{Limits}
+use Rattle.numbers.specs.declared.Profile.{Profile}
+use Rattle.numbers.specs.declared.Profile.the-variants as P
+use Rattle.numbers.specs.Refusal.{accepted, argumentOutOfRange}
+use Rattle.numbers.specs.Quality.{sec, tnc, st3e, st3, invalid, failed}
+
+-- the numbers of an option: the last fixed quality and the last floor, the last kind of input, whether words come, and
+-- what a clock by itself tells, which is also an input's fresh floor
+unfoldable pub limitsOf : Profile → Limits
+-- "fixed quality 1 to 5", "a floor 1 to 4, fresh value 4", "0 line, 1 Ethernet", "otherwise 4"
+limitsOf P.OptionOne = record { fixed = 5; floor = 4; input = 1; words = false; own = sec }
+-- "fixed quality runs 1 to 10", "Floors run 1 to 8, fresh value 6", "argument 2 of event kind 10", "tell 6"
+limitsOf (P.OptionTwo place marks) = record { fixed = 10; floor = 8; input = 2; words = true; own = st3 }
+
+-- "the place of PROV (0 none, 1 to 8 ..)"; option I has none
+unfoldable pub placeOf : Profile → ℕ
+placeOf P.OptionOne = 0
+placeOf (P.OptionTwo place marks) = place
+
+-- the last place
+abbrev pub lastPlace : ℕ
+lastPlace = 8
+
+-- "(0 none, 1 to 8; otherwise refusal 6 and no start)": the number that a start of a profile is answered with; of option
+-- I it is 0
+unfoldable pub startNumber : Profile → ℕ
+startNumber profile = cond (ltb lastPlace (placeOf profile)) argumentOutOfRange accepted
+
+-- the ports "marked first generation", bit i for port i; option I has none
+unfoldable pub marksOf : Profile → ℕ
+marksOf P.OptionOne = 0
+marksOf (P.OptionTwo place marks) = marks
+
+-- a number halved so many times, without the rest
+unfoldable pub halved : ℕ → ℕ → ℕ
+halved zero number = number
+halved (suc count) number = halved count number / 2
+
+-- a port is marked: its bit is 1
+abbrev pub isMarked : ℕ → ℕ → Bool
+isMarked marks port = eqb (halved port marks % 2) 1
+
+-- an input's floor: as set, or fresh, "fresh value 4", "fresh value 6"
+unfoldable pub floorIn : Quality → ℕ → ℕ
+floorIn own floor = cond (eqb floor 0) (own .0) floor
+
+-- "A port marked first generation sends TNC and ST3E as" it sends ST3: 1010, and 10FF
+unfoldable pub toldBy : Bool → Quality → Quality
+toldBy marked told = cond (marked && (eqb (told .0) (tnc .0) || eqb (told .0) (st3e .0))) st3 told
+
+-- a quality's number in document 01: 6 for invalid, 7 for failed
+unfoldable pub numberInOne : Quality → ℕ
+numberInOne told =
+    cond (eqb (told .0) (invalid .0)) 6
+    (cond (eqb (told .0) (failed .0)) 7
+    (told .0))
+
+-- a quality's number on paper
+unfoldable pub paperNumber : Profile → Quality → ℕ
+paperNumber P.OptionOne told = numberInOne told
+paperNumber (P.OptionTwo place marks) told = told .0
