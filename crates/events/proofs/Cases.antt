@@ -1,12 +1,14 @@
 -- L4: 48 due moments in one tick, by computation. Assumes nothing.
 use mathlib.Core.Path.{refl}
-use Rattle.numbers.specs.Quality.{qualityOfCode}
-use Rattle.numbers.specs.Kind.{kindOf, isArgumentOut, isInputOut}
+use Rattle.numbers.specs.Codes.{saidBy, qualityOfCode, qualityOfWord, saidIn}
+use Rattle.numbers.specs.Profile.{limitsOf, placeOf, floorIn}
+use Rattle.numbers.specs.Kind.{kindOf, inputKindOf, isArgumentOut, isInputOut}
 use Rattle.frame.specs.Octets.{same}
 use Rattle.frame.specs.Read.{rightLength, rightDestination, rightProtocol, rightOrganisation, rightVersion, rightTlv, frameNumber, readCode}
 use Rattle.run.specs.Run.{isExpired, rawAt, runStart, isUpAfter, lastGood, atMoment, upBefore, broughtTo, passedQuality}
 use Rattle.input.specs.Record.{countAfter, lineAfter, heardAfter, settingsAfter, qualityNow, canExpire, forecast, settle, tick, afterEvent, takes, recordAfter}
-use Rattle.choice.specs.Candidate.{isUsable, isWithin, isAdmitted, rankedQuality, candidateOf, isEligible, isBetter, isLower, lowerAmong}
+use Rattle.choice.specs.Candidate.{isUsable, isAdmitted, rankedQuality, candidateOf, isEligible, isBetter, isLower, lowerAmong}
+use Rattle.choice.specs.Rank.{isPlaced, rankOf}
 use Rattle.choice.specs.Choice.{seeded, offered, scanned, choose}
 use Rattle.decision.specs.Choices.{commanded}
 use Rattle.decision.specs.Decision.{manualMayStand, judged, selectedBy, isClockLocked, isHeld, decide}
@@ -14,20 +16,20 @@ use Rattle.selector.specs.State.{candidateFor, decided, ticked}
 use Rattle.due.specs.Next.{lesser, sumOrNever, ifLater, timerDue, frameDue, nextOf, nextAmong}
 use Rattle.due.specs.Served.{servedFrom, served}
 use Rattle.events.specs.Refusals.{firstThatApplies, isWrongKind, frameRefusal, earlyRefusal, isForcedSwitch, lateRefusal}
-use Rattle.events.specs.Step.{heldArgument, inputAfter, inputsAfter, modeAfter, recordedArgument, placed, stepRead, step}
+use Rattle.events.specs.Step.{isHeldInByte, heldArgument, inputAfter, inputsAfter, modeAfter, recordedArgument, placed, stepRead, step}
 use Rattle.events.specs.Sequence as S
-use Rattle.events.specs.Cases.{MostReached}
+use Rattle.events.specs.Cases.{allFollowing, MostReached}
 
 pub most-reached : MostReached
 unfolding
     S.countAfter S.stateAfter step
-    stepRead placed commanded recordedArgument modeAfter inputsAfter inputAfter heldArgument
+    stepRead placed commanded recordedArgument modeAfter inputsAfter inputAfter heldArgument isHeldInByte
     lateRefusal isForcedSwitch earlyRefusal frameRefusal isWrongKind firstThatApplies isInputOut isArgumentOut kindOf
     served servedFrom nextAmong nextOf frameDue timerDue ifLater sumOrNever lesser
     ticked decided candidateFor decide isHeld isClockLocked selectedBy judged manualMayStand
-    choose scanned offered seeded lowerAmong isLower isBetter isEligible candidateOf rankedQuality isAdmitted isUsable isWithin
+    choose scanned offered seeded lowerAmong isLower isBetter isEligible candidateOf rankedQuality isAdmitted isUsable isPlaced rankOf
     recordAfter takes afterEvent tick settle forecast canExpire qualityNow settingsAfter heardAfter lineAfter countAfter
     passedQuality broughtTo upBefore atMoment lastGood isUpAfter runStart rawAt isExpired
     readCode frameNumber rightLength rightDestination rightProtocol rightOrganisation rightVersion rightTlv same
-    qualityOfCode
+    saidIn qualityOfCode qualityOfWord saidBy limitsOf placeOf floorIn inputKindOf allFollowing
 most-reached = record { reached = refl }

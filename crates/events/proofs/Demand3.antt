@@ -6,6 +6,8 @@ use mathlib.Core.List.{List, [], _∷_, map}
 use mathlib.Core.Logic.{_↔_, Iff·trans}
 use mathlib.Core.Path.{_≡_, refl, sym, _∙_, ap, subst}
 use native.Mathlib.Omega.{arith}
+use Rattle.numbers.specs.declared.Profile.{Profile}
+use Rattle.numbers.specs.From.{started, profileOf}
 use Rattle.numbers.specs.Inputs.{inputCount}
 use Rattle.numbers.specs.Kind.{kindForced, kindManual}
 use Rattle.input.specs.Recorded.{History, lastArgument, priorityOf}
@@ -97,9 +99,10 @@ module _ (history : History) (time : ℕ) where
   chosen-right before (S.At chosen) best = best-right before (chosen .0) best
 
 -- a fresh selector has no eligible input
-fresh-right : (time : ℕ) (before : Selection) → RightlyChosen [] time before S.Nothing
+fresh-right : (profile : Profile) (time : ℕ) (before : Selection)
+    → RightlyChosen (started profile) time before S.Nothing
 unfolding lastArgument
-fresh-right time before = nothing-right [] time before (λ number e. e .admitted .notOff refl)
+fresh-right profile time before = nothing-right (started profile) time before (λ number e. e .admitted .notOff refl)
 
 -- ---- the switch
 
@@ -160,7 +163,9 @@ decided-chosen : (history : History) (time : ℕ) (made : List Made) → MadeAt 
     → decidedBy made .switch ≡ W.Nothing
     → RightlyChosen history time (selectedBefore made) (decidedBy made .selection)
 unfolding decidedOver choicesAgo
-decided-chosen history time [] here free = rw here (fresh-right time S.Nothing)
+decided-chosen history time [] here free =
+    subst (λ (past : History). RightlyChosen past time S.Nothing S.Nothing) (sym here)
+    (fresh-right (profileOf history) time S.Nothing)
 decided-chosen history time (choice ∷ earlier) here free =
     chosen-right history time (decidedBy earlier .selection) (decidedBy (choice ∷ earlier) .selection)
     (subst

@@ -1,12 +1,12 @@
 -- What the code keeps is what has happened, after any sequence of events. Assumes nothing.
 use Prim.Native.Nat.{ℕ}
 use mathlib.Core.List.{map}
-use mathlib.Core.Path.{sym, subst}
+use mathlib.Core.Path.{sym, _∙_, subst}
 use Rattle.decision.proofs.Selecting.{held-right}
 use Rattle.events.specs.Sequence.{Sequence}
 use Rattle.events.specs.Past.{seen, recorded, madeIn}
 use Rattle.events.specs.Happened.{MadeAt, Happened}
-use Rattle.events.proofs.Agrees.{sequence-agrees, sequence-number}
+use Rattle.events.proofs.Agrees.{sequence-agrees, sequence-number, recorded-profile}
 use Rattle.events.proofs.Stated.{candidate-stated}
 
 -- What has happened is what the code keeps, for every sequence of events.
@@ -17,6 +17,8 @@ happened sequence =
       number = sequence-number sequence;
       ordered = agrees .ordered;
       time = agrees .time;
+      profile = agrees .profile ∙ recorded-profile sequence;
+      recordedProfile = recorded-profile sequence;
       switch = agrees .switch;
       selection = agrees .selection;
       held = agrees .held;

@@ -110,12 +110,12 @@ module _ (past : Past) (given : Given) where
 
   said-17 : input < inputCount
       → ((eqb kind kindManual &&
-      anyLower (candidatesBy history time) (getD (candidatesBy history time) input nobody .quality)) ≡ true) ↔
+      anyLower (candidatesBy history time) (getD (candidatesBy history time) input nobody .rank)) ≡ true) ↔
       ((kind ≡ kindManual) × ((other : ℕ) × (Eligible history time other × LowerQuality history time other input)))
   said-17 inside =
       both-exact _ _ (kind-exact kind kindManual) (
         λ x. let found =
-            lower-found (candidatesBy history time) (getD (candidatesBy history time) input nobody .quality) x
+            lower-found (candidatesBy history time) (getD (candidatesBy history time) input nobody .rank) x
             in (
               found .0,
               (
@@ -124,7 +124,7 @@ module _ (past : Past) (given : Given) where
               ),
             ),
         λ x.
-            lower-some (candidatesBy history time) (getD (candidatesBy history time) input nobody .quality) (x .0)
+            lower-some (candidatesBy history time) (getD (candidatesBy history time) input nobody .rank) (x .0)
             (x .1 .0 .admitted .isInput)
             (record {
               isEligible = eligible-stated history time (x .0) .1 (x .1 .0);
@@ -206,4 +206,4 @@ rows-said past given =
     d =
         eqb (given .event .kind) kindManual &&
         anyLower (candidatesBy (past .history) (given .event .time))
-        (getD (candidatesBy (past .history) (given .event .time)) (given .event .input) nobody .quality)
+        (getD (candidatesBy (past .history) (given .event .time)) (given .event .input) nobody .rank)

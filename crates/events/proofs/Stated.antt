@@ -12,13 +12,19 @@ use borrow.Author.Tests.{ltb-true, ltb-false, eqb-false, ne-eqb, not-true}
 use Rattle.numbers.specs.declared.Priority.{Priority}
 use Rattle.numbers.specs.declared.Quality.{Quality}
 use Rattle.numbers.specs.Inputs.{inputCount}
-use Rattle.numbers.specs.Quality.{failed}
+use Rattle.numbers.specs.From.{profileOf}
+use Rattle.numbers.specs.Profile.{placeOf}
+use Rattle.numbers.specs.Quality.{notTold, failed}
 use Rattle.run.proofs.Exact.{passed-unique, passed-exact}
 use Rattle.input.specs.Recorded.{History, modeOn, priorityOf, isLockedOut, floorOf, momentsUntil, PassedAt, passedAt}
 use Rattle.choice.specs.declared.Candidate.{Candidate}
+use Rattle.choice.specs.declared.Rank.{Rank}
+use Rattle.choice.specs.Rank.{rankOf}
+use Rattle.choice.specs.Candidate as Seen
 use Rattle.choice.specs.Candidate.{nobody, isAdmitted, rankedQuality, candidateOf, isEligible, eligibleAmong, betterAmong, anyLower}
 use Rattle.choice.proofs.Choosing.{byBool, both-first, both-second, contra}
-use Rattle.choice.proofs.Ranks.{EligibleParts, eligible-exact, Before, isBetter-exact, Lower, lower-found}
+use Rattle.choice.proofs.Places.{ranks}
+use Rattle.choice.proofs.Ranks.{eligible-exact, Before, isBetter-exact, Lower, lower-found}
 use Rattle.decision.specs.Decision.{forcedMayStand, manualMayStand}
 use Rattle.decision.proofs.Standing.{Passes}
 use Rattle.decision.proofs.Selecting.{manualMayStand-eligible, manualMayStand-lower, eligible-admitted}
@@ -49,14 +55,14 @@ module _ (history : History) (time : ℕ) where
   -- the quality that document 01 states is the one that the candidates are computed with
   pub candidate-stated : (number : ℕ) → number < inputCount → (quality : Quality) → PassedAt number history time quality
       → getD (candidatesBy history time) number nobody ≡
-      candidateOf quality (record { 0 = priorityOf number history }) (isLockedOut number history)
-      (record { 0 = floorOf number history }) (modeOn history)
+      candidateOf (placeOf (profileOf history)) (floorOf number history) quality
+      (record { 0 = priorityOf number history }) (isLockedOut number history) (modeOn history)
   unfolding candidateBy
   candidate-stated number inside quality states =
       shown-at number inside ∙
       ap
-      (λ (passes : Quality). candidateOf passes (record { 0 = priorityOf number history }) (isLockedOut number history)
-      (record { 0 = floorOf number history }) (modeOn history))
+      (λ (passes : Quality). candidateOf (placeOf (profileOf history)) (floorOf number history) passes
+      (record { 0 = priorityOf number history }) (isLockedOut number history) (modeOn history))
       (sym (passedAt-only history time number quality states))
 
   -- ---- "priority not 0, not locked"
@@ -113,10 +119,10 @@ module _ (history : History) (time : ℕ) where
           in
           let quality : Quality = passedAt number history time in
           let passes : PassedAt number history time quality = passedAt-passes history time number in
-          let parts : EligibleParts quality (record { 0 = priorityOf number history }) (isLockedOut number history)
-          (record { 0 = floorOf number history }) (modeOn history) =
-          eligible-exact quality (record { 0 = priorityOf number history }) (isLockedOut number history)
-          (record { 0 = floorOf number history }) (modeOn history) .0
+          let parts : Seen.Eligible (placeOf (profileOf history)) (floorOf number history) quality
+          (record { 0 = priorityOf number history }) (isLockedOut number history) (modeOn history) =
+          eligible-exact (placeOf (profileOf history)) (floorOf number history) quality
+          (record { 0 = priorityOf number history }) (isLockedOut number history) (modeOn history) .0
           (sym (ap isEligible (candidate-stated number (admitted .isInput) quality passes)) ∙ x)
           in
           record {
@@ -124,29 +130,33 @@ module _ (history : History) (time : ℕ) where
             quality = quality;
             passes = passes;
             notFailed = λ e. parts .notFailed (ap (λ (q : Quality). q .0) e);
-            usable = parts .usable;
+            usable = parts .within;
           }
 
       from : Eligible history time number → eligibleAmong (candidatesBy history time) number ≡ true
       from e =
           ap isEligible (candidate-stated number (e .admitted .isInput) (e .quality) (e .passes)) ∙
-          eligible-exact (e .quality) (record { 0 = priorityOf number history }) (isLockedOut number history)
-          (record { 0 = floorOf number history }) (modeOn history) .1
+          eligible-exact (placeOf (profileOf history)) (floorOf number history) (e .quality)
+          (record { 0 = priorityOf number history }) (isLockedOut number history) (modeOn history) .1
           (record {
             notOff = e .admitted .notOff;
             notLocked = e .admitted .notLocked;
             notFailed = λ z. e .notFailed (λ j. record { 0 = z j });
-            usable = e .usable;
+            within = e .usable;
           })
 
   -- ---- better
 
-  -- the quality and the priority that a choice ranks by
+  -- the place of PROV
+  abbrev place : ℕ
+  place = placeOf (profileOf history)
+
+  -- the rank and the priority that a choice compares
   ranked-at : (number : ℕ) → number < inputCount → (quality : Quality) → PassedAt number history time quality
-      → getD (candidatesBy history time) number nobody .quality ≡ rankedQuality (modeOn history) quality
+      → getD (candidatesBy history time) number nobody .rank ≡ rankOf place (rankedQuality (modeOn history) quality)
   unfolding candidateOf
   ranked-at number inside quality passes =
-      ap (λ (candidate : Candidate). candidate .quality) (candidate-stated number inside quality passes)
+      ap (λ (candidate : Candidate). candidate .rank) (candidate-stated number inside quality passes)
 
   priority-at : (number : ℕ) → number < inputCount
       → getD (candidatesBy history time) number nobody .priority .0 ≡ priorityOf number history
@@ -155,25 +165,25 @@ module _ (history : History) (time : ℕ) where
       ap (λ (candidate : Candidate). candidate .priority .0)
       (candidate-stated number inside (passedAt number history time) (passedAt-passes history time number))
 
-  -- with mode on it is the passed quality, with mode off the same for all
+  -- with mode on it is the passed quality's, with mode off the same for all
   ranked-on : (number : ℕ) → number < inputCount → modeOn history ≡ true → (quality : Quality)
       → PassedAt number history time quality
-      → getD (candidatesBy history time) number nobody .quality .0 ≡ quality .0
+      → getD (candidatesBy history time) number nobody .rank .0 ≡ rankOf place quality .0
   unfolding rankedQuality
   ranked-on number inside on quality passes =
-      ap (λ (ranked : Quality). ranked .0) (ranked-at number inside quality passes) ∙ rw on refl
+      ap (λ (ranked : Rank). ranked .0) (ranked-at number inside quality passes) ∙ rw on refl
 
   ranked-off : (number : ℕ) → number < inputCount → modeOn history ≡ false
-      → getD (candidatesBy history time) number nobody .quality .0 ≡ 0
+      → getD (candidatesBy history time) number nobody .rank .0 ≡ rankOf place notTold .0
   unfolding rankedQuality
   ranked-off number inside off =
-      ap (λ (ranked : Quality). ranked .0)
+      ap (λ (ranked : Rank). ranked .0)
       (ranked-at number inside (passedAt number history time) (passedAt-passes history time number)) ∙
       rw off refl
 
   module _ (number other : ℕ) (inside : number < inputCount) (inside' : other < inputCount) where
     abbrev ranked : ℕ → ℕ
-    ranked input = getD (candidatesBy history time) input nobody .quality .0
+    ranked input = getD (candidatesBy history time) input nobody .rank .0
 
     pub lower-stated : (ranked number < ranked other) ↔ LowerQuality history time number other
     lower-stated = (to, from)
@@ -212,8 +222,9 @@ module _ (history : History) (time : ℕ) where
         to : ranked number ≡ ranked other → SameQuality history time number other
         to x on =
             let same : passedAt other history time .0 ≡ passedAt number history time .0 =
-            sym (ranked-on other inside' on _ (passedAt-passes history time other)) ∙ sym x ∙
-            ranked-on number inside on _ (passedAt-passes history time number)
+            ranks place .injective (passedAt other history time) (passedAt number history time)
+            (sym (ranked-on other inside' on _ (passedAt-passes history time other)) ∙ sym x ∙
+            ranked-on number inside on _ (passedAt-passes history time number))
             in (
               passedAt number history time,
               (
@@ -275,10 +286,10 @@ module _ (history : History) (time : ℕ) where
 
       from : Unsurpassed history time number → manualMayStand (candidatesBy history time) number ≡ true
       from u =
-          byBool (anyLower (candidatesBy history time) (getD (candidatesBy history time) number nobody .quality))
+          byBool (anyLower (candidatesBy history time) (getD (candidatesBy history time) number nobody .rank))
           (λ some.
           let found =
-          lower-found (candidatesBy history time) (getD (candidatesBy history time) number nobody .quality) some
+          lower-found (candidatesBy history time) (getD (candidatesBy history time) number nobody .rank) some
           in
           absurd
           (u .none (found .0) (eligible-stated (found .0) .0 (found .2 .isEligible))

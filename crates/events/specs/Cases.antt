@@ -4,6 +4,8 @@
 use Prim.Native.Nat.{ℕ, _+_}
 use mathlib.Core.List.{List, [], _∷_, _++_, map}
 use mathlib.Core.Path.{_≡_}
+use Rattle.numbers.specs.declared.Profile.the-variants as P
+use Rattle.numbers.specs.From.{started, _following_}
 use Rattle.numbers.specs.Kind.{kindSignal, kindFrame, kindQualityMode, kindTick, kindInputKind}
 use Rattle.frame.specs.Cases.{frameOf}
 use Rattle.events.specs.Sequence.{Given, Sequence, countAfter}
@@ -23,13 +25,20 @@ framed time input =
 abbrev pub lastFirst : List ℕ
 lastFirst = 15 ∷ 14 ∷ 13 ∷ 12 ∷ 11 ∷ 10 ∷ 9 ∷ 8 ∷ 7 ∷ 6 ∷ 5 ∷ 4 ∷ 3 ∷ 2 ∷ 1 ∷ 0 ∷ []
 
+-- events given one after the other, the latest first
+unfoldable pub allFollowing : List Given → Sequence → Sequence
+allFollowing [] earlier = earlier
+allFollowing (given ∷ before) earlier = given following allFollowing before earlier
+
 abbrev pub sixteenInputs : Sequence
 sixteenInputs =
-    plain kindQualityMode 299015 0 1 ∷
+    allFollowing
+    (plain kindQualityMode 299015 0 1 ∷
     map (λ (input : ℕ). framed (299000 + input) input) lastFirst ++
     map (λ (input : ℕ). plain kindSignal input input 0) lastFirst ++
     map (λ (input : ℕ). plain kindInputKind 0 input 1) lastFirst ++
-    plain kindQualityMode 0 0 0 ∷ []
+    plain kindQualityMode 0 0 0 ∷ [])
+    (started P.OptionOne)
 
 -- 48 is reached
 pub record MostReached : Type 0 where

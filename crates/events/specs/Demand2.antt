@@ -4,14 +4,15 @@
 -- Assumes nothing.
 use Prim.Native.Nat.{ℕ}
 use mathlib.Core.Path.{_≡_}
-use Rattle.selector.specs.Answer.{answerOf, outgoingCodes}
+use Rattle.selector.specs.Answer.{answerOf, outgoingCodes, outgoingWords}
 use Rattle.events.specs.Sequence.{Sequence, stateAfter}
 use Rattle.events.specs.Past.{pastOf}
-use Rattle.events.specs.Told.{answerBy, codesBy}
+use Rattle.events.specs.Told.{answerBy, codesBy, wordsBy}
 
 -- after a sequence of events
 pub record Demand2 (sequence : Sequence) : Type 0 where
   -- the whole answer is by what has happened; the number in it is in `Demand1`
   pub answer : (number : ℕ) → answerOf number (stateAfter sequence) ≡ answerBy number (pastOf sequence)
-  -- all sixteen codes are too
+  -- all sixteen codes are too, and all sixteen words
   pub outgoing : outgoingCodes (stateAfter sequence) ≡ codesBy (pastOf sequence)
+  pub words : outgoingWords (stateAfter sequence) ≡ wordsBy (pastOf sequence)

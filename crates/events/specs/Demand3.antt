@@ -11,10 +11,13 @@ use mathlib.Core.Path.{_≡_}
 use Rattle.numbers.specs.declared.Quality.{Quality}
 use Rattle.numbers.specs.Inputs.{inputCount}
 use Rattle.numbers.specs.Kind.{kindForced, kindManual}
-use Rattle.numbers.specs.Quality.{prc, failed}
+use Rattle.numbers.specs.From.{profileOf}
+use Rattle.numbers.specs.Profile.{placeOf}
+use Rattle.numbers.specs.Quality.{failed}
 use Rattle.input.specs.Recorded.{History, modeOn, priorityOf, isLockedOut, floorOf, PassedAt}
 use Rattle.choice.specs.declared.Selection.{Selection}
 use Rattle.choice.specs.declared.Selection.the-variants as S
+use Rattle.choice.specs.Rank.{rankOf, Within}
 use Rattle.choice.specs.Choice.{selected}
 use Rattle.decision.specs.declared.Switch.{Switch}
 use Rattle.decision.specs.declared.Switch.the-variants as W
@@ -31,22 +34,23 @@ pub record Admitted (history : History) (number : ℕ) : Type 0 where
   pub notLocked : isLockedOut number history ≡ false
 
 -- "Eligible: priority not 0, not locked, passed quality not 7"; document 02, L9: "With quality mode on, eligible now asks
--- passed quality from 1 to the input's floor"
+-- passed quality from 1 to the input's floor"; and L10: PROV that is placed "is usable if that number is smaller than the
+-- input's floor"
 pub record Eligible (history : History) (time number : ℕ) : Type 0 where
   pub admitted : Admitted history number
   pub quality : Quality
   pub passes : PassedAt number history time quality
   pub notFailed : quality ≢ failed
-  pub usable : modeOn history ≡ true → (prc .0 ≤ quality .0) × (quality .0 ≤ floorOf number history)
+  pub usable : modeOn history ≡ true → Within (placeOf (profileOf history)) (floorOf number history) quality
 
--- "lower passed quality (mode on only)"
+-- "lower passed quality (mode on only)", by the ranking: by number, with PROV where it is placed
 pub record LowerQuality (history : History) (time number other : ℕ) : Type 0 where
   pub mode : modeOn history ≡ true
   pub quality : Quality
   pub otherQuality : Quality
   pub passes : PassedAt number history time quality
   pub otherPasses : PassedAt other history time otherQuality
-  pub lower : quality .0 < otherQuality .0
+  pub lower : rankOf (placeOf (profileOf history)) quality .0 < rankOf (placeOf (profileOf history)) otherQuality .0
 
 -- the same passed quality, mode on; with mode off any two are alike
 abbrev pub SameQuality : History → ℕ → ℕ → ℕ → Type 0

@@ -5,6 +5,8 @@ use mathlib.Core.List.{List, [], _∷_, map}
 use mathlib.Core.Path.{_≡_}
 use lib.ListN.{getD}
 use Rattle.numbers.specs.declared.Quality.{Quality}
+use Rattle.numbers.specs.From.{started, profileOf}
+use Rattle.numbers.specs.Profile.{placeOf}
 use Rattle.numbers.specs.Inputs.{inputCount}
 use Rattle.input.specs.Recorded.{History, modeOn, timeOf, priorityOf, isLockedOut, floorOf, PassedAt, Ordered}
 use Rattle.choice.specs.Candidate.{nobody, candidateOf}
@@ -15,7 +17,7 @@ use Rattle.events.specs.Past.{Made, candidatesBy, seen, decidedBy, numbe
 -- the latest choice was made on the inputs as the recorded events show them at a time; with none made, nothing is
 -- recorded
 abbrev pub MadeAt : History → ℕ → List Made → Type 0
-MadeAt history time [] = history ≡ []
+MadeAt history time [] = history ≡ started (profileOf history)
 MadeAt history time (choice ∷ earlier) = candidatesBy (choice .history) (choice .time) ≡ candidatesBy history time
 
 -- after a sequence of events
@@ -25,6 +27,9 @@ pub record Happened (sequence : Sequence) : Type 0 where
   -- the recorded events have times that do not fall, and the state is at the time of the last of them
   pub ordered : Ordered (recorded sequence)
   pub time : stateAfter sequence .time ≡ timeOf (recorded sequence)
+  -- the profile is the one that was chosen at the fresh start
+  pub profile : stateAfter sequence .profile ≡ profileOf sequence
+  pub recordedProfile : profileOf (recorded sequence) ≡ profileOf sequence
   -- what the state holds is what the choices made come to
   pub switch : stateAfter sequence .switch ≡ decidedBy (madeIn sequence) .switch
   pub selection : stateAfter sequence .selection ≡ decidedBy (madeIn sequence) .selection
@@ -36,9 +41,9 @@ pub record Happened (sequence : Sequence) : Type 0 where
   pub eligibility : (time number : ℕ) → number < inputCount → (quality : Quality)
       → PassedAt number (recorded sequence) time quality
       → getD (candidatesBy (recorded sequence) time) number nobody ≡
-      candidateOf quality (record { 0 = priorityOf number (recorded sequence) })
+      candidateOf (placeOf (profileOf (recorded sequence))) (floorOf number (recorded sequence)) quality
+      (record { 0 = priorityOf number (recorded sequence) })
       (isLockedOut number (recorded sequence))
-      (record { 0 = floorOf number (recorded sequence) })
       (modeOn (recorded sequence))
   -- the clock has been locked exactly if it was after one of the choices made
   pub heldRight : HeldRight (map seen (madeIn sequence))

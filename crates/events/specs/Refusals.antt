@@ -6,8 +6,10 @@ use mathlib.Core.List.{List, [], _∷_}
 use lib.Dec.{eqb, leb, ltb}
 use lib.ListN.{getD}
 use Rattle.numbers.specs.declared.Event.{Event}
+use Rattle.numbers.specs.declared.InputKind.{InputKind}
+use Rattle.numbers.specs.declared.Limits.{Limits}
 use Rattle.numbers.specs.Inputs.{timeLimit}
-use Rattle.numbers.specs.Kind.{kindOf, isKnown, isInputOut, isArgumentOut, kindFrame, kindLineCode, kindForced, kindManual}
+use Rattle.numbers.specs.Kind.{kindOf, rowOf, isInputOut, isArgumentOut, takesCodes, takesFrames, takesWords, kindFrame, kindLineCode, kindWord, kindForced, kindManual}
 use Rattle.numbers.specs.Refusal.{accepted, kindUnknown, timeTooLarge, timeBeforeState, inputOutOfRange, argumentOutOfRange, wrongInputKind, forcedBarred, manualForcedStands, manualNotEligible, manualLowerQuality}
 use Rattle.frame.specs.declared.FrameRead.{FrameRead}
 use Rattle.frame.specs.Read.{numberOfRead}
@@ -31,32 +33,34 @@ unfoldable pub firstThatApplies : List Refusal → ℕ
 firstThatApplies [] = accepted
 firstThatApplies (row ∷ rows) = cond (row .applies) (row .number) (firstThatApplies rows)
 
--- "code for an Ethernet input, frame for a line input"
-unfoldable pub isWrongKind : ℕ → Bool → Bool
-isWrongKind kind ethernet =
-    cond (eqb kind kindLineCode) ethernet
-    (cond (eqb kind kindFrame) (not ethernet)
-    false)
+-- "code for an Ethernet input, frame for a line input"; document 02, L12: "A word sent to an input of another kind is
+-- refusal 7, a code or frame sent to this kind too"
+unfoldable pub isWrongKind : ℕ → InputKind → Bool
+isWrongKind kind at =
+    cond (eqb kind kindLineCode) (not (takesCodes at))
+    (cond (eqb kind kindFrame) (not (takesFrames at))
+    (cond (eqb kind kindWord) (not (takesWords at))
+    false))
 
 -- the number of a frame's reading, 8 to 13 where the frame is refused; of a frame event alone
 unfoldable pub frameRefusal : ℕ → FrameRead → ℕ
 frameRefusal kind read = cond (eqb kind kindFrame) (numberOfRead read) accepted
 
--- rows 2 to 13, for a state at a time, whose input has a kind
-abbrev pub earlyRows : ℕ → Bool → Event → FrameRead → List Refusal
-earlyRows time ethernet event read =
-    refusal kindUnknown (not (isKnown (kindOf (event .kind)))) ∷
+-- rows 2 to 13, by an option's limits, for a state at a time, whose input has a kind
+abbrev pub earlyRows : Limits → ℕ → InputKind → Event → FrameRead → List Refusal
+earlyRows limits time at event read =
+    refusal kindUnknown (not (rowOf limits (kindOf (event .kind)) .known)) ∷
     refusal timeTooLarge (leb timeLimit (event .time)) ∷
     refusal timeBeforeState (ltb (event .time) time) ∷
-    refusal inputOutOfRange (isInputOut (kindOf (event .kind)) (event .input)) ∷
-    refusal argumentOutOfRange (isArgumentOut (kindOf (event .kind)) (event .argument)) ∷
-    refusal wrongInputKind (isWrongKind (event .kind) ethernet) ∷
+    refusal inputOutOfRange (isInputOut (rowOf limits (kindOf (event .kind))) (event .input)) ∷
+    refusal argumentOutOfRange (isArgumentOut (rowOf limits (kindOf (event .kind))) (event .argument)) ∷
+    refusal wrongInputKind (isWrongKind (event .kind) at) ∷
     refusal (frameRefusal (event .kind) read) (not (eqb (frameRefusal (event .kind) read) accepted)) ∷
     []
 
 -- the number of an event that is refused before the tick
-unfoldable pub earlyRefusal : ℕ → Bool → Event → FrameRead → ℕ
-earlyRefusal time ethernet event read = firstThatApplies (earlyRows time ethernet event read)
+unfoldable pub earlyRefusal : Limits → ℕ → InputKind → Event → FrameRead → ℕ
+earlyRefusal limits time at event read = firstThatApplies (earlyRows limits time at event read)
 
 -- "a forced switch stands"
 unfoldable pub isForcedSwitch : Switch → Bool
@@ -70,7 +74,7 @@ lateRows candidates switch kind on =
     refusal forcedBarred (eqb kind kindForced && not (forcedMayStand candidates on)) ∷
     refusal manualForcedStands (eqb kind kindManual && isForcedSwitch switch) ∷
     refusal manualNotEligible (eqb kind kindManual && not (eligibleAmong candidates on)) ∷
-    refusal manualLowerQuality (eqb kind kindManual && anyLower candidates (getD candidates on nobody .quality)) ∷
+    refusal manualLowerQuality (eqb kind kindManual && anyLower candidates (getD candidates on nobody .rank)) ∷
     []
 
 -- the number of an event that is refused after the tick

@@ -12,6 +12,9 @@ use lib.Seq.{set-getD}
 use borrow.Author.Tests.{eqb-true, eqb-false, eq-eqb, ne-eqb, le-leb, lt-leb, lt-ltb, le-ltb, ltb-true, ltb-false}
 use Rattle.numbers.specs.declared.Answer.{Answer}
 use Rattle.numbers.specs.declared.Event.{Event}
+use Rattle.numbers.specs.declared.Profile.{Profile}
+use Rattle.numbers.specs.Recorded.{saidEvent}
+use Rattle.numbers.specs.Profile.{limitsOf}
 use Rattle.numbers.specs.declared.Quality.{Quality}
 use Rattle.numbers.specs.Inputs.{frameLife, inputCount}
 use Rattle.numbers.specs.Kind.{kindForced, kindManual, kindClearSwitch, kindQualityMode, kindTick}
@@ -30,7 +33,7 @@ use Rattle.selector.specs.Answer.{answerOf}
 use Rattle.selector.proofs.Laws.{getD-any}
 use Rattle.events.specs.Refusals.{earlyRefusal}
 use Rattle.events.specs.Step.{inputAfter, earlyNumber}
-use Rattle.events.specs.Given.{recordedArgument}
+use Rattle.events.specs.Given.{readEvent, recordedEvent}
 use Rattle.events.proofs.Refused.{earlyRefusal-outside, accepted-input}
 use Rattle.watch.specs.declared.Left.{Left}
 use Rattle.watch.specs.declared.Left.the-variants.{Nothing, Choice, Service}
@@ -210,45 +213,49 @@ module _ (watch : Watch) (event : Event) (read : FrameRead) where
 
 -- ---- ownTake
 
-module _ (before : Input) (mode : Bool) (due : ℕ) (event : Event) (read : FrameRead) (argument : ℕ) (after : Input)
-    (own next : ℕ) (ranks : Bool)
-    (g : argument ≡ recordedArgument (event .kind) (event .argument) read)
-    (a : after ≡ inputAfter before (event .kind) argument (event .time) mode)
+module _ (before : Input) (profile : Profile) (mode : Bool) (due : ℕ) (event : Event) (read : FrameRead)
+    (recorded : Event) (after : Input) (own next : ℕ) (ranks : Bool)
+    (g : recorded ≡ readEvent event read)
+    (a : after ≡ inputAfter before (saidEvent profile recorded) mode)
     (o : own ≡ dueOf after mode) (d : next ≡ lesser due own) (r : ranks ≡ seenAlike before after) where
+  -- what the input takes is the event as it is recorded
+  taken : after ≡ inputAfter before (recordedEvent profile event read) mode
+  taken = a ∙ ap (λ (one : Event). inputAfter before (saidEvent profile one) mode) g
+
   pub ownTake-alike : ranks ≡ true
-      → ownOf after (event .time) next accepted Nothing ≡ ownTake before mode due event read
+      → ownOf after (event .time) next accepted Nothing ≡ ownTake before profile mode due event read
   unfolding ownTake
-  ownTake-alike t = rw (d, o, ← g, ← a, ← r, t)
+  ownTake-alike t = rw (d, o, ← taken, ← r, t)
 
   pub ownTake-choice : ranks ≡ false
-      → ownOf after (event .time) next accepted Choice ≡ ownTake before mode due event read
+      → ownOf after (event .time) next accepted Choice ≡ ownTake before profile mode due event read
   unfolding ownTake
-  ownTake-choice t = rw (d, o, ← g, ← a, ← r, t)
+  ownTake-choice t = rw (d, o, ← taken, ← r, t)
 
 pub ruleset ownTake-laws = (ownTake-alike, ownTake-choice)
 
 -- ---- ownStep
 
-module _ (before : Input) (mode : Bool) (time due : ℕ) (event : Event) (read : FrameRead) (early : ℕ)
-    (e : early ≡ earlyRefusal time (before .settings .ethernet) event read) where
+module _ (before : Input) (profile : Profile) (mode : Bool) (time due : ℕ) (event : Event) (read : FrameRead) (early : ℕ)
+    (e : early ≡ earlyRefusal (limitsOf profile) time (before .settings .kind) event read) where
   pub ownStep-refused : (early ≡ accepted → ⊥)
-      → ownOf before time due early Nothing ≡ ownStep before mode time due event read
+      → ownOf before time due early Nothing ≡ ownStep before profile mode time due event read
   unfolding ownStep
   ownStep-refused n = rw (← e, ne-eqb _ _ n)
 
   module _ (z : early ≡ accepted) (serves : Bool) (s : serves ≡ isServed due (event .kind) (event .time)) where
     pub ownStep-served : serves ≡ true
-        → ownOf before time due accepted Service ≡ ownStep before mode time due event read
+        → ownOf before time due accepted Service ≡ ownStep before profile mode time due event read
     unfolding ownStep
     ownStep-served y = rw (← e, z, ← s, y)
 
     pub ownStep-tick : serves ≡ false → event .kind ≡ kindTick
-        → ownOf before (event .time) due accepted Nothing ≡ ownStep before mode time due event read
+        → ownOf before (event .time) due accepted Nothing ≡ ownStep before profile mode time due event read
     unfolding ownStep
     ownStep-tick y t = rw (← e, z, ← s, y, eq-eqb _ _ t)
 
     pub ownStep-taken : (own : Own) → serves ≡ false → (event .kind ≡ kindTick → ⊥)
-        → own ≡ ownTake before mode due event read → own ≡ ownStep before mode time due event read
+        → own ≡ ownTake before profile mode due event read → own ≡ ownStep before profile mode time due event read
     unfolding ownStep
     ownStep-taken own y n h = h ∙ (rw (← e, z, ← s, y, ne-eqb _ _ n))
 
@@ -301,7 +308,7 @@ module _ (watch : Watch) (event : Event) (read : FrameRead) (zeroed : Input) (pl
   before = getD (watch .state .inputs) place zeroed
 
   abbrev early : ℕ
-  early = earlyRefusal (watch .state .time) (before .settings .ethernet) event read
+  early = earlyRefusal (limitsOf (watch .state .profile)) (watch .state .time) (before .settings .kind) event read
 
   own : event .input < inputCount → before ≡ ownBefore (watch .state) event
   own inside =
@@ -314,9 +321,9 @@ module _ (watch : Watch) (event : Event) (read : FrameRead) (zeroed : Input) (pl
   own-early : early ≡ earlyNumber (watch .state) event read
   own-early =
       byBool (ltb (event .input) inputCount)
-      (λ inside. ap (λ (input : Input). earlyRefusal (watch .state .time) (input .settings .ethernet) event read)
+      (λ inside. ap (λ (input : Input). earlyRefusal (limitsOf (watch .state .profile)) (watch .state .time) (input .settings .kind) event read)
       (own (ltb-true _ _ inside)))
-      (λ out. earlyRefusal-outside (watch .state .time) event read (ltb-false _ _ out) _ _)
+      (λ out. earlyRefusal-outside (limitsOf (watch .state .profile)) (watch .state .time) event read (ltb-false _ _ out) _ _)
 
   put-refused : (early ≡ accepted → ⊥)
       → ownPut watch place (ownOf before (watch .state .time) (watch .due) early Nothing) event read ≡
@@ -326,10 +333,10 @@ module _ (watch : Watch) (event : Event) (read : FrameRead) (zeroed : Input) (pl
 
   module _ (none : early ≡ accepted) where
     here : before ≡ ownBefore (watch .state) event
-    here = own (accepted-input (watch .state .time) (before .settings .ethernet) event read none)
+    here = own (accepted-input (limitsOf (watch .state .profile)) (watch .state .time) (before .settings .kind) event read none)
 
     there : place ≡ event .input
-    there = own-place at (accepted-input (watch .state .time) (before .settings .ethernet) event read none)
+    there = own-place at (accepted-input (limitsOf (watch .state .profile)) (watch .state .time) (before .settings .kind) event read none)
 
     put-served : isServed (watch .due) (event .kind) (event .time) ≡ true
         → ownPut watch place (ownOf before (watch .state .time) (watch .due) accepted Service) event read ≡
@@ -345,7 +352,7 @@ module _ (watch : Watch) (event : Event) (read : FrameRead) (zeroed : Input) (pl
       put-tick t = rw (put-back, ← dueStep-quick watch event read (sym own-early ∙ none) y, t)
 
       put-taken : eqb (event .kind) kindTick ≡ false
-          → ownPut watch place (ownTake before (watch .state .mode) (watch .due) event read) event read ≡
+          → ownPut watch place (ownTake before (watch .state .profile) (watch .state .mode) (watch .due) event read) event read ≡
           dueStep watch event read
       unfolding completed ownTake quickState quickDue quickAnswer
       put-taken t =
@@ -355,7 +362,7 @@ module _ (watch : Watch) (event : Event) (read : FrameRead) (zeroed : Input) (pl
           (λ r. rw r))
 
   put-own :
-      ownPut watch place (ownStep before (watch .state .mode) (watch .state .time) (watch .due) event read) event read ≡
+      ownPut watch place (ownStep before (watch .state .profile) (watch .state .mode) (watch .state .time) (watch .due) event read) event read ≡
       dueStep watch event read
   unfolding ownStep
   put-own =
@@ -373,7 +380,7 @@ pub step-completed : (watch : Watch) (event : Event) (read : FrameRead) (zeroed 
     → due ≡ dueAnew (watch .state .inputs) (watch .state .mode) (watch .due) (event .time)
     → (own : Own) (after : Watch)
     → own ≡
-    ownStep (getD (watch .state .inputs) place zeroed) (watch .state .mode) (watch .state .time) due event read
+    ownStep (getD (watch .state .inputs) place zeroed) (watch .state .profile) (watch .state .mode) (watch .state .time) due event read
     → after ≡ ownPut watch place own event read → after ≡ watchStep watch event read
 unfolding watchStep
 step-completed watch event read zeroed place due at d own after o a =

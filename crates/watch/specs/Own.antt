@@ -9,6 +9,8 @@ use lib.Dec.{eqb}
 use lib.ListN.{length}
 use Rattle.numbers.specs.declared.Answer.{Answer}
 use Rattle.numbers.specs.declared.Event.{Event}
+use Rattle.numbers.specs.declared.Profile.{Profile}
+use Rattle.numbers.specs.Profile.{limitsOf}
 use Rattle.numbers.specs.Inputs.{inputCount}
 use Rattle.numbers.specs.Kind.{kindTick}
 use Rattle.numbers.specs.Refusal.{accepted}
@@ -19,7 +21,7 @@ use Rattle.selector.specs.State.{decided}
 use Rattle.selector.specs.Answer.{answerOf}
 use Rattle.events.specs.Refusals.{earlyRefusal}
 use Rattle.events.specs.Step.{inputAfter}
-use Rattle.events.specs.Given.{recordedArgument}
+use Rattle.events.specs.Given.{recordedEvent}
 use Rattle.watch.specs.declared.Left.{Left}
 use Rattle.watch.specs.declared.Left.the-variants.{Nothing, Choice, Service}
 use Rattle.watch.specs.declared.Own.{Own}
@@ -37,21 +39,19 @@ abbrev pub ownOf : Input → ℕ → ℕ → ℕ → Left → Own
 ownOf input time due number left = record { input = input; time = time; due = due; number = number; left = left }
 
 -- the input takes the event, and a choice is left where it would see the input otherwise than before
-unfoldable pub ownTake : Input → Bool → ℕ → Event → FrameRead → Own
-ownTake before mode due event read =
-    let after =
-    inputAfter before (event .kind) (recordedArgument (event .kind) (event .argument) read) (event .time) mode
-    in
+unfoldable pub ownTake : Input → Profile → Bool → ℕ → Event → FrameRead → Own
+ownTake before profile mode due event read =
+    let after = inputAfter before (recordedEvent profile event read) mode in
     ownOf after (event .time) (lesser due (dueOf after mode)) accepted (cond (seenAlike before after) Nothing Choice)
 
 -- one event: refused at once; or left to be served; or a tick, which moves the time alone; or taken
-unfoldable pub ownStep : Input → Bool → ℕ → ℕ → Event → FrameRead → Own
-ownStep before mode time due event read =
-    let early = earlyRefusal time (before .settings .ethernet) event read in
+unfoldable pub ownStep : Input → Profile → Bool → ℕ → ℕ → Event → FrameRead → Own
+ownStep before profile mode time due event read =
+    let early = earlyRefusal (limitsOf profile) time (before .settings .kind) event read in
     cond (not (eqb early accepted)) (ownOf before time due early Nothing)
     (cond (isServed due (event .kind) (event .time)) (ownOf before time due accepted Service)
     (cond (eqb (event .kind) kindTick) (ownOf before (event .time) due accepted Nothing)
-    (ownTake before mode due event read)))
+    (ownTake before profile mode due event read)))
 
 -- what is left to do, on the state with the event's own input in it
 unfoldable pub completed : Selector → ℕ → Answer → Left → Event → FrameRead → Watch

@@ -1,8 +1,8 @@
 -- A watch after any sequence of events from a fresh start, refused ones included; and that its state and its answers
 -- are those of the plain step.
 -- Assumes nothing.
-use mathlib.Core.List.{[], _∷_}
 use mathlib.Core.Path.{_≡_}
+use Rattle.numbers.specs.From.{started, _following_}
 use Rattle.frame.specs.Read.{readCode}
 use Rattle.selector.specs.Answer.{answerOf}
 use Rattle.events.specs.Given.{Given, Sequence}
@@ -12,11 +12,11 @@ use Rattle.watch.specs.Watch.{freshWatch, watchStep}
 
 -- the watch after a sequence of events
 unfoldable pub watchAfter : Sequence → Watch
-watchAfter [] = freshWatch
-watchAfter (given ∷ earlier) = watchStep (watchAfter earlier) (given .event) (readCode (given .frame))
+watchAfter (started profile) = freshWatch profile
+watchAfter (given following earlier) = watchStep (watchAfter earlier) (given .event) (readCode (given .frame))
 
 -- after a sequence of events, and at any event after it, the watch has the state and the answer of the plain step
 pub record WatchRight (sequence : Sequence) : Type 0 where
   pub state : watchAfter sequence .state ≡ stateAfter sequence
   pub answer : (given : Given)
-      → watchAfter (given ∷ sequence) .answer ≡ answerOf (numberAfter given sequence) (stateAfter (given ∷ sequence))
+      → watchAfter (given following sequence) .answer ≡ answerOf (numberAfter given sequence) (stateAfter (given following sequence))

@@ -8,6 +8,7 @@ use lib.Dec.{eqb, leb}
 use lib.ListN.{getD, set}
 use Rattle.numbers.specs.declared.Answer.{Answer}
 use Rattle.numbers.specs.declared.Event.{Event}
+use Rattle.numbers.specs.declared.Profile.{Profile}
 use Rattle.numbers.specs.Kind.{kindForced, kindManual, kindClearSwitch, kindQualityMode, kindTick}
 use Rattle.numbers.specs.Refusal.{accepted}
 use Rattle.frame.specs.declared.FrameRead.{FrameRead}
@@ -18,7 +19,7 @@ use Rattle.selector.specs.declared.Selector.{Selector}
 use Rattle.selector.specs.State.{freshSelector, seenOf, decided}
 use Rattle.selector.specs.Answer.{answerOf}
 use Rattle.events.specs.Step.{inputAfter, earlyNumber, stepRead}
-use Rattle.events.specs.Given.{recordedArgument}
+use Rattle.events.specs.Given.{recordedEvent}
 use Rattle.watch.specs.declared.Watch.{Watch}
 use Rattle.watch.specs.Due.{never, lesser, dueOf, dueOfAll, dueAnew}
 
@@ -39,8 +40,8 @@ numbered number answer =
     }
 
 -- a fresh state: signals fail and all inputs are down, so nothing is due
-abbrev pub freshWatch : Watch
-freshWatch = watchOf freshSelector never (answerOf accepted freshSelector)
+abbrev pub freshWatch : Profile → Watch
+freshWatch profile = watchOf (freshSelector profile) never (answerOf accepted (freshSelector profile))
 
 -- the event touches more than its own input: the switch or the quality mode
 unfoldable pub commands : ℕ → Bool
@@ -62,6 +63,7 @@ movedTo state inputs time =
       time = time;
       switch = state .switch;
       selection = state .selection;
+      profile = state .profile;
       mode = state .mode;
       held = state .held;
     }
@@ -73,9 +75,7 @@ ownBefore state event = getD (state .inputs) (event .input) freshInput
 -- the event's own input after it
 abbrev pub ownAfter : Selector → Event → FrameRead → Input
 ownAfter state event read =
-    inputAfter (ownBefore state event) (event .kind) (recordedArgument (event .kind) (event .argument) read)
-    (event .time)
-    (state .mode)
+    inputAfter (ownBefore state event) (recordedEvent (state .profile) event read) (state .mode)
 
 -- the state with the event's own input taken, and no choice made
 abbrev pub ownTaken : Selector → Event → FrameRead → Selector

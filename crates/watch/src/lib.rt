@@ -5,7 +5,7 @@
 // `requires`.
 use events::early_refusal;
 use events::input_after;
-use events::recorded_argument;
+use events::recorded_event;
 use events::step_read;
 use frame::FrameRead;
 use input::Input;
@@ -19,6 +19,7 @@ use numbers::KIND_FORCED;
 use numbers::KIND_MANUAL;
 use numbers::KIND_QUALITY_MODE;
 use numbers::KIND_TICK;
+use numbers::Profile;
 use run::Forecast;
 use run::Run;
 use selector::Selector;
@@ -201,11 +202,18 @@ pub fn own_place(inputs: [Input; 16], number: u8) -> usize
 }
 
 // An event taken by its own input, with a choice left where one would see it otherwise.
-fn own_take(before: Input, mode: bool, due: u64, event: Event, read: FrameRead) -> Own
-    ensures { λ answer. ⌜ answer ≡ ownTake before mode due event read ⌝ }
+fn own_take(
+    before: Input,
+    profile: Profile,
+    mode: bool,
+    due: u64,
+    event: Event,
+    read: FrameRead,
+) -> Own
+    ensures { λ answer. ⌜ answer ≡ ownTake before profile mode due event read ⌝ }
 {
-    let argument = recorded_argument(event.kind, event.argument, read);
-    let input = input_after(before, event.kind, argument, event.time, mode);
+    let recorded = recorded_event(event, read);
+    let input = input_after(before, profile, recorded, mode);
     let own = due_of(input, mode);
     let next = lesser(due, own);
     let mut left = Left::Choice;
@@ -225,16 +233,18 @@ fn own_take(before: Input, mode: bool, due: u64, event: Event, read: FrameRead) 
 // yet. One with no input of the sixteen is refused, whatever input is given for it.
 pub fn own_step(
     before: Input,
+    profile: Profile,
     mode: bool,
     time: u64,
     due: u64,
     event: Event,
     read: FrameRead,
 ) -> Own
-    ensures { λ answer. ⌜ answer ≡ ownStep before mode time due event read ⌝ }
+    ensures { λ answer. ⌜ answer ≡ ownStep before profile mode time due event read ⌝ }
 {
     let settings = before.settings;
-    let early = early_refusal(time, settings.ethernet, event, read);
+    let at = settings.kind;
+    let early = early_refusal(profile, time, at, event, read);
     if early != ACCEPTED {
         return Own {
             input: before,
@@ -262,7 +272,7 @@ pub fn own_step(
             left: Left::Nothing,
         };
     }
-    own_take(before, mode, due, event, read)
+    own_take(before, profile, mode, due, event, read)
 }
 
 // What is left to do, on the state with the event's own input in it.
@@ -293,10 +303,10 @@ pub fn completed(
 
 impl Watch {
     // A fresh state: nothing is due.
-    pub fn fresh() -> Watch
-        ensures { λ answer. ⌜ answer ≡ freshWatch ⌝ }
+    pub fn fresh(profile: Profile) -> Watch
+        ensures { λ answer. ⌜ answer ≡ freshWatch profile ⌝ }
     {
-        let state = Selector::fresh();
+        let state = Selector::fresh(profile);
         let answer = state.answer(ACCEPTED);
         Watch {
             state,
@@ -317,7 +327,8 @@ impl Watch {
         let place = own_place(inputs, event.input);
         let before = state.inputs[place];
         let due = due_anew(inputs, state.mode, self.due, event.time);
-        let own = own_step(before, state.mode, state.time, due, event, read);
+        let profile = state.profile;
+        let own = own_step(before, profile, state.mode, state.time, due, event, read);
         let input = own.input;
         let left = own.left;
         state.inputs[place] = input;

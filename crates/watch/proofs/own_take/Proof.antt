@@ -5,8 +5,8 @@ use borrow.Author.Needs.{needs}
 use Rattle.watch.proofs.own_take.Statement.{statement}
 use Rattle.watch.proofs.own_take.Tie as tie
 
-recorded-argument-requires : tie.Need-recorded-argument-requires
-recorded-argument-requires c κs = search needs
+recorded-event-requires : tie.Need-recorded-event-requires
+recorded-event-requires c κs = search needs
 
 input-after-requires : tie.Need-input-after-requires
 input-after-requires c κs = search needs
@@ -30,7 +30,7 @@ pub own-take-spec : {M : Type 1} → statement M
 own-take-spec =
     tie.close
     (tie.spec
-    recorded-argument-requires
+    recorded-event-requires
     input-after-requires
     due-of-requires
     lesser-requires
