@@ -6,6 +6,7 @@ use mathlib.Core.Path.{_≡_, refl, sym, ap, subst, _∙_}
 use native.Mathlib.Omega.{arith}
 use lib.ListN.{length, take, drop, take-append-drop}
 use lib.Seq.{take-all, take-length}
+use Rattle.numbers.specs.declared.Profile.{Profile}
 use Rattle.reader.specs.Lines.{lastLine, linesOf, linesAfter}
 use Rattle.desk.specs.declared.Desk.{Desk}
 use Rattle.desk.specs.Desk.{freshDesk, deskAfter, toldTo}
@@ -35,10 +36,10 @@ front-begins count text more whole is = (
 )
 
 -- what the lines that have ended are answered with stands in front, whatever follows
-ended-front : (input more : List ℕ)
-    → (rest : List ℕ) × (heartbeats (input ++ more) ≡ toldTo freshDesk (endedLines [] input) ++ rest)
+ended-front : (profile : Profile) (input more : List ℕ)
+    → (rest : List ℕ) × (heartbeats profile (input ++ more) ≡ toldTo (freshDesk profile) (endedLines [] input) ++ rest)
 unfolding linesOf
-ended-front input more =
+ended-front profile input more =
     let ended = endedLines [] input in
     let later = endedLines (unended [] input) more in
     let last = lastLine (unended [] (input ++ more)) in
@@ -46,46 +47,47 @@ ended-front input more =
     linesAfter-ended [] (input ++ more)
     ∙ ap (λ (front : List (List ℕ)). front ++ last) (endedLines-append [] input more)
     ∙ append-assoc ended later last in (
-      toldTo (deskAfter freshDesk ended) (later ++ last),
+      toldTo (deskAfter (freshDesk profile) ended) (later ++ last),
       (
-          sym (heartbeats-right (input ++ more))
-          ∙ ap (toldTo freshDesk) lines
-          ∙ toldTo-append freshDesk ended (later ++ last)
+          sym (heartbeats-right profile (input ++ more))
+          ∙ ap (toldTo (freshDesk profile)) lines
+          ∙ toldTo-append (freshDesk profile) ended (later ++ last)
           ),
     )
 
 -- however a run ended, what was taken is right
-pub heartbeat-right : (ended : Ended) (run : InputEnded ended) → EndedRight ended run
+pub heartbeat-right : (profile : Profile) (ended : Ended) (run : InputEnded (freshDesk profile) ended)
+    → EndedRight profile ended run
 unfolding inputOf takenOf MayFollow
-heartbeat-right _ (finished input handed over) =
+heartbeat-right profile _ (finished input handed over) =
     record {
       whole = λ whole.
-          let all : handed .sent ≡ length (toldTo freshDesk (linesOf input)) =
+          let all : handed .sent ≡ length (toldTo (freshDesk profile) (linesOf input)) =
           handed-whole _ handed over (ap isWhole whole) in
-          ap (λ (n : ℕ). take n (toldTo freshDesk (linesOf input))) all
-          ∙ take-length (toldTo freshDesk (linesOf input))
-          ∙ heartbeats-right input;
+          ap (λ (n : ℕ). take n (toldTo (freshDesk profile) (linesOf input))) all
+          ∙ take-length (toldTo (freshDesk profile) (linesOf input))
+          ∙ heartbeats-right profile input;
       beginning = λ more follows.
-          front-begins (handed .sent) (toldTo freshDesk (linesOf input)) [] (heartbeats (input ++ more))
-          (ap (λ (rest : List ℕ). heartbeats (input ++ rest)) follows
-          ∙ ap heartbeats (append-nil input)
-          ∙ sym (heartbeats-right input)
-          ∙ sym (append-nil (toldTo freshDesk (linesOf input))));
+          front-begins (handed .sent) (toldTo (freshDesk profile) (linesOf input)) [] (heartbeats profile (input ++ more))
+          (ap (λ (rest : List ℕ). heartbeats profile (input ++ rest)) follows
+          ∙ ap (heartbeats profile) (append-nil input)
+          ∙ sym (heartbeats-right profile input)
+          ∙ sym (append-nil (toldTo (freshDesk profile) (linesOf input))));
     }
-heartbeat-right _ (stopped input handed over ends) =
+heartbeat-right profile _ (stopped input handed over ends) =
     record {
       whole = λ whole. absurd (true≢false (sym (ap isWhole whole) ∙ ends));
       beginning = λ more follows.
-          let front = ended-front input more in
-          front-begins (handed .sent) (toldTo freshDesk (endedLines [] input)) (front .0) (heartbeats (input ++ more))
+          let front = ended-front profile input more in
+          front-begins (handed .sent) (toldTo (freshDesk profile) (endedLines [] input)) (front .0) (heartbeats profile (input ++ more))
           (front .1);
     }
-heartbeat-right _ (unread input) =
+heartbeat-right profile _ (unread input) =
     record {
       whole = λ whole. absurd (true≢false (sym (ap isWhole whole)));
       beginning = λ more follows.
-          let front = ended-front input more in
-          front-begins (length (toldTo freshDesk (endedLines [] input))) (toldTo freshDesk (endedLines [] input)) (front .0)
-          (heartbeats (input ++ more))
+          let front = ended-front profile input more in
+          front-begins (length (toldTo (freshDesk profile) (endedLines [] input))) (toldTo (freshDesk profile) (endedLines [] input)) (front .0)
+          (heartbeats profile (input ++ more))
           (front .1);
     }

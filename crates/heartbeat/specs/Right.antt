@@ -3,7 +3,9 @@ use Prim.Native.Nat.{ℕ}
 use mathlib.Core.List.{List, [], _++_}
 use mathlib.Core.Path.{_≡_}
 use lib.ListN.{take}
+use Rattle.numbers.specs.declared.Profile.{Profile}
 use Rattle.reader.specs.Lines.{linesOf}
+use Rattle.desk.specs.declared.Desk.{Desk}
 use Rattle.desk.specs.Desk.{freshDesk, toldTo}
 use Rattle.desk.specs.Heartbeats.{heartbeats}
 use Rattle.replayer.specs.Chunks.{endedLines}
@@ -13,25 +15,25 @@ use Rattle.console.specs.Right.{Begins}
 use Rattle.heartbeat.specs.Turns.{InputEnded, finished, stopped, unread}
 
 -- what was read
-unfoldable pub inputOf : {ended : Ended} → InputEnded ended → List ℕ
+unfoldable pub inputOf : {first : Desk} {ended : Ended} → InputEnded first ended → List ℕ
 inputOf (finished input handed over) = input
 inputOf (stopped input handed over ends) = input
 inputOf (unread input) = input
 
 -- what `write` took: the answers were handed to it one after the other
-unfoldable pub takenOf : {ended : Ended} → InputEnded ended → List ℕ
-takenOf {ended} (finished input handed over) = take (ended .sent) (toldTo freshDesk (linesOf input))
-takenOf {ended} (stopped input handed over ends) = take (ended .sent) (toldTo freshDesk (endedLines [] input))
-takenOf {ended} (unread input) = take (ended .sent) (toldTo freshDesk (endedLines [] input))
+unfoldable pub takenOf : {first : Desk} {ended : Ended} → InputEnded first ended → List ℕ
+takenOf {first} {ended} (finished input handed over) = take (ended .sent) (toldTo first (linesOf input))
+takenOf {first} {ended} (stopped input handed over ends) = take (ended .sent) (toldTo first (endedLines [] input))
+takenOf {first} {ended} (unread input) = take (ended .sent) (toldTo first (endedLines [] input))
 
 -- what may follow in the input what was read of it: nothing where its end was read, anything where not
-unfoldable pub MayFollow : {ended : Ended} → InputEnded ended → List ℕ → Type 0
+unfoldable pub MayFollow : {first : Desk} {ended : Ended} → InputEnded first ended → List ℕ → Type 0
 MayFollow (finished input handed over) more = more ≡ []
 MayFollow (stopped input handed over ends) more = Unit
 MayFollow (unread input) more = Unit
 
 -- how a run ended, and what that says of the answers: all were taken; or what was taken is the beginning of what an input
 -- is answered with that begins with what was read, whatever follows there
-pub record EndedRight (ended : Ended) (run : InputEnded ended) : Type 0 where
-  pub whole : ended .ending ≡ Whole → takenOf run ≡ heartbeats (inputOf run)
-  pub beginning : (more : List ℕ) → MayFollow run more → Begins (takenOf run) (heartbeats (inputOf run ++ more))
+pub record EndedRight (profile : Profile) (ended : Ended) (run : InputEnded (freshDesk profile) ended) : Type 0 where
+  pub whole : ended .ending ≡ Whole → takenOf run ≡ heartbeats profile (inputOf run)
+  pub beginning : (more : List ℕ) → MayFollow run more → Begins (takenOf run) (heartbeats profile (inputOf run ++ more))

@@ -1,0 +1,253 @@
+-- What the definitions of `specs/Start` come to, way by way. Assumes nothing.
+use Prim.Native.Nat.{ℕ, zero, suc, _+_, _*_, _<_, _≤_}
+use mathlib.Core.Bool.{Bool, true, false, cond, not, _&&_, and-false}
+use mathlib.Core.List.{List, [], _∷_}
+use mathlib.Core.Path.{_≡_, refl, sym, ap, _∙_}
+use native.Mathlib.Numerals.{add-one}
+use native.Mathlib.Omega.{arith}
+use borrow.Author.Tests.{eqb-true, eq-eqb, ne-eqb, le-leb, lt-leb, lt-ltb, leb-false, not-true, not-false}
+use lib.Dec.{eqb, leb, ltb}
+use lib.ListN.{length, getD, drop, drop-of-length-le}
+use lib.Seq.{drop-cons}
+use Rattle.numbers.specs.declared.Profile.{Profile}
+use Rattle.numbers.specs.declared.Profile.the-variants as P
+use Rattle.numbers.specs.Refusal.{accepted, argumentOutOfRange}
+use Rattle.numbers.specs.Profile.{placeOf, lastPlace, startNumber}
+use Rattle.digits.specs.Digits.{numeral0, numeral9, isBetween, isNumeral, isDigit, allDigits, digitValue}
+use Rattle.digits.specs.Decimal.{decimalValue}
+use Rattle.digits.proofs.Runs.{and-both}
+use Rattle.digits.proofs.Values.{digitValue-below}
+use Rattle.text.specs.declared.NumberRead.{NumberRead}
+use Rattle.text.specs.declared.NumberRead.the-variants.{Number, NoNumber}
+use Rattle.text.specs.Text.{allNumerals, readNumber}
+use Rattle.start.specs.declared.StartRead.{StartRead}
+use Rattle.start.specs.declared.StartRead.the-variants.{Started, Refused, NoStart}
+use Rattle.start.specs.Start.{numeral2, isTwo, isDecimal, isMarks, digitsValue, startOf, startIn, startBy}
+use Rattle.start.specs.Parts.{ValueOf, FourDigits}
+
+-- both cases of a test, with the equation
+byBool : {C : Type 0} (test : Bool) → (test ≡ true → C) → (test ≡ false → C) → C
+byBool true f g = f refl
+byBool false f g = g refl
+
+-- ---- isTwo, isMarks
+
+module _ (word : List ℕ) where
+  pub isTwo-size : (length word ≡ 1 → ⊥) → false ≡ isTwo word
+  unfolding isTwo
+  isTwo-size other = rw (ne-eqb _ _ other)
+
+  pub isTwo-character : length word ≡ 1 → eqb (getD word 0 0) numeral2 ≡ isTwo word
+  unfolding isTwo
+  isTwo-character one = rw (eq-eqb _ _ one)
+
+  pub isMarks-size : (length word ≡ 4 → ⊥) → false ≡ isMarks word
+  unfolding isMarks
+  isMarks-size other = rw (ne-eqb _ _ other)
+
+  pub isMarks-digits : (answer : Bool) → length word ≡ 4 → answer ≡ allDigits word → answer ≡ isMarks word
+  unfolding isMarks
+  isMarks-digits answer four all = all ∙ (rw (eq-eqb _ _ four))
+
+pub ruleset isTwo-laws = (isTwo-size, isTwo-character)
+
+pub ruleset isMarks-laws = (isMarks-size, isMarks-digits)
+
+-- ---- isDecimal
+
+pub isDecimal-none : (word : List ℕ) → length word ≡ 0 → false ≡ isDecimal word
+unfolding isDecimal
+isDecimal-none [] none = refl
+isDecimal-none (c ∷ cs) none = absurd (omega arith)
+
+pub isDecimal-some : (word : List ℕ) → (length word ≡ 0 → ⊥) → isDecimal word ≡ allNumerals (drop 0 word)
+unfolding isDecimal
+isDecimal-some word some = rw (lt-ltb 0 (length word) (omega (arith, some)))
+
+module _ (word : List ℕ) (passed : ℕ) (inside : passed < length word) where
+  abbrev character : ℕ
+  character = getD word passed 0
+
+  pub numerals-low : character < numeral0 → false ≡ allNumerals (drop passed word)
+  unfolding allNumerals isNumeral isBetween
+  numerals-low low = rw (drop-cons word passed 0 inside, lt-leb numeral0 character low)
+
+  pub numerals-high : numeral9 < character → false ≡ allNumerals (drop passed word)
+  unfolding allNumerals isNumeral isBetween
+  numerals-high high =
+      rw (drop-cons word passed 0 inside, lt-leb character numeral9 high, and-false (leb numeral0 character))
+
+  pub numerals-next : numeral0 ≤ character → character ≤ numeral9
+      → allNumerals (drop passed word) ≡ allNumerals (drop (passed + 1) word)
+  unfolding allNumerals isNumeral isBetween
+  numerals-next low high =
+      rw (drop-cons word passed 0 inside, le-leb numeral0 character low, le-leb character numeral9 high, add-one passed)
+
+pub numerals-end : (word : List ℕ) (passed : ℕ) → length word ≤ passed → true ≡ allNumerals (drop passed word)
+unfolding allNumerals
+numerals-end word passed over = rw (drop-of-length-le word over)
+
+-- ---- digitsValue
+
+-- four digits, and their number
+pub four : (word : List ℕ) → isMarks word ≡ true → FourDigits word
+unfolding isMarks allDigits
+four word holds =
+    let parts = and-both (eqb (length word) 4) (allDigits word) holds in
+    go word (eqb-true (length word) 4 (parts .0)) (parts .1)
+  where
+    go : (word : List ℕ) → length word ≡ 4 → allDigits word ≡ true → FourDigits word
+    go [] size digits = absurd (omega arith)
+    go (a ∷ []) size digits = absurd (omega arith)
+    go (a ∷ b ∷ []) size digits = absurd (omega arith)
+    go (a ∷ b ∷ c ∷ []) size digits = absurd (omega arith)
+    go (a ∷ b ∷ c ∷ d ∷ []) size digits =
+        let one = and-both (isDigit a) (allDigits (b ∷ c ∷ d ∷ [])) digits in
+        let two = and-both (isDigit b) (allDigits (c ∷ d ∷ [])) (one .1) in
+        let three = and-both (isDigit c) (allDigits (d ∷ [])) (two .1) in
+        let end = and-both (isDigit d) (allDigits []) (three .1) in
+        record { size = refl; first = one .0; second = two .0; third = three .0; last = end .0 }
+    go (a ∷ b ∷ c ∷ d ∷ e ∷ rest) size digits = absurd (omega arith)
+
+pub four-value : (word : List ℕ) (first second third last : ℕ) → FourDigits word
+    → ValueOf (getD word 0 0) first
+    → ValueOf (getD word 1 0) second
+    → ValueOf (getD word 2 0) third
+    → ValueOf (getD word 3 0) last
+    → ((first * 16 + second) * 16 + third) * 16 + last ≡ digitsValue 0 word
+unfolding digitsValue
+four-value [] first second third last four a b c d = absurd (omega (arith, four .size))
+four-value (w ∷ []) first second third last four a b c d = absurd (omega (arith, four .size))
+four-value (w ∷ x ∷ []) first second third last four a b c d = absurd (omega (arith, four .size))
+four-value (w ∷ x ∷ y ∷ []) first second third last four a b c d = absurd (omega (arith, four .size))
+four-value (w ∷ x ∷ y ∷ z ∷ []) first second third last four a b c d =
+    omega (arith, a .value, b .value, c .value, d .value)
+four-value (w ∷ x ∷ y ∷ z ∷ v ∷ rest) first second third last four a b c d = absurd (omega (arith, four .size))
+
+-- a digit's value
+pub value-of : (digit answer : ℕ) → isDigit digit ≡ true → answer ≡ digitValue digit → ValueOf digit answer
+value-of digit answer is value = record { value = value; below = omega (arith, value, digitValue-below digit is) }
+
+-- ---- startOf
+
+pub startOf-started : (profile : Profile) (number : ℕ) → number ≡ startNumber profile → number ≡ accepted
+    → Started profile ≡ startOf profile
+unfolding startOf
+startOf-started profile number is taken = rw (eq-eqb (startNumber profile) accepted (sym is ∙ taken))
+
+pub startOf-refused : (profile : Profile) (number : ℕ) → number ≡ startNumber profile → (number ≡ accepted → ⊥)
+    → Refused ≡ startOf profile
+unfolding startOf
+startOf-refused profile number is left =
+    rw (ne-eqb (startNumber profile) accepted (λ same. left (is ∙ same)))
+
+pub ruleset startOf-laws = (startOf-started, startOf-refused)
+
+-- a place above 255 is above 8
+startOf-above : (place marks : ℕ) → lastPlace < place → Refused ≡ startOf (P.OptionTwo place marks)
+unfolding startOf startNumber placeOf
+startOf-above place marks above = rw (lt-ltb lastPlace place above)
+
+number-none : (value : ℕ) → Number value ≡ NoNumber → ⊥
+number-none value same = let wrong : _≡_ {A = ℕ} 0 1 = cc in omega arith
+
+module _ (place : List ℕ) (marks most : ℕ) (decimal : isDecimal place ≡ true) where
+  pub place-above : (read : NumberRead) → read ≡ readNumber place most → read ≡ NoNumber → lastPlace ≤ most
+      → Refused ≡ startOf (P.OptionTwo (decimalValue 0 place) marks)
+  unfolding readNumber isDecimal
+  place-above read is none enough =
+      byBool (leb (decimalValue 0 place) most)
+      (λ fits.
+      let parts = and-both (ltb 0 (length place)) (allNumerals place) decimal in
+      absurd (number-none (decimalValue 0 place) (rw (parts .0, parts .1, fits) at (sym is ∙ none))))
+      (λ over. startOf-above (decimalValue 0 place) marks (omega (arith, leb-false (decimalValue 0 place) most over)))
+
+  pub place-is : (read : NumberRead) (number : ℕ) → read ≡ readNumber place most → read ≡ Number number
+      → number ≡ decimalValue 0 place
+  unfolding readNumber isDecimal
+  place-is read number reads told =
+      let is = sym reads ∙ told in
+      let parts = and-both (ltb 0 (length place)) (allNumerals place) decimal in
+      byBool (leb (decimalValue 0 place) most)
+      (λ fits.
+      let same : Number (decimalValue 0 place) ≡ Number number = rw (parts .0, parts .1, fits) at is in
+      cc)
+      (λ over.
+      let same : NoNumber ≡ Number number = rw (parts .0, parts .1, over) at is in
+      absurd (number-none number (sym same)))
+
+  pub place-start : (start : StartRead) (read : NumberRead) (number : ℕ) → read ≡ readNumber place most
+      → read ≡ Number number
+      → start ≡ startOf (P.OptionTwo number marks)
+      → start ≡ startOf (P.OptionTwo (decimalValue 0 place) marks)
+  place-start start read number reads told is =
+      is ∙ ap (λ (value : ℕ). startOf (P.OptionTwo value marks)) (place-is read number reads told)
+
+-- ---- startIn
+
+module _ (option place marks : List ℕ) where
+  pub startIn-option : (two : Bool) → two ≡ isTwo option → not two ≡ true → NoStart ≡ startIn option place marks
+  unfolding startIn
+  startIn-option two is none = rw (sym is ∙ not-true two none)
+
+  pub startIn-place : (two decimal : Bool) → two ≡ isTwo option → not two ≡ false → decimal ≡ isDecimal place
+      → not decimal ≡ true
+      → NoStart ≡ startIn option place marks
+  unfolding startIn
+  startIn-place two decimal is taken test none = rw (sym is ∙ not-false two taken, sym test ∙ not-true decimal none)
+
+  pub startIn-marks : (two decimal four : Bool) → two ≡ isTwo option → not two ≡ false → decimal ≡ isDecimal place
+      → not decimal ≡ false
+      → four ≡ isMarks marks
+      → not four ≡ true
+      → NoStart ≡ startIn option place marks
+  unfolding startIn
+  startIn-marks two decimal four is taken test also digits none =
+      rw (sym is ∙ not-false two taken, sym test ∙ not-false decimal also, sym digits ∙ not-true four none)
+
+  pub startIn-start : (read : StartRead) (value : ℕ) (two decimal four : Bool) → two ≡ isTwo option → not two ≡ false
+      → decimal ≡ isDecimal place
+      → not decimal ≡ false
+      → four ≡ isMarks marks
+      → not four ≡ false
+      → value ≡ digitsValue 0 marks
+      → read ≡ startOf (P.OptionTwo (decimalValue 0 place) value)
+      → read ≡ startIn option place marks
+  unfolding startIn
+  startIn-start read value two decimal four is taken test also digits all same start =
+      start
+      ∙ (rw (
+        sym is ∙ not-false two taken,
+        sym test ∙ not-false decimal also,
+        sym digits ∙ not-false four all,
+        same,
+      ))
+
+pub ruleset startIn-laws = (startIn-option, startIn-place, startIn-marks, startIn-start)
+
+-- a test of the code that holds
+pub decimal-holds : (place : List ℕ) (decimal : Bool) → decimal ≡ isDecimal place → not decimal ≡ false
+    → isDecimal place ≡ true
+decimal-holds place decimal is holds = sym is ∙ not-false decimal holds
+
+pub marks-hold : (marks : List ℕ) (four-digits : Bool) → four-digits ≡ isMarks marks → not four-digits ≡ false
+    → FourDigits marks
+marks-hold marks four-digits is holds = four marks (sym is ∙ not-false four-digits holds)
+
+-- ---- startBy
+
+module _ (count : ℕ) (option place marks : List ℕ) where
+  pub startBy-nothing : count ≡ 0 → Started P.OptionOne ≡ startBy count option place marks
+  unfolding startBy
+  startBy-nothing none = rw (eq-eqb count 0 none)
+
+  pub startBy-other : (count ≡ 0 → ⊥) → (count ≡ 3 → ⊥) → NoStart ≡ startBy count option place marks
+  unfolding startBy
+  startBy-other some other = rw (ne-eqb count 0 some, ne-eqb count 3 other)
+
+  pub startBy-words : (read : StartRead) → (count ≡ 0 → ⊥) → count ≡ 3 → read ≡ startIn option place marks
+      → read ≡ startBy count option place marks
+  unfolding startBy
+  startBy-words read some words is = is ∙ (rw (ne-eqb count 0 some, eq-eqb count 3 words))
+
+pub ruleset startBy-laws = (startBy-nothing, startBy-other, startBy-words)

@@ -1,0 +1,64 @@
+-- START: document 02, L10, and the paper of its readings, "Programs". Cited by `src/lib.rt`. A character is its number in
+-- ASCII. Assumes nothing.
+use Prim.Native.Nat.{ℕ, zero, suc, _+_, _*_}
+use mathlib.Core.Bool.{Bool, cond, _&&_}
+use mathlib.Core.List.{List, [], _∷_}
+use mathlib.Core.Path.{_≡_}
+use lib.Dec.{eqb, ltb}
+use lib.ListN.{length, getD}
+use Rattle.numbers.specs.declared.Profile.{Profile}
+use Rattle.numbers.specs.declared.Profile.the-variants as P
+use Rattle.numbers.specs.Refusal.{accepted}
+use Rattle.numbers.specs.Profile.{startNumber}
+use Rattle.digits.specs.Digits.{allDigits, digitValue}
+use Rattle.digits.specs.Decimal.{decimalValue}
+use Rattle.text.specs.Text.{allNumerals}
+use Rattle.start.specs.declared.StartRead.{StartRead}
+use Rattle.start.specs.declared.StartRead.the-variants.{Started, Refused, NoStart}
+
+-- the numeral of option II
+abbrev pub numeral2 : ℕ
+numeral2 = 50
+
+-- the word is `2`
+unfoldable pub isTwo : List ℕ → Bool
+isTwo word = eqb (length word) 1 && eqb (getD word 0 0) numeral2
+
+-- "PLACE decimal": at least one digit, and no other character
+unfoldable pub isDecimal : List ℕ → Bool
+isDecimal word = ltb 0 (length word) && allNumerals word
+
+-- "MARKS four hexadecimal digits"
+unfoldable pub isMarks : List ℕ → Bool
+isMarks word = eqb (length word) 4 && allDigits word
+
+-- the number that hexadecimal digits stand for, behind a number that was passed: so "bit i (of value 2^i) for port i"
+unfoldable pub digitsValue : ℕ → List ℕ → ℕ
+digitsValue passed [] = passed
+digitsValue passed (digit ∷ rest) = digitsValue (passed * 16 + digitValue digit) rest
+
+-- a start of a profile: "A place above 8 prints `06` and nothing else."
+unfoldable pub startOf : Profile → StartRead
+startOf profile = cond (eqb (startNumber profile) accepted) (Started profile) Refused
+
+-- "`2 PLACE MARKS`": three words; a place may be a number of any size
+unfoldable pub startIn : List ℕ → List ℕ → List ℕ → StartRead
+startIn option place marks =
+    cond (isTwo option && isDecimal place && isMarks marks)
+    (startOf (P.OptionTwo (decimalValue 0 place) (digitsValue 0 marks)))
+    NoStart
+
+-- "nothing, or `2 PLACE MARKS`"; "nothing is option I": so many words, of which the first three are given
+unfoldable pub startBy : ℕ → List ℕ → List ℕ → List ℕ → StartRead
+startBy count option place marks =
+    cond (eqb count 0) (Started P.OptionOne)
+    (cond (eqb count 3) (startIn option place marks)
+    NoStart)
+
+-- what was read is what some words say
+pub record StartRight (read : StartRead) : Type 0 where
+  pub count : ℕ
+  pub option : List ℕ
+  pub place : List ℕ
+  pub marks : List ℕ
+  pub is : read ≡ startBy count option place marks

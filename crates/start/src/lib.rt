@@ -1,0 +1,182 @@
+// START, with which a program is started: document 02, L10, "Programs" of its readings. Nothing, or
+// `2 PLACE MARKS`.
+//
+// What the system hands over as arguments no contract can say: `read_start` promises that its answer
+// is that of some words, and `start_by` which answer they have. No public function has a `requires`:
+// a word may have any length and any content.
+use numbers::ACCEPTED;
+use numbers::Profile;
+use numbers::start_number;
+use text::NumberRead;
+ghost use mathlib.Core.Bool.{true};
+ghost use mathlib.Core.Path.{_≡_};
+ghost use Rattle.numbers.specs.declared.Profile.the-variants.{OptionTwo};
+ghost use Rattle.digits.specs.Digits.{isDigit};
+ghost use Rattle.digits.specs.Decimal.{decimalValue};
+ghost use Rattle.start.specs.Start.{isTwo, isDecimal, isMarks, digitsValue, startOf, startIn, startBy, StartRight};
+ghost use Rattle.start.specs.Parts.{ValueOf, FourDigits};
+
+// The words of `2 PLACE MARKS`.
+const WORDS: usize = 3;
+
+// "MARKS four hexadecimal digits"
+const MARKS: usize = 4;
+
+// The largest place that is looked at as a number: a larger one is above 8 as well.
+const LARGEST: u64 = 255;
+
+// So many octets of a place are read: the programs' stack has room for them.
+const LONGEST_WORD: usize = 65_536;
+
+// What START says: the profile to start with; that the start is refused; or that it is no START.
+pub enum StartRead {
+    Started(Profile),
+    Refused,
+    NoStart,
+}
+
+// Whether a word is `2`.
+fn is_two(word: &[u8]) -> bool
+    ensures { λ answer. ⌜ answer ≡ isTwo (now (word .entry)) ⌝ }
+{
+    if word.len() != 1 {
+        return false;
+    }
+    word[0] == b'2'
+}
+
+// Whether a word is a number in decimal digits, of any size.
+fn is_decimal(word: &[u8]) -> bool
+    ensures { λ answer. ⌜ answer ≡ isDecimal (now (word .entry)) ⌝ }
+{
+    if word.len() == 0 {
+        return false;
+    }
+    let mut passed = 0;
+    while passed < word.len() {
+        let character = word[passed];
+        if character < b'0' {
+            return false;
+        }
+        if b'9' < character {
+            return false;
+        }
+        passed += 1;
+    }
+    true
+}
+
+// Whether a word has four digits.
+fn is_marks(word: &[u8]) -> bool
+    ensures { λ answer. ⌜ answer ≡ isMarks (now (word .entry)) ⌝ }
+{
+    if word.len() != MARKS {
+        return false;
+    }
+    digits::all_digits(word)
+}
+
+// The value of a digit.
+fn digit_value(digit: u8) -> u16
+    requires { ⌜ isDigit digit ≡ true ⌝ }
+    ensures { λ answer. ⌜ ValueOf digit answer ⌝ }
+{
+    if digit <= b'9' {
+        (digit - b'0') as u16
+    } else {
+        (digit - b'a' + 10) as u16
+    }
+}
+
+// The number of four digits, the first of which counts most: "bit i (of value 2^i) for port i".
+fn marks_in(word: &[u8]) -> u16
+    requires { ⌜ FourDigits (now word) ⌝ }
+    ensures { λ answer. ⌜ answer ≡ digitsValue 0 (now (word .entry)) ⌝ }
+{
+    let first = digit_value(word[0]);
+    let second = digit_value(word[1]);
+    let third = digit_value(word[2]);
+    let last = digit_value(word[3]);
+    ((first * 16 + second) * 16 + third) * 16 + last
+}
+
+// The start of a profile: "A place above 8" is refused.
+fn start_of(profile: Profile) -> StartRead
+    ensures { λ read. ⌜ read ≡ startOf profile ⌝ }
+{
+    if start_number(profile) == ACCEPTED {
+        return StartRead::Started(profile);
+    }
+    StartRead::Refused
+}
+
+// The start of option II with a place that is a number of any size.
+fn start_at(place: &[u8], marks: u16) -> StartRead
+    requires { ⌜ isDecimal (now place) ≡ true ⌝ }
+    ensures { λ read. ⌜ read ≡ startOf (OptionTwo (decimalValue 0 (now (place .entry))) marks) ⌝ }
+{
+    let read = text::read_number(place, LARGEST);
+    let NumberRead::Number(number) = read else {
+        return StartRead::Refused;
+    };
+    start_of(Profile::OptionTwo(number as u8, marks))
+}
+
+// What three words say: `2 PLACE MARKS`.
+pub fn start_in(option: &[u8], place: &[u8], marks: &[u8]) -> StartRead
+    ensures { λ read. ⌜
+        read ≡ startIn (now (option .entry)) (now (place .entry)) (now (marks .entry)) ⌝ }
+{
+    if !is_two(option) {
+        return StartRead::NoStart;
+    }
+    if !is_decimal(place) {
+        return StartRead::NoStart;
+    }
+    if !is_marks(marks) {
+        return StartRead::NoStart;
+    }
+    start_at(place, marks_in(marks))
+}
+
+// What so many words say, of which the first three are given: nothing is option I.
+pub fn start_by(count: usize, option: &[u8], place: &[u8], marks: &[u8]) -> StartRead
+    ensures { λ read. ⌜
+        read ≡ startBy count (now (option .entry)) (now (place .entry)) (now (marks .entry)) ⌝ }
+{
+    if count == 0 {
+        return StartRead::Started(Profile::OptionOne);
+    }
+    if count != WORDS {
+        return StartRead::NoStart;
+    }
+    start_in(option, place, marks)
+}
+
+// How many words the arguments have behind the program's name.
+fn word_count() -> usize {
+    let count = os::arg_count();
+    if count == 0 {
+        return 0;
+    }
+    count - 1
+}
+
+// Reads START from the program's arguments. A word that is longer than what is lent for it is taken
+// as an empty one, so it is no START: a place of more than 65,536 digits too.
+pub fn read_start() -> StartRead
+    ensures { λ read. ⌜ StartRight read ⌝ }
+{
+    let mut option = io::buffer();
+    let mut place = [0u8; LONGEST_WORD];
+    let mut marks = io::buffer();
+    let first = os::arg(1, &mut option);
+    let second = os::arg(2, &mut place);
+    let third = os::arg(3, &mut marks);
+    start_by(
+        word_count(),
+        &option[..first],
+        &place[..second],
+        &marks[..third],
+    )
+}
