@@ -20,7 +20,7 @@
  *     {
  *         if (!NURRISPANE_BELONGS())
  *             return 0;
- *         nurrispane_fresh(&card);
+ *         nurrispane_fresh(&card, NURRISPANE_OPTION_1, 0, 0);
  *         nurrispane_fresh_senders(&senders);
  *         nurrispane_step(&card, NURRISPANE_EVENT_PRIORITY, 0, 3, 1, NURRISPANE_NO_FRAME, 0);
  *         return 1;
@@ -74,9 +74,9 @@
  *   memcpy, memmove and memset: no heap, no floating point, no operating system, and no data that is written.
  *   No call waits.
  *
- * Sizes, in octets: a card 664, aligned to 8; an input 40; an answer 6; the codes 16; a frame that
- * was read 9; the senders 1,544, aligned to 8; one sender 96. There is no padding in any of them, so
- * cards and senders can be compared by memcmp() and summed by a checksum.
+ * Sizes, in octets: a card 672, aligned to 8; an input 40; an answer 6; the codes 16; the words 32;
+ * a frame that was read 9; the senders 1,544, aligned to 8; one sender 96. There is no padding in any
+ * of them, so cards and senders can be compared by memcmp() and summed by a checksum.
  *
  * No call takes more stack than NURRISPANE_STACK; docs/BENCHMARKS.md has what each takes, and
  * tests/card measures it anew.
@@ -103,7 +103,7 @@ extern "C" {
 #endif
 
 /* Raised with each change of a struct, of a number or of what a function answers. */
-#define NURRISPANE_VERSION 1
+#define NURRISPANE_VERSION 2
 
 /* Whether the library that was linked is this header's: to be asked once, at the start. */
 #define NURRISPANE_BELONGS()                                               \
@@ -134,7 +134,24 @@ extern "C" {
 /* No call takes more stack than this. */
 #define NURRISPANE_STACK 12288
 
-/* The kinds of event, with their arguments. */
+/*
+ * The profile, chosen once, with nurrispane_fresh(). Of option II the place of PROV, 0 for none and
+ * 1 to 8 for just below that quality, and the marks of the first-generation ports, bit i for port i,
+ * are given with it; option I has neither.
+ */
+enum nurrispane_option {
+    NURRISPANE_OPTION_1 = 1,
+    NURRISPANE_OPTION_2 = 2
+};
+
+/* The kinds of input. */
+enum nurrispane_input_kind {
+    NURRISPANE_INPUT_LINE = 0,     /* codes */
+    NURRISPANE_INPUT_ETHERNET = 1, /* frames */
+    NURRISPANE_INPUT_WORDS = 2     /* 1,544 kbit/s words: option II */
+};
+
+/* The kinds of event, with their arguments; where there are two, of option I and of option II. */
 enum nurrispane_event {
     NURRISPANE_EVENT_SIGNAL = 0x01,        /* 0 good, 1 fail */
     NURRISPANE_EVENT_FRAME = 0x02,         /* 0; the frame is lent */
@@ -143,7 +160,7 @@ enum nurrispane_event {
     NURRISPANE_EVENT_LOCKOUT = 0x05,       /* 1 set, 0 clear */
     NURRISPANE_EVENT_HOLDOFF = 0x06,       /* 300 to 1,800 ms */
     NURRISPANE_EVENT_WAIT = 0x07,          /* 0 to 12 minutes */
-    NURRISPANE_EVENT_FIXED_QUALITY = 0x08, /* 1 to 5; 0 none */
+    NURRISPANE_EVENT_FIXED_QUALITY = 0x08, /* 1 to 5, 1 to 10; 0 none */
     NURRISPANE_EVENT_CLEAR_WAIT = 0x09,    /* 0 */
     NURRISPANE_EVENT_FORCED = 0x0a,        /* 0 */
     NURRISPANE_EVENT_MANUAL = 0x0b,        /* 0 */
@@ -151,8 +168,9 @@ enum nurrispane_event {
     NURRISPANE_EVENT_QUALITY_MODE = 0x0d,  /* 0 off, 1 on; input 0 */
     NURRISPANE_EVENT_SENDING = 0x0e,       /* 0 off, 1 on */
     NURRISPANE_EVENT_TICK = 0x0f,          /* 0; input 0 */
-    NURRISPANE_EVENT_INPUT_KIND = 0x10,    /* 0 line, 1 Ethernet */
-    NURRISPANE_EVENT_FLOOR = 0x11          /* 1 to 4 */
+    NURRISPANE_EVENT_INPUT_KIND = 0x10,    /* 0 or 1, 0 to 2: enum nurrispane_input_kind */
+    NURRISPANE_EVENT_FLOOR = 0x11,         /* 1 to 4, 1 to 8 */
+    NURRISPANE_EVENT_WORD = 0x12           /* any; option I does not know this kind */
 };
 
 /*
@@ -167,8 +185,8 @@ enum nurrispane_number {
     NURRISPANE_REFUSED_TIME_TOO_LARGE = 3,        /* at or above 2^48 */
     NURRISPANE_REFUSED_TIME_BEFORE_STATE = 4,     /* before that of the state */
     NURRISPANE_REFUSED_INPUT_OUT_OF_RANGE = 5,    /* above 15, also a port; not 0 for 0c, 0d, 0f */
-    NURRISPANE_REFUSED_ARGUMENT_OUT_OF_RANGE = 6,
-    NURRISPANE_REFUSED_WRONG_INPUT_KIND = 7,      /* code for Ethernet, frame for a line */
+    NURRISPANE_REFUSED_ARGUMENT_OUT_OF_RANGE = 6, /* also a start with a place above 8 */
+    NURRISPANE_REFUSED_WRONG_INPUT_KIND = 7,      /* code, frame or word for an input of another kind */
     NURRISPANE_REFUSED_FRAME_LENGTH = 8,          /* not 60 to 1,514 octets */
     NURRISPANE_REFUSED_FRAME_DESTINATION = 9,
     NURRISPANE_REFUSED_FRAME_PROTOCOL = 10,       /* octets 13-15 */
@@ -199,8 +217,9 @@ enum nurrispane_switch {
 };
 
 /*
- * Qualities, lower is better: 1 PRC, 2 SSU-A, 3 SSU-B, 4 SEC, 5 DNU, 6 invalid, 7 failed, 0 not
- * told.
+ * Qualities, lower is better. Option I: 1 PRC, 2 SSU-A, 3 SSU-B, 4 SEC, 5 DNU. Option II: 1 PRS, 2
+ * STU, 3 ST2, 4 TNC, 5 ST3E, 6 ST3, 7 SIC, 8 ST4, 9 PROV, which ranks where it is placed, 10 DUS. In
+ * both 0 is not told, and in a card 11 is invalid and 12 failed.
  */
 
 /* One input: to be read if need be, never to be written. A yes is 1, a no is 0. */
@@ -211,20 +230,19 @@ struct nurrispane_input {
     uint8_t wait;     /* minutes */
     uint8_t priority; /* 1 to 16; 0 off */
     uint8_t fixed;    /* fixed quality; 0 none */
-    uint8_t ethernet; /* its kind: 1 Ethernet, 0 line */
+    uint8_t kind;     /* enum nurrispane_input_kind */
     uint8_t locked;   /* lockout */
     uint8_t sending;  /* SSM sending */
     uint8_t frame;    /* the quality that the last recorded frame said */
-    uint8_t line;     /* the quality that the last code to come three times in a row said */
-    uint8_t code;     /* the last code recorded */
-    uint8_t count;    /* how often in a row, 3 for any more */
+    uint8_t line;     /* the quality that the last code or word to come three times in a row said */
+    uint8_t count;    /* how often in a row the last one came, 3 for any more */
     uint8_t signal;   /* the signal: 1 good, 0 failing */
-    uint8_t good;     /* the last raw quality that was not 7 */
+    uint8_t good;     /* the last raw quality that was not failed */
     uint8_t failed;   /* the present run is failed */
     uint8_t up;       /* the last down or up moment was up */
-    uint8_t floor;    /* the worst quality that is followed, 1 to 4 */
-    uint8_t spare1;   /* 0, as the two below: no padding */
-    uint16_t spare2;
+    uint8_t floor;    /* the worst quality that is followed; 0 the fresh one: 4, in option II 6 */
+    uint16_t last;    /* the last code or word recorded */
+    uint16_t spare2;  /* 0, as the one below: no padding */
     uint32_t spare4;
 };
 
@@ -233,7 +251,7 @@ struct nurrispane_answer {
     uint8_t number;        /* NURRISPANE_ACCEPTED, or the number of the refusal */
     uint8_t selected;      /* the selected input, or NURRISPANE_NO_INPUT */
     uint8_t clock_state;   /* enum nurrispane_clock_state */
-    uint8_t clock_quality; /* 1 to 4; 0 with quality mode off */
+    uint8_t clock_quality; /* 1 to 4, in option II 1 to 9; 0 with quality mode off */
     uint8_t switch_kind;   /* enum nurrispane_switch */
     uint8_t switch_input;  /* its input, or NURRISPANE_NO_INPUT */
 };
@@ -253,11 +271,20 @@ struct nurrispane_card {
     uint8_t selected;     /* that input; 255 with none */
     struct nurrispane_answer answer;
     uint32_t served;      /* due moments that the last event's tick served, 0 to 48 */
+    uint8_t option;       /* enum nurrispane_option */
+    uint8_t place;        /* of PROV, 0 to 8; 0 in option I */
+    uint16_t marks;       /* first-generation ports, bit i for port i; 0 in option I */
+    uint32_t spare;       /* 0: no padding */
 };
 
 /* The codes that go out of ports 0 to 15, each 0 to 15. */
 struct nurrispane_codes {
     uint8_t codes[NURRISPANE_INPUTS];
+};
+
+/* The words that go out of ports 0 to 15. */
+struct nurrispane_words {
+    uint16_t words[NURRISPANE_INPUTS];
 };
 
 /* One port's sender: to be read if need be, never to be written. */
@@ -298,11 +325,15 @@ uint32_t nurrispane_card_octets(void);
 uint32_t nurrispane_senders_octets(void);
 
 /*
- * Makes a card fresh, whatever it held: time 0, quality mode on, no switch, nothing selected; each
- * input a line with priority 0, hold-off 300 ms, wait 5 minutes, sending on, its signal failing. Its
- * answer is that of an accepted event on such a state: 00 ff 00 04 00 ff.
+ * Starts a card with a profile: it is fresh then, whatever it held: time 0, quality mode on, no
+ * switch, nothing selected; each input a line with priority 0, hold-off 300 ms, wait 5 minutes,
+ * sending on, its signal failing. Its answer is that of an accepted event on such a state: 00 ff 00
+ * 04 00 ff, in option II 00 ff 00 06 00 ff. `option` is NURRISPANE_OPTION_2, or any other number for
+ * option I, for which `place` and `marks` are not looked at. Option II with a place above 8 is
+ * refused and nothing starts: the card stays as it was, but for `answer.number`, which is
+ * NURRISPANE_REFUSED_ARGUMENT_OUT_OF_RANGE, and `served`, 0.
  */
-void nurrispane_fresh(struct nurrispane_card *card);
+void nurrispane_fresh(struct nurrispane_card *card, uint8_t option, uint8_t place, uint16_t marks);
 
 /*
  * One event: `*card` becomes the card after it, with its answer, also where it is refused. `kind`,
@@ -317,7 +348,7 @@ void nurrispane_step(struct nurrispane_card *card, uint8_t kind, uint64_t time, 
 /*
  * When something is next due: the end of a hold-off, of a wait or of a frame's five seconds. Later
  * than the card's time; NURRISPANE_NEVER where nothing is, if no event comes. Until then a tick
- * changes no answer and no outgoing code, so firmware may sleep that long. A time at or above 2^48
+ * changes no answer, no outgoing code and no word, so firmware may sleep that long. A time at or above 2^48
  * cannot be reached by a tick.
  */
 uint64_t nurrispane_next_due(const struct nurrispane_card *card);
@@ -325,9 +356,19 @@ uint64_t nurrispane_next_due(const struct nurrispane_card *card);
 /*
  * The codes that go out of the sixteen ports, for lines as well as for frames: 15, do not use, if
  * quality mode is off, if the port's sending is off, or if it is the selected input; otherwise the
- * code of the clock quality.
+ * code of the clock quality. Of option II a port that is marked sends TNC and ST3E as 10, the code of
+ * ST3; ST4 has no code, and 15 goes out.
  */
 void nurrispane_outgoing_codes(const struct nurrispane_card *card, struct nurrispane_codes *codes);
+
+/*
+ * The 1,544 kbit/s words that go out of the sixteen ports of a card of option II, beside the codes:
+ * 0x08ff, which a receiver reads as STU, if the port's sending is off; otherwise 0x30ff, do not use,
+ * if quality mode is off or if it is the selected input; otherwise the word of the clock quality, and
+ * of a port that is marked 0x10ff for TNC and ST3E. Option I has no words: of such a card the answer
+ * is what its numbers would say in option II, and is not to be sent.
+ */
+void nurrispane_outgoing_words(const struct nurrispane_card *card, struct nurrispane_words *words);
 
 /*
  * Reads a received frame, from its destination address on, without FCS, for whoever wants to know
@@ -377,19 +418,18 @@ NURRISPANE_HOLDS(offsetof(struct nurrispane_input, holdoff) == 16);
 NURRISPANE_HOLDS(offsetof(struct nurrispane_input, wait) == 18);
 NURRISPANE_HOLDS(offsetof(struct nurrispane_input, priority) == 19);
 NURRISPANE_HOLDS(offsetof(struct nurrispane_input, fixed) == 20);
-NURRISPANE_HOLDS(offsetof(struct nurrispane_input, ethernet) == 21);
+NURRISPANE_HOLDS(offsetof(struct nurrispane_input, kind) == 21);
 NURRISPANE_HOLDS(offsetof(struct nurrispane_input, locked) == 22);
 NURRISPANE_HOLDS(offsetof(struct nurrispane_input, sending) == 23);
 NURRISPANE_HOLDS(offsetof(struct nurrispane_input, frame) == 24);
 NURRISPANE_HOLDS(offsetof(struct nurrispane_input, line) == 25);
-NURRISPANE_HOLDS(offsetof(struct nurrispane_input, code) == 26);
-NURRISPANE_HOLDS(offsetof(struct nurrispane_input, count) == 27);
-NURRISPANE_HOLDS(offsetof(struct nurrispane_input, signal) == 28);
-NURRISPANE_HOLDS(offsetof(struct nurrispane_input, good) == 29);
-NURRISPANE_HOLDS(offsetof(struct nurrispane_input, failed) == 30);
-NURRISPANE_HOLDS(offsetof(struct nurrispane_input, up) == 31);
-NURRISPANE_HOLDS(offsetof(struct nurrispane_input, floor) == 32);
-NURRISPANE_HOLDS(offsetof(struct nurrispane_input, spare1) == 33);
+NURRISPANE_HOLDS(offsetof(struct nurrispane_input, count) == 26);
+NURRISPANE_HOLDS(offsetof(struct nurrispane_input, signal) == 27);
+NURRISPANE_HOLDS(offsetof(struct nurrispane_input, good) == 28);
+NURRISPANE_HOLDS(offsetof(struct nurrispane_input, failed) == 29);
+NURRISPANE_HOLDS(offsetof(struct nurrispane_input, up) == 30);
+NURRISPANE_HOLDS(offsetof(struct nurrispane_input, floor) == 31);
+NURRISPANE_HOLDS(offsetof(struct nurrispane_input, last) == 32);
 NURRISPANE_HOLDS(offsetof(struct nurrispane_input, spare2) == 34);
 NURRISPANE_HOLDS(offsetof(struct nurrispane_input, spare4) == 36);
 NURRISPANE_HOLDS(sizeof(struct nurrispane_answer) == 6);
@@ -399,7 +439,7 @@ NURRISPANE_HOLDS(offsetof(struct nurrispane_answer, clock_state) == 2);
 NURRISPANE_HOLDS(offsetof(struct nurrispane_answer, clock_quality) == 3);
 NURRISPANE_HOLDS(offsetof(struct nurrispane_answer, switch_kind) == 4);
 NURRISPANE_HOLDS(offsetof(struct nurrispane_answer, switch_input) == 5);
-NURRISPANE_HOLDS(sizeof(struct nurrispane_card) == 664);
+NURRISPANE_HOLDS(sizeof(struct nurrispane_card) == 672);
 NURRISPANE_HOLDS(offsetof(struct nurrispane_card, inputs) == 0);
 NURRISPANE_HOLDS(offsetof(struct nurrispane_card, time) == 640);
 NURRISPANE_HOLDS(offsetof(struct nurrispane_card, mode) == 648);
@@ -410,8 +450,13 @@ NURRISPANE_HOLDS(offsetof(struct nurrispane_card, selection) == 652);
 NURRISPANE_HOLDS(offsetof(struct nurrispane_card, selected) == 653);
 NURRISPANE_HOLDS(offsetof(struct nurrispane_card, answer) == 654);
 NURRISPANE_HOLDS(offsetof(struct nurrispane_card, served) == 660);
+NURRISPANE_HOLDS(offsetof(struct nurrispane_card, option) == 664);
+NURRISPANE_HOLDS(offsetof(struct nurrispane_card, place) == 665);
+NURRISPANE_HOLDS(offsetof(struct nurrispane_card, marks) == 666);
+NURRISPANE_HOLDS(offsetof(struct nurrispane_card, spare) == 668);
 NURRISPANE_ALIGNED(struct nurrispane_card, 8);
 NURRISPANE_HOLDS(sizeof(struct nurrispane_codes) == 16);
+NURRISPANE_HOLDS(sizeof(struct nurrispane_words) == 32);
 NURRISPANE_HOLDS(sizeof(struct nurrispane_frame) == 9);
 NURRISPANE_HOLDS(offsetof(struct nurrispane_frame, number) == 0);
 NURRISPANE_HOLDS(offsetof(struct nurrispane_frame, code) == 1);

@@ -96,7 +96,7 @@ int main(int argc, char **argv)
         fprintf(stderr, "%s: the library is not the header's\n", argv[0]);
         return 1;
     }
-    nurrispane_fresh(&card);
+    nurrispane_fresh(&card, NURRISPANE_OPTION_1, 0, 0);
     nurrispane_fresh_senders(&senders);
     while (fgets(line, sizeof line, stdin)) {
         size_t length = 0;

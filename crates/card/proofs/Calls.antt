@@ -5,14 +5,20 @@ use mathlib.Core.List.{List, [], _∷_, _++_, map}
 use mathlib.Core.Path.{_≡_, refl, sym, _∙_, ap, subst}
 use native.Mathlib.Omega.{arith}
 use lib.ListN.{getD, drop}
-use borrow.Author.Tests.{le-ltb}
+use lib.Dec.{eqb}
+use borrow.Author.Tests.{eq-eqb, eqb-true, lt-ltb, le-ltb}
+use Rattle.numbers.specs.declared.Profile.{Profile}
+use Rattle.numbers.specs.declared.Profile.the-variants as P
+use Rattle.numbers.specs.From.{started, _following_, profileOf}
 use Rattle.numbers.specs.Inputs.{lastInput, timeLimit}
 use Rattle.numbers.specs.Kind.{flag}
-use Rattle.numbers.specs.Refusal.{accepted}
+use Rattle.numbers.specs.Profile.{placeOf, lastPlace, startNumber, marksOf}
+use Rattle.numbers.specs.Refusal.{accepted, argumentOutOfRange}
 use Rattle.frame.specs.Read.{readCode}
 use Rattle.frame.specs.Write.{writtenLength, frameOctets}
 use Rattle.input.specs.declared.Input.{Input}
-use Rattle.input.specs.Recorded.{tickEvent}
+use Rattle.input.proofs.Laws.{kindArgument-back}
+use Rattle.run.proofs.Laws.{byBool}
 use Rattle.choice.specs.declared.Selection.{Selection}
 use Rattle.choice.specs.declared.Selection.the-variants as S
 use Rattle.choice.proofs.Choosing.{Inside}
@@ -20,7 +26,7 @@ use Rattle.decision.specs.declared.Switch.{Switch}
 use Rattle.decision.specs.declared.Switch.the-variants as W
 use Rattle.selector.specs.declared.Selector.{Selector}
 use Rattle.selector.specs.Clock.{selectedNumber, switchNumber, switchInput}
-use Rattle.selector.specs.Answer.{answerOf, outgoingCodes}
+use Rattle.selector.specs.Answer.{answerOf, outgoingCodes, outgoingWords}
 use Rattle.selector.proofs.Ports.{getD-ports}
 use Rattle.due.specs.Next.{nextDue}
 use Rattle.due.proofs.Calm.{movedTo}
@@ -28,13 +34,12 @@ use Rattle.due.proofs.Jump.{each-before}
 use Rattle.due.proofs.Right.{ticked-each}
 use Rattle.events.specs.declared.Stepped.{Stepped}
 use Rattle.events.specs.Step.{stepRead, step}
-use Rattle.events.specs.Given.{Given, Sequence}
+use Rattle.events.specs.Given.{Given, Sequence, tickAt}
 use Rattle.events.specs.Sequence.{stateAfter, numberAfter, countAfter}
 use Rattle.events.specs.Due.{mostDue}
 use Rattle.events.specs.NextDue.{NextRight}
 use Rattle.events.specs.Past.{pastOf, recorded}
 use Rattle.events.specs.Told.{answerBy, codeBy, codesBy}
-use Rattle.events.specs.Demand1.{tickAt}
 use Rattle.events.proofs.Happened.{happened}
 use Rattle.events.proofs.Agrees.{step-accepted}
 use Rattle.events.proofs.Calm.{sequence-calm}
@@ -46,9 +51,9 @@ use Rattle.events.proofs.Demand3.{demand-3}
 use Rattle.events.proofs.Demand4.{demand-4}
 use Rattle.card.specs.declared.Card.{Card}
 use Rattle.card.specs.declared.CardAnswer.{CardAnswer}
-use Rattle.card.specs.Flat.{isSet, inputOf, flatInput, flatAnswer, switchOf, selectionOf, isSelected, selectorOf, cardOf}
-use Rattle.card.specs.Card.{freshCard, steppedCard, readFor, stepCard, cardCodes, cardDue}
-use Rattle.card.specs.Calls.{called, cardAfter, latestNumber, latestCount, withNumber, latestBy, CardRight, Demand1Card, Demand2Card, Demand3Card, Demand4Card, NextDueCard}
+use Rattle.card.specs.Flat.{isSet, inputOf, flatInput, flatAnswer, switchOf, selectionOf, isSelected, optionTwo, profileIn, optionOf, selectorOf, cardOf, withNumber}
+use Rattle.card.specs.Card.{freshCard, startCard, steppedCard, readFor, stepCard, cardCodes, cardWords, cardDue}
+use Rattle.card.specs.Calls.{called, cardAfter, latestNumber, latestCount, latestBy, StartRight, CardRight, Demand1Card, Demand2Card, Demand3Card, Demand4Card, NextDueCard}
 use Rattle.card.proofs.Ports.{port-written}
 use Rattle.card.proofs.Range.{On, Named, stepRead-readFor, sequence-named}
 
@@ -60,7 +65,7 @@ isSet-flag false = refl
 
 inputOf-flatInput : (input : Input) → inputOf (flatInput input) ≡ input
 unfolding inputOf flatInput
-inputOf-flatInput input = simp isSet-flag
+inputOf-flatInput input = rw (sym (kindArgument-back (input .settings .kind))) (simp isSet-flag)
 
 inputs-back : (inputs : List Input) → map inputOf (map flatInput inputs) ≡ inputs
 inputs-back [] = refl
@@ -79,6 +84,11 @@ unfolding selectionOf isSelected selectedNumber
 selectionOf-back S.Nothing inside = refl
 selectionOf-back (S.At number) inside = rw (le-ltb lastInput (number .0) (omega arith))
 
+profileIn-back : (profile : Profile) → profileIn (optionOf profile) (placeOf profile) (marksOf profile) ≡ profile
+unfolding profileIn optionOf placeOf marksOf
+profileIn-back P.OptionOne = refl
+profileIn-back (P.OptionTwo place marks) = refl
+
 -- A selector as a card and back is that selector, whatever is answered beside it.
 pub selectorOf-cardOf : (number count : ℕ) (state : Selector) → Named state
     → selectorOf (cardOf number count state) ≡ state
@@ -88,6 +98,7 @@ selectorOf-cardOf number count state named =
       inputs-back (state .inputs),
       switchOf-back (state .switch) (named .switch),
       selectionOf-back (state .selection) (named .selection),
+      profileIn-back (state .profile),
       isSet-flag (state .mode),
       isSet-flag (state .held),
     )
@@ -97,6 +108,31 @@ pub selectorOf-withNumber : (card : Card) (number count : ℕ)
     → selectorOf (withNumber card number count) ≡ selectorOf card
 unfolding selectorOf
 selectorOf-withNumber card number count = refl
+
+-- ---- a start
+
+-- the number of a start, of the numbers that C gives
+startNumber-refused : (option place marks : ℕ) → option ≡ optionTwo → lastPlace < place
+    → startNumber (profileIn option place marks) ≡ argumentOutOfRange
+unfolding startNumber placeOf profileIn
+startNumber-refused option place marks two above = rw (eq-eqb option optionTwo two, lt-ltb lastPlace place above)
+
+startNumber-starts : (option place marks : ℕ) → (option ≡ optionTwo → place ≤ lastPlace)
+    → startNumber (profileIn option place marks) ≡ accepted
+unfolding startNumber placeOf profileIn
+startNumber-starts option place marks within =
+    byBool (eqb option optionTwo)
+    (λ two. rw (two, le-ltb lastPlace place (within (eqb-true option optionTwo two))))
+    (λ other. rw other)
+
+-- L10 in C's hands: a place above 8 starts nothing, and any other start is where calls in a row begin.
+pub start-right : (card : Card) (option place marks : ℕ) → StartRight card option place marks
+unfolding startCard cardAfter
+start-right card option place marks =
+    record {
+      refused = λ two above. rw (startNumber-refused option place marks two above);
+      starts = λ within. rw (startNumber-starts option place marks within);
+    }
 
 -- ---- calls in a row
 
@@ -113,8 +149,8 @@ called-cardOf number count state given named =
 cardAfter-whole : (sequence : Sequence)
     → cardAfter sequence ≡ cardOf (latestNumber sequence) (latestCount sequence) (stateAfter sequence)
 unfolding cardAfter stateAfter numberAfter countAfter latestNumber latestCount freshCard
-cardAfter-whole [] = refl
-cardAfter-whole (given ∷ earlier) =
+cardAfter-whole (started profile) = refl
+cardAfter-whole (given following earlier) =
     ap (λ (card : Card). called card given) (cardAfter-whole earlier)
     ∙ called-cardOf _ _ (stateAfter earlier) given (sequence-named earlier)
 
@@ -129,13 +165,14 @@ cardAfter-answer sequence = ap (λ (card : Card). card .answer) (cardAfter-whole
 
 -- Calls in a row are steps in a row.
 pub card-right : (sequence : Sequence) → CardRight sequence
-unfolding cardCodes
+unfolding cardCodes cardWords
 card-right sequence =
     record {
       state = cardAfter-state sequence;
       whole = cardAfter-whole sequence;
       answer = cardAfter-answer sequence;
       codes = ap outgoingCodes (cardAfter-state sequence);
+      words = ap outgoingWords (cardAfter-state sequence);
     }
 
 -- another number beside the same selector
@@ -153,12 +190,12 @@ withNumber-after sequence number count =
 
 module _ (sequence : Sequence) (given : Given) where
   -- one more call
-  cardAfter-call : cardAfter (given ∷ sequence)
-      ≡ cardOf (numberAfter given sequence) (countAfter given sequence) (stateAfter (given ∷ sequence))
+  cardAfter-call : cardAfter (given following sequence)
+      ≡ cardOf (numberAfter given sequence) (countAfter given sequence) (stateAfter (given following sequence))
   unfolding latestNumber latestCount
-  cardAfter-call = cardAfter-whole (given ∷ sequence)
+  cardAfter-call = cardAfter-whole (given following sequence)
 
-  cardAfter-served : cardAfter (given ∷ sequence) .served ≡ countAfter given sequence
+  cardAfter-served : cardAfter (given following sequence) .served ≡ countAfter given sequence
   unfolding cardOf
   cardAfter-served = ap (λ (card : Card). card .served) cardAfter-call
 
@@ -168,18 +205,18 @@ unfolding cardOf answerOf
 demand-1-card sequence given =
     let demand1 = demand-1-events sequence given in
     let demand4 = demand-4 sequence given in
-    let ticked = tickAt (given .event .time) ∷ sequence in
+    let ticked = tickAt (given .event .time) following sequence in
     record {
       number = ap (λ (card : Card). card .answer .number) (cardAfter-call sequence given);
       demand1 = demand1;
       before = λ low.
           cardAfter-call sequence given
-          ∙ ap (λ (count : ℕ). cardOf (numberAfter given sequence) count (stateAfter (given ∷ sequence))) (demand4 .none low)
+          ∙ ap (λ (count : ℕ). cardOf (numberAfter given sequence) count (stateAfter (given following sequence))) (demand4 .none low)
           ∙ ap (cardOf (numberAfter given sequence) 0) (demand1 .before low .0)
           ∙ sym (withNumber-after sequence (numberAfter given sequence) 0);
       after = λ high.
           cardAfter-call sequence given
-          ∙ ap (λ (count : ℕ). cardOf (numberAfter given sequence) count (stateAfter (given ∷ sequence)))
+          ∙ ap (λ (count : ℕ). cardOf (numberAfter given sequence) count (stateAfter (given following sequence)))
           (demand4 .ticks (λ low. omega (arith, low .most, high .least))
           ∙ sym (cardAfter-served sequence (tickAt (given .event .time))))
           ∙ ap (cardOf (numberAfter given sequence) (cardAfter ticked .served)) (demand1 .after high .0)
@@ -187,8 +224,8 @@ demand-1-card sequence given =
       taken = λ none.
           ap (λ (card : Card). card .answer) (cardAfter-call sequence given)
           ∙ ap flatAnswer
-          (ap (λ (number : ℕ). answerOf number (stateAfter (given ∷ sequence))) none
-          ∙ demand-2-answers (given ∷ sequence) .answer accepted
+          (ap (λ (number : ℕ). answerOf number (stateAfter (given following sequence))) none
+          ∙ demand-2-answers (given following sequence) .answer accepted
           ∙ ap (answerBy accepted) (demand1 .taken none));
     }
 
@@ -196,15 +233,15 @@ demand-1-card sequence given =
 
 latestNumber-by : (sequence : Sequence) → latestNumber sequence ≡ latestBy sequence
 unfolding latestNumber latestBy
-latestNumber-by [] = refl
-latestNumber-by (given ∷ earlier) = happened earlier .number given
+latestNumber-by (started profile) = refl
+latestNumber-by (given following earlier) = happened earlier .number given
 
 cardAfter-codes : (sequence : Sequence) → outgoingCodes (selectorOf (cardAfter sequence)) ≡ codesBy (pastOf sequence)
 cardAfter-codes sequence = ap outgoingCodes (cardAfter-state sequence) ∙ demand-2-answers sequence .outgoing
 
 -- DEMAND 2 in C's hands, after every sequence of calls.
 pub demand-2-card : (sequence : Sequence) → Demand2Card sequence
-unfolding cardCodes
+unfolding cardCodes cardWords
 demand-2-card sequence =
     record {
       answer =
@@ -213,6 +250,7 @@ demand-2-card sequence =
           (demand-2-answers sequence .answer (latestNumber sequence)
           ∙ ap (λ (number : ℕ). answerBy number (pastOf sequence)) (latestNumber-by sequence));
       codes = cardAfter-codes sequence;
+      words = ap outgoingWords (cardAfter-state sequence) ∙ demand-2-answers sequence .words;
       frame = λ port event source before answer after write accepts.
           let written = port-written (cardAfter sequence) port event source before answer after write accepts in
           written .1
@@ -247,7 +285,7 @@ demand-3-card sequence =
 module _ (sequence : Sequence) (time : ℕ) (later : stateAfter sequence .time ≤ time) (below : time < timeLimit)
     (before : time < nextDue (stateAfter sequence)) where
   -- before it a tick moves the time alone
-  moved : stateAfter (tickAt time ∷ sequence) ≡ movedTo (stateAfter sequence) (stateAfter sequence .inputs) time
+  moved : stateAfter (tickAt time following sequence) ≡ movedTo (stateAfter sequence) (stateAfter sequence .inputs) time
   moved =
       let state = stateAfter sequence in
       let here : state .time + (time - state .time) ≡ time = omega arith in
@@ -260,15 +298,15 @@ module _ (sequence : Sequence) (time : ℕ) (later : stateAfter sequence .time �
   unfolding numberAfter
   accepts =
       ap (λ (after : Stepped). after .number)
-      (step-accepted (stateAfter sequence) (tickEvent time) []
+      (step-accepted (stateAfter sequence) (tickAt time .event) []
       (tick-early (stateAfter sequence) time (readCode []) later below)
       (sym (lateRefusal-other _ _ _ _ (λ k. omega arith) (λ k. omega arith))))
 
-  quiet-answer : cardAfter (tickAt time ∷ sequence) .answer ≡ withNumber (cardAfter sequence) accepted 0 .answer
+  quiet-answer : cardAfter (tickAt time following sequence) .answer ≡ withNumber (cardAfter sequence) accepted 0 .answer
   unfolding answerOf latestNumber
   quiet-answer =
-      cardAfter-answer (tickAt time ∷ sequence)
-      ∙ ap (λ (number : ℕ). flatAnswer (answerOf number (stateAfter (tickAt time ∷ sequence)))) accepts
+      cardAfter-answer (tickAt time following sequence)
+      ∙ ap (λ (number : ℕ). flatAnswer (answerOf number (stateAfter (tickAt time following sequence)))) accepts
       ∙ ap (λ (state : Selector). flatAnswer (answerOf accepted state)) moved
       ∙ sym
       (ap
@@ -282,17 +320,25 @@ module _ (sequence : Sequence) (time : ℕ) (later : stateAfter sequence .time �
       })
       (cardAfter-answer sequence))
 
-  quiet-codes : outgoingCodes (selectorOf (cardAfter (tickAt time ∷ sequence))) ≡
+  quiet-codes : outgoingCodes (selectorOf (cardAfter (tickAt time following sequence))) ≡
       outgoingCodes (selectorOf (cardAfter sequence))
   unfolding outgoingCodes
   quiet-codes =
-      ap outgoingCodes (cardAfter-state (tickAt time ∷ sequence))
+      ap outgoingCodes (cardAfter-state (tickAt time following sequence))
       ∙ ap outgoingCodes moved
       ∙ sym (ap outgoingCodes (cardAfter-state sequence))
 
+  quiet-words : outgoingWords (selectorOf (cardAfter (tickAt time following sequence))) ≡
+      outgoingWords (selectorOf (cardAfter sequence))
+  unfolding outgoingWords
+  quiet-words =
+      ap outgoingWords (cardAfter-state (tickAt time following sequence))
+      ∙ ap outgoingWords moved
+      ∙ sym (ap outgoingWords (cardAfter-state sequence))
+
 -- L3 in C's hands, after every sequence of calls.
 pub next-due-card : (sequence : Sequence) → NextDueCard sequence
-unfolding cardDue cardCodes
+unfolding cardDue cardCodes cardWords
 next-due-card sequence =
     let due : nextDue (selectorOf (cardAfter sequence)) ≡ nextDue (stateAfter sequence) =
     ap nextDue (cardAfter-state sequence) in
@@ -301,4 +347,6 @@ next-due-card sequence =
       answer = λ time later below before. quiet-answer sequence time later below (omega (arith, due));
       codes = λ time later below before.
           ap (λ (codes : List ℕ). record { codes = codes }) (quiet-codes sequence time later below (omega (arith, due)));
+      words = λ time later below before.
+          ap (λ (words : List ℕ). record { words = words }) (quiet-words sequence time later below (omega (arith, due)));
     }

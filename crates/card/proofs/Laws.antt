@@ -2,18 +2,25 @@
 use Prim.Native.Nat.{ℕ, _≤_, _<_}
 use mathlib.Core.Bool.{Bool}
 use mathlib.Core.List.{List, map}
-use mathlib.Core.Path.{_≡_, sym, _∙_}
+use mathlib.Core.Path.{_≡_, sym, _∙_, ap}
 use lib.ListN.{getD}
 use borrow.Author.Tests.{eq-eqb, ne-eqb, lt-ltb, le-ltb}
 use Rattle.numbers.specs.declared.Answer.{Answer}
+use Rattle.numbers.specs.declared.InputKind.{InputKind}
+use Rattle.numbers.specs.declared.InputKind.the-variants as N
 use Rattle.numbers.specs.declared.InputNumber.{InputNumber}
-use Rattle.numbers.specs.Kind.{flag, kindFrame}
-use Rattle.numbers.specs.Refusal.{inputOutOfRange}
+use Rattle.numbers.specs.declared.Profile.{Profile}
+use Rattle.numbers.specs.declared.Profile.the-variants as P
+use Rattle.numbers.specs.Kind.{flag, kindFrame, inputKindOf, kindArgument}
+use Rattle.numbers.specs.Quality.{quality}
+use Rattle.numbers.specs.Profile.{placeOf, marksOf, startNumber}
+use Rattle.numbers.specs.Refusal.{accepted, inputOutOfRange}
 use Rattle.frame.specs.declared.FrameRead.{FrameRead}
 use Rattle.frame.specs.declared.FrameRead.the-variants.{Code}
 use Rattle.frame.specs.declared.FrameWrite.{FrameWrite}
 use Rattle.frame.specs.Read.{readCode}
 use Rattle.frame.specs.Write.{WriteFrame}
+use Rattle.input.specs.declared.Input.{Input}
 use Rattle.choice.specs.declared.Selection.{Selection}
 use Rattle.choice.specs.declared.Selection.the-variants as S
 use Rattle.decision.specs.declared.Switch.the-variants as W
@@ -23,8 +30,8 @@ use Rattle.selector.specs.Answer.{answerOf, outgoingCodes}
 use Rattle.numbers.specs.Inputs.{lastInput}
 use Rattle.card.specs.declared.Card.{Card}
 use Rattle.card.specs.declared.CardInput.{CardInput}
-use Rattle.card.specs.Flat.{flatInput, flatAnswer, switchOf, selectionOf, isSelected, selectorOf, cardOf}
-use Rattle.card.specs.Card.{readFor, portCode, numberOfWrite, WritePort}
+use Rattle.card.specs.Flat.{isSet, inputOf, flatInput, flatAnswer, switchOf, selectionOf, isSelected, optionTwo, profileIn, optionOf, selectorOf, cardOf, withNumber}
+use Rattle.card.specs.Card.{freshCard, startCard, readFor, portCode, numberOfWrite, WritePort}
 
 -- ---- switchOf
 
@@ -79,11 +86,118 @@ module _ (selection : Selection) where
 
 pub ruleset isSelected-laws = (isSelected-nothing, isSelected-at)
 
+-- ---- inputOf, flatInput
+
+-- an input of its numbers, of its kind
+abbrev pub inputWith : InputKind → CardInput → Input
+inputWith kind flat =
+    record {
+      heard =
+          record {
+            framed = flat .framed;
+            frame = quality (flat .frame);
+            line = quality (flat .line);
+            last = flat .last;
+            count = flat .count;
+            good = isSet (flat .signal);
+          };
+      run =
+          record {
+            start = flat .start;
+            good = quality (flat .good);
+            failed = isSet (flat .failed);
+            up = isSet (flat .up);
+          };
+      settings =
+          record {
+            holdoff = flat .holdoff;
+            wait = flat .wait;
+            priority = record { 0 = flat .priority };
+            fixed = quality (flat .fixed);
+            floor = flat .floor;
+            kind = kind;
+            locked = isSet (flat .locked);
+            sending = isSet (flat .sending);
+          };
+    }
+
+pub inputOf-with : (flat : CardInput) (kind : InputKind) → kind ≡ inputKindOf (flat .kind)
+    → inputWith kind flat ≡ inputOf flat
+unfolding inputOf
+inputOf-with flat kind k = rw k
+
+-- the numbers of an input, of its kind's
+abbrev pub flatWith : ℕ → Input → CardInput
+flatWith kind input =
+    record {
+      framed = input .heard .framed;
+      start = input .run .start;
+      holdoff = input .settings .holdoff;
+      wait = input .settings .wait;
+      priority = input .settings .priority .0;
+      fixed = input .settings .fixed .0;
+      kind = kind;
+      locked = flag (input .settings .locked);
+      sending = flag (input .settings .sending);
+      frame = input .heard .frame .0;
+      line = input .heard .line .0;
+      count = input .heard .count;
+      signal = flag (input .heard .good);
+      good = input .run .good .0;
+      failed = flag (input .run .failed);
+      up = flag (input .run .up);
+      floor = input .settings .floor;
+      last = input .heard .last;
+      spare2 = 0;
+      spare4 = 0;
+    }
+
+pub flatInput-with : (input : Input) (kind : ℕ) → kind ≡ kindArgument (input .settings .kind)
+    → flatWith kind input ≡ flatInput input
+unfolding flatInput
+flatInput-with input kind k = rw k
+
+-- ---- kindArgument, profileIn, optionOf
+
+module _ (kind : InputKind) where
+  pub kindArgument-line : kind ≡ N.Line → 0 ≡ kindArgument kind
+  kindArgument-line e = rw e
+
+  pub kindArgument-ethernet : kind ≡ N.Ethernet → 1 ≡ kindArgument kind
+  kindArgument-ethernet e = rw e
+
+  pub kindArgument-words : kind ≡ N.Words → 2 ≡ kindArgument kind
+  kindArgument-words e = rw e
+
+pub ruleset kindArgument-laws = (kindArgument-line, kindArgument-ethernet, kindArgument-words)
+
+module _ (option place marks : ℕ) where
+  pub profileIn-two : option ≡ optionTwo → P.OptionTwo place marks ≡ profileIn option place marks
+  unfolding profileIn
+  profileIn-two e = rw (eq-eqb _ _ e)
+
+  pub profileIn-one : (option ≡ optionTwo → ⊥) → P.OptionOne ≡ profileIn option place marks
+  unfolding profileIn
+  profileIn-one n = rw (ne-eqb _ _ n)
+
+pub ruleset profileIn-laws = (profileIn-two, profileIn-one)
+
+module _ (profile : Profile) where
+  pub optionOf-one : profile ≡ P.OptionOne → 1 ≡ optionOf profile
+  unfolding optionOf
+  optionOf-one e = rw e
+
+  pub optionOf-two : (place marks : ℕ) → profile ≡ P.OptionTwo place marks → 2 ≡ optionOf profile
+  unfolding optionOf
+  optionOf-two place marks e = rw e
+
+pub ruleset optionOf-laws = (optionOf-one, optionOf-two)
+
 -- ---- cardOf
 
--- the card of a selector, of its inputs' numbers and its answer
-abbrev pub cardWith : List CardInput → ℕ → Answer → ℕ → Selector → Card
-cardWith flat selection answer count state =
+-- the card of a selector, of its inputs' numbers, its answer and its profile's numbers
+abbrev pub cardWith : List CardInput → ℕ → Answer → ℕ → ℕ → ℕ → ℕ → Selector → Card
+cardWith flat selection answer count option place marks state =
     record {
       inputs = flat;
       time = state .time;
@@ -95,13 +209,39 @@ cardWith flat selection answer count state =
       selected = answer .selected;
       answer = flatAnswer answer;
       served = count;
+      option = option;
+      place = place;
+      marks = marks;
+      spare = 0;
     }
 
 pub cardOf-answered : (number count : ℕ) (state : Selector) (flat : List CardInput) (selection : ℕ) (answer : Answer)
+    (option place marks : ℕ)
     → flat ≡ map flatInput (state .inputs) → selection ≡ isSelected (state .selection) → answer ≡ answerOf number state
-    → cardWith flat selection answer count state ≡ cardOf number count state
+    → option ≡ optionOf (state .profile) → place ≡ placeOf (state .profile) → marks ≡ marksOf (state .profile)
+    → cardWith flat selection answer count option place marks state ≡ cardOf number count state
 unfolding cardOf answerOf
-cardOf-answered number count state flat selection answer f s a = rw (f, s, a)
+cardOf-answered number count state flat selection answer option place marks f s a o p m = rw (f, s, a, o, p, m)
+
+-- ---- startCard
+
+module _ (card : Card) (option place marks : ℕ) (profile : Profile) (number : ℕ) where
+  pub startCard-fresh : (new : Card) → profile ≡ profileIn option place marks → number ≡ startNumber profile
+      → number ≡ accepted → new ≡ freshCard profile
+      → new ≡ startCard card option place marks
+  unfolding startCard
+  startCard-fresh new p n a f =
+      f ∙ (rw p (rw (eq-eqb (startNumber (profileIn option place marks)) accepted (sym (n ∙ ap startNumber p) ∙ a))))
+
+  pub startCard-refused : (kept : Card) → profile ≡ profileIn option place marks → number ≡ startNumber profile
+      → (number ≡ accepted → ⊥) → kept ≡ withNumber card number 0
+      → kept ≡ startCard card option place marks
+  unfolding startCard
+  startCard-refused kept p n a k =
+      k ∙ ap (λ (given : ℕ). withNumber card given 0) (n ∙ ap startNumber p)
+      ∙ (rw (ne-eqb (startNumber (profileIn option place marks)) accepted (λ e. a (n ∙ ap startNumber p ∙ e))))
+
+pub ruleset startCard-laws = (startCard-fresh, startCard-refused)
 
 -- ---- readFor
 

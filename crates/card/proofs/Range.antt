@@ -1,7 +1,7 @@
 -- The inputs that a selector names stay among the sixteen, so that C may index by what it reads. Assumes nothing.
 use Prim.Native.Nat.{ℕ, zero, suc, _≤_, _<_, _+_}
 use mathlib.Core.Bool.{Bool, true, false, cond}
-use mathlib.Core.List.{List, [], _∷_}
+use mathlib.Core.List.{List}
 use mathlib.Core.Logic.{_⊎_, inl, inr, _≢_}
 use mathlib.Core.Path.{_≡_, refl, sym, _∙_, ap, subst}
 use native.Mathlib.Omega.{arith}
@@ -9,6 +9,9 @@ use lib.Dec.{eqb, leb, ltb}
 use borrow.Author.Tests.{ltb-false, ne-eqb}
 use Rattle.numbers.specs.declared.Event.{Event}
 use Rattle.numbers.specs.declared.InputNumber.{InputNumber}
+use Rattle.numbers.specs.Recorded.{Recorded}
+use Rattle.numbers.specs.From.{started, _following_}
+use Rattle.numbers.specs.Profile.{limitsOf}
 use Rattle.numbers.specs.Inputs.{lastInput, inputCount}
 use Rattle.numbers.specs.Kind.{kindFrame, kindForced, kindManual, kindClearSwitch}
 use Rattle.numbers.specs.Refusal.{accepted}
@@ -34,7 +37,7 @@ use Rattle.due.specs.Served.{served, servedFrom, ticked}
 use Rattle.events.specs.declared.Stepped.{Stepped}
 use Rattle.events.specs.Given.{Given, Sequence}
 use Rattle.events.specs.Refusals.{frameRefusal, earlyRefusal}
-use Rattle.events.specs.Step.{recordedArgument, recordedEvent, eventTaken, placed, ethernetAt, earlyNumber, lateNumber, stepRead, step}
+use Rattle.events.specs.Step.{recordedArgument, recordedEvent, eventTaken, placed, kindAt, earlyNumber, lateNumber, stepRead, step}
 use Rattle.events.specs.Sequence.{stateAfter}
 use Rattle.events.proofs.Refused.{accepted-input}
 use Rattle.events.proofs.Calm.{accepted-or-not, stepRead-refused, stepRead-barred, stepRead-taken}
@@ -115,13 +118,13 @@ selectedBy-inside candidates (W.Manual number) before on = on
 decided-named : (state : Selector) → On (state .switch) → Named (decided state)
 unfolding decided decide
 decided-named state on =
-    let stands : On (judged (candidatesOf (state .inputs) (state .mode)) (state .switch)) =
-    judged-on (candidatesOf (state .inputs) (state .mode)) (state .switch) on in
+    let stands : On (judged (candidatesOf (state .profile) (state .inputs) (state .mode)) (state .switch)) =
+    judged-on (candidatesOf (state .profile) (state .inputs) (state .mode)) (state .switch) on in
     record {
       switch = stands;
       selection =
-          selectedBy-inside (candidatesOf (state .inputs) (state .mode))
-          (judged (candidatesOf (state .inputs) (state .mode)) (state .switch))
+          selectedBy-inside (candidatesOf (state .profile) (state .inputs) (state .mode))
+          (judged (candidatesOf (state .profile) (state .inputs) (state .mode)) (state .switch))
           (state .selection)
           stands;
     }
@@ -158,7 +161,7 @@ commanded-on kind number switch few on = go (eqb kind kindForced) (eqb kind kind
     go false false true = tt
     go false false false = on
 
-placed-named : (state : Selector) (event : Event) → event .input < inputCount → Named state → Named (placed state event)
+placed-named : (state : Selector) (event : Recorded) → event .input < inputCount → Named state → Named (placed state event)
 unfolding placed
 placed-named state event few named =
     decided-named (eventTaken state event) (commanded-on (event .kind) (event .input) (state .switch) few (named .switch))
@@ -170,8 +173,8 @@ stepRead-named state event read named =
     accepted-or-not (earlyNumber state event read)
     (λ none. accepted-or-not (lateNumber (ticked state (event .time)) event)
     (λ later. subst (λ (after : Stepped). Named (after .state)) (sym (stepRead-taken state event read none later))
-    (placed-named (ticked state (event .time)) (recordedEvent event read)
-    (accepted-input (state .time) (ethernetAt (state .inputs) (event .input)) event read none)
+    (placed-named (ticked state (event .time)) (recordedEvent (ticked state (event .time) .profile) event read)
+    (accepted-input (limitsOf (state .profile)) (state .time) (kindAt (state .inputs) (event .input)) event read none)
     (ticked-named state (event .time) named)))
     (λ given. subst (λ (after : Stepped). Named (after .state)) (sym (stepRead-barred state event read none given))
     (ticked-named state (event .time) named)))
@@ -180,8 +183,8 @@ stepRead-named state event read named =
 -- After any sequence of events.
 pub sequence-named : (sequence : Sequence) → Named (stateAfter sequence)
 unfolding stateAfter step
-sequence-named [] = record { switch = tt; selection = tt }
-sequence-named (given ∷ earlier) =
+sequence-named (started profile) = record { switch = tt; selection = tt }
+sequence-named (given following earlier) =
     stepRead-named (stateAfter earlier) (given .event) (readCode (given .frame)) (sequence-named earlier)
 
 -- ---- what C reads
@@ -215,7 +218,7 @@ cardOf-inRange number count state named =
     record {
       selected = selected-input (state .selection) (named .selection);
       on = switch-input (state .switch) (named .switch);
-      state = clockState-most (selectedCandidate (state .inputs) (state .mode) (state .selection) .usable) (state .held);
+      state = clockState-most (selectedCandidate (state .profile) (state .inputs) (state .mode) (state .selection) .usable) (state .held);
       switch = switch-kind (state .switch);
     }
 

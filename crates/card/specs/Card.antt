@@ -7,8 +7,10 @@ use mathlib.Core.List.{List}
 use mathlib.Core.Path.{_≡_}
 use lib.Dec.{eqb, ltb}
 use Rattle.numbers.specs.declared.Event.{Event}
+use Rattle.numbers.specs.declared.Profile.{Profile}
 use Rattle.numbers.specs.Inputs.{lastInput}
 use Rattle.numbers.specs.Kind.{flag, kindFrame}
+use Rattle.numbers.specs.Profile.{startNumber}
 use Rattle.numbers.specs.Refusal.{accepted, inputOutOfRange}
 use Rattle.frame.specs.declared.FrameMessage.{FrameMessage}
 use Rattle.frame.specs.declared.FrameRead.{FrameRead}
@@ -18,7 +20,7 @@ use Rattle.frame.specs.declared.FrameWrite.the-variants.{Written, Refused}
 use Rattle.frame.specs.Read.{numberOfRead, codeOfRead, readCode, readFrame}
 use Rattle.frame.specs.Write.{writeAnswer, contentAfter}
 use Rattle.selector.specs.State.{freshSelector}
-use Rattle.selector.specs.Answer.{outgoingCodes}
+use Rattle.selector.specs.Answer.{outgoingCodes, outgoingWords}
 use Rattle.events.specs.declared.Stepped.{Stepped}
 use Rattle.due.specs.Next.{nextDue}
 use Rattle.events.specs.Step.{stepRead}
@@ -26,23 +28,30 @@ use Rattle.sender.specs.Heartbeat.{codeOfPort}
 use Rattle.card.specs.declared.Card.{Card}
 use Rattle.card.specs.declared.CardCodes.{CardCodes}
 use Rattle.card.specs.declared.CardFrame.{CardFrame}
-use Rattle.card.specs.Flat.{selectorOf, cardOf}
+use Rattle.card.specs.declared.CardWords.{CardWords}
+use Rattle.card.specs.Flat.{profileIn, selectorOf, cardOf, withNumber}
 
 -- the header's version
 abbrev pub version : ℕ
-version = 1
+version = 2
 
 -- how long a card is in C
 abbrev pub cardOctets : ℕ
-cardOctets = 664
+cardOctets = 672
 
 -- how long the senders are in C
 abbrev pub sendersOctets : ℕ
 sendersOctets = 1544
 
--- "The selector starts at time 0, quality mode on, no switch, nothing selected"
-unfoldable pub freshCard : Card
-freshCard = cardOf accepted 0 freshSelector
+-- "The selector starts at time 0, quality mode on, no switch, nothing selected"; "A profile chosen once"
+unfoldable pub freshCard : Profile → Card
+freshCard profile = cardOf accepted 0 (freshSelector profile)
+
+-- document 02, L10: "otherwise refusal 6 and no start": a fresh card of the profile, or the card as it was with that number
+unfoldable pub startCard : Card → ℕ → ℕ → ℕ → Card
+startCard card option place marks =
+    let profile = profileIn option place marks in
+    cond (eqb (startNumber profile) accepted) (freshCard profile) (withNumber card (startNumber profile) 0)
 
 -- an event, of the numbers that C gives
 abbrev pub eventOf : ℕ → ℕ → ℕ → ℕ → Event
@@ -68,6 +77,10 @@ cardDue card = nextDue (selectorOf card)
 -- "Outgoing code, for each of the sixteen ports"
 unfoldable pub cardCodes : Card → CardCodes
 cardCodes card = record { codes = outgoingCodes (selectorOf card) }
+
+-- document 02, L12: the words of the sixteen ports, of a card of option II
+unfoldable pub cardWords : Card → CardWords
+cardWords card = record { words = outgoingWords (selectorOf card) }
 
 -- what reading answers, as numbers: document 02, L2
 abbrev pub flatMessage : FrameMessage → CardFrame

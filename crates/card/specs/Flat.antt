@@ -6,9 +6,12 @@ use mathlib.Core.List.{map}
 use lib.Dec.{eqb, ltb}
 use Rattle.numbers.specs.declared.Answer.{Answer}
 use Rattle.numbers.specs.declared.InputNumber.{InputNumber}
+use Rattle.numbers.specs.declared.Profile.{Profile}
+use Rattle.numbers.specs.declared.Profile.the-variants as P
 use Rattle.numbers.specs.Inputs.{lastInput}
 use Rattle.numbers.specs.Quality.{quality}
-use Rattle.numbers.specs.Kind.{flag}
+use Rattle.numbers.specs.Kind.{flag, inputKindOf, kindArgument}
+use Rattle.numbers.specs.Profile.{placeOf, marksOf}
 use Rattle.input.specs.declared.Input.{Input}
 use Rattle.choice.specs.declared.Selection.{Selection}
 use Rattle.choice.specs.declared.Selection.the-variants as S
@@ -34,7 +37,7 @@ inputOf flat =
             framed = flat .framed;
             frame = quality (flat .frame);
             line = quality (flat .line);
-            code = flat .code;
+            last = flat .last;
             count = flat .count;
             good = isSet (flat .signal);
           };
@@ -51,8 +54,8 @@ inputOf flat =
             wait = flat .wait;
             priority = record { 0 = flat .priority };
             fixed = quality (flat .fixed);
-            floor = quality (flat .floor);
-            ethernet = isSet (flat .ethernet);
+            floor = flat .floor;
+            kind = inputKindOf (flat .kind);
             locked = isSet (flat .locked);
             sending = isSet (flat .sending);
           };
@@ -68,19 +71,18 @@ flatInput input =
       wait = input .settings .wait;
       priority = input .settings .priority .0;
       fixed = input .settings .fixed .0;
-      ethernet = flag (input .settings .ethernet);
+      kind = kindArgument (input .settings .kind);
       locked = flag (input .settings .locked);
       sending = flag (input .settings .sending);
       frame = input .heard .frame .0;
       line = input .heard .line .0;
-      code = input .heard .code;
       count = input .heard .count;
       signal = flag (input .heard .good);
       good = input .run .good .0;
       failed = flag (input .run .failed);
       up = flag (input .run .up);
-      floor = input .settings .floor .0;
-      spare1 = 0;
+      floor = input .settings .floor;
+      last = input .heard .last;
       spare2 = 0;
       spare4 = 0;
     }
@@ -105,6 +107,22 @@ unfoldable pub isSelected : Selection → ℕ
 isSelected S.Nothing = 0
 isSelected (S.At number) = 1
 
+-- the options, as C numbers them
+abbrev pub optionOne : ℕ
+optionOne = 1
+
+abbrev pub optionTwo : ℕ
+optionTwo = 2
+
+-- document 02, L10: "Those marks and the place of PROV .. are given with the profile"; any number but 2 is option I
+unfoldable pub profileIn : ℕ → ℕ → ℕ → Profile
+profileIn option place marks = cond (eqb option optionTwo) (P.OptionTwo place marks) P.OptionOne
+
+-- the number of a profile's option
+unfoldable pub optionOf : Profile → ℕ
+optionOf P.OptionOne = optionOne
+optionOf (P.OptionTwo place marks) = optionTwo
+
 -- the selector that a card holds
 unfoldable pub selectorOf : Card → Selector
 selectorOf card =
@@ -113,6 +131,7 @@ selectorOf card =
       time = card .time;
       switch = switchOf (card .switch) (record { 0 = card .on });
       selection = selectionOf (card .selection) (record { 0 = card .selected });
+      profile = profileIn (card .option) (card .place) (card .marks);
       mode = isSet (card .mode);
       held = isSet (card .held);
     }
@@ -143,4 +162,36 @@ cardOf number count state =
       selected = selectedNumber (state .selection);
       answer = flatAnswer (answerOf number state);
       served = count;
+      option = optionOf (state .profile);
+      place = placeOf (state .profile);
+      marks = marksOf (state .profile);
+      spare = 0;
+    }
+
+-- a card with another number in its answer and another count of due moments, all else as it was
+abbrev pub withNumber : Card → ℕ → ℕ → Card
+withNumber card number count =
+    record {
+      inputs = card .inputs;
+      time = card .time;
+      mode = card .mode;
+      held = card .held;
+      switch = card .switch;
+      on = card .on;
+      selection = card .selection;
+      selected = card .selected;
+      answer =
+          record {
+            number = number;
+            selected = card .answer .selected;
+            state = card .answer .state;
+            quality = card .answer .quality;
+            switch = card .answer .switch;
+            on = card .answer .on;
+          };
+      served = count;
+      option = card .option;
+      place = card .place;
+      marks = card .marks;
+      spare = card .spare;
     }

@@ -3,21 +3,23 @@
 use crate::Card;
 use crate::CardCodes;
 use crate::CardFrame;
+use crate::CardWords;
 use crate::card_codes;
 use crate::card_due;
 use crate::card_frame;
-use crate::fresh_card;
+use crate::card_words;
+use crate::start_card;
 use crate::step_card;
 use crate::write_port;
 ghost use mathlib.Core.Path.{_≡_};
 ghost use Rattle.card.specs.Flat.{isSet};
-ghost use Rattle.card.specs.Card.{version, cardOctets, sendersOctets, freshCard, stepCard, cardCodes, cardDue, cardFrame, WritePort};
+ghost use Rattle.card.specs.Card.{version, cardOctets, sendersOctets, startCard, stepCard, cardCodes, cardWords, cardDue, cardFrame, WritePort};
 
 // Raised with each change of a struct, of a number or of what a function answers.
-const VERSION: u32 = 1;
+const VERSION: u32 = 2;
 
 // How long a card is in C.
-const CARD_OCTETS: u32 = 664;
+const CARD_OCTETS: u32 = 672;
 
 // How long the senders are in C.
 const SENDERS_OCTETS: u32 = 1_544;
@@ -46,12 +48,14 @@ pub extern "C" fn nurrispane_senders_octets() -> u32
     SENDERS_OCTETS
 }
 
-// Makes a card fresh, whatever it held.
+// Starts a card with a profile, whatever it held: it is fresh then. Option II with a place above 8 is
+// refused with 6, and nothing starts: the card is kept but for the number in its answer.
 #[no_mangle]
-pub extern "C" fn nurrispane_fresh(card: &mut Card)
-    ensures { λ _. ⌜ now (card .exit) ≡ freshCard ⌝ }
+pub extern "C" fn nurrispane_fresh(card: &mut Card, option: u8, place: u8, marks: u16)
+    ensures { λ _. ⌜ now (card .exit) ≡ startCard (now (card .entry)) option place marks ⌝ }
 {
-    let new = fresh_card();
+    let old = *card;
+    let new = start_card(old, option, place, marks);
     *card = new;
 }
 
@@ -92,6 +96,16 @@ pub extern "C" fn nurrispane_outgoing_codes(card: &Card, codes: &mut CardCodes)
     let held = *card;
     let new = card_codes(held);
     *codes = new;
+}
+
+// The words that go out of the sixteen ports, of a card of option II.
+#[no_mangle]
+pub extern "C" fn nurrispane_outgoing_words(card: &Card, words: &mut CardWords)
+    ensures { λ _. ⌜ now (words .exit) ≡ cardWords (now (card .entry)) ⌝ }
+{
+    let held = *card;
+    let new = card_words(held);
+    *words = new;
 }
 
 // Reads a lent frame: its code, its event flag and its source address, or the number of its

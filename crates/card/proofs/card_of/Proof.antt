@@ -11,14 +11,23 @@ flat-inputs-requires c κs = search needs
 answer-requires : tie.Need-answer-requires
 answer-requires c κs = search needs
 
-cast-t8 : tie.Need-cast-t8
-cast-t8 c = search needs
-
 cast-t9 : tie.Need-cast-t9
 cast-t9 c = search needs
 
+cast-t10 : tie.Need-cast-t10
+cast-t10 c = search needs
+
 is-selected-requires : tie.Need-is-selected-requires
 is-selected-requires c κs = search needs
+
+option-of-requires : tie.Need-option-of-requires
+option-of-requires c κs = search needs
+
+place-of-requires : tie.Need-place-of-requires
+place-of-requires c κs = search needs
+
+marks-of-requires : tie.Need-marks-of-requires
+marks-of-requires c κs = search needs
 
 returns : tie.Need-returns
 returns c = search cardOf-answered
@@ -26,4 +35,4 @@ returns c = search cardOf-answered
 pub card-of-spec : {M : Type 1} → statement M
 card-of-spec =
     tie.close
-    (tie.spec flat-inputs-requires answer-requires cast-t8 cast-t9 is-selected-requires returns)
+    (tie.spec flat-inputs-requires answer-requires cast-t9 cast-t10 is-selected-requires option-of-requires place-of-requires marks-of-requires returns)
