@@ -14,8 +14,12 @@ MARK = b"?"
 UNMARKED = b"x"
 
 Fact = collections.namedtuple(
-    "Fact", "time mode raw passed eligible timer frame signal ethernet priority locked floor"
+    "Fact", "time mode raw passed eligible timer frame signal kind priority locked floor"
 )
+
+# The kinds of input, by number, and what comes in there.
+KINDS = ("line", "Ethernet", "words")
+REPORTS = ("code", "frame", "word")
 
 # The names of a profile: those of its qualities by number, and what a code of four bits is called.
 Names = collections.namedtuple("Names", "qualities codes failed dnu invalid told")
@@ -97,7 +101,7 @@ def unfit(fact, brief=False):
             return "wait", "wait: " + left(fact, fact.timer, brief)
         if not fact.signal:
             return "failed", "failed: the signal is failing"
-        return "failed", "failed: no %s counts" % ("frame" if fact.ethernet else "code")
+        return "failed", "failed: no %s counts" % REPORTS[fact.kind]
     if fact.passed == NAMES.dnu:
         return "DNU", "%s can't be followed" % quality(fact.passed)
     if fact.passed == NAMES.invalid:

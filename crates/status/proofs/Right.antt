@@ -3,15 +3,15 @@ use Prim.Native.Nat.{ℕ, _<_}
 use mathlib.Core.Bool.{Bool, true, false, cond}
 use mathlib.Core.List.{List, [], _∷_}
 use mathlib.Core.Path.{_≡_, refl, sym, _∙_, ap}
-use lib.Dec.{eqb}
-use Rattle.numbers.specs.declared.Event.{Event}
+use Rattle.numbers.specs.Recorded.{Recorded}
+use Rattle.numbers.specs.From.{started, _following_, profileOf}
+use Rattle.numbers.specs.Profile.{limitsOf, floorIn}
 use Rattle.numbers.specs.Inputs.{inputCount, frameLife}
-use Rattle.numbers.specs.Kind.{kindFrame}
-use Rattle.numbers.specs.Quality.{codePrc, codeSsuA, codeSsuB, codeSec, codeDnu, isFailed, qualityOfCode}
+use Rattle.numbers.specs.Kind.{isFrame}
+use Rattle.numbers.specs.Quality.{isFailed}
 use Rattle.run.specs.declared.Run.{Run}
 use Rattle.run.specs.Moments.{holdoffAt, waitAt, fails}
 use Rattle.run.specs.Passed.{runBegan}
-use Rattle.run.proofs.Laws.{byBool}
 use Rattle.run.proofs.Kept.{defined, kept-defined}
 use Rattle.input.specs.declared.Heard.{Heard}
 use Rattle.input.specs.Recorded.{History, heard, lastArgument, modeOn, timeOf, momentOf, moments, Ordered, holdoffOf, waitOf}
@@ -23,47 +23,39 @@ use Rattle.selector.proofs.Ports.{getD-ports}
 use Rattle.events.specs.Sequence.{Sequence, stateAfter}
 use Rattle.events.specs.Past.{recorded}
 use Rattle.events.proofs.Agrees.{sequence-agrees, candidate-recorded}
+use Rattle.events.proofs.DueSame.{Told, AllTold, heard-told}
 use Rattle.status.specs.Status.{endAhead, timerBy, frameBy, statusBy}
 use Rattle.status.specs.Kept.{timerAhead, frameAhead, statusOf, inputStatus}
 use Rattle.status.specs.Right.{StatusRight}
 
 -- ---- the frame
 
--- no code says failed
-code-told : (code : ℕ) → isFailed (qualityOfCode code) ≡ false
-unfolding qualityOfCode
-code-told code =
-    byBool (eqb code codePrc) (λ a. rw a) (λ a.
-    byBool (eqb code codeSsuA) (λ b. rw (a, b)) (λ b.
-    byBool (eqb code codeSsuB) (λ c. rw (a, b, c)) (λ c.
-    byBool (eqb code codeSec) (λ d. rw (a, b, c, d)) (λ d.
-    byBool (eqb code codeDnu) (λ e. rw (a, b, c, d, e)) (λ e. rw (a, b, c, d, e))))))
-
-frame-same : (frames : List Event) (time : ℕ)
+-- no report says failed
+frame-same : (frames : List Recorded) (time : ℕ) → AllTold frames
     → cond (isFailed (frameSaid frames)) 0 (endAhead (frameTime frames) frameLife time) ≡ frameBy frames time
 unfolding frameSaid frameTime
-frame-same [] time = refl
-frame-same (report ∷ earlier) time = rw (code-told (report .argument))
+frame-same [] time told = refl
+frame-same (report ∷ earlier) time told = rw (told .0)
 
-frame-right : (number : ℕ) (history : History) (time : ℕ)
-    → frameAhead (recordAfter number history .heard) time ≡ frameBy (heard number kindFrame history) time
+frame-right : (number : ℕ) (history : History) (time : ℕ) → Told history
+    → frameAhead (recordAfter number history .heard) time ≡ frameBy (heard number isFrame history) time
 unfolding frameAhead heardBy
-frame-right number history time =
+frame-right number history time told =
     ap (λ (heard : Heard). cond (isFailed (heard .frame)) 0 (endAhead (heard .framed) frameLife time)) (heard-recalled number history) ∙
-    frame-same (heard number kindFrame history) time
+    frame-same (heard number isFrame history) time (heard-told number history told)
 
 -- ---- the timer
 
 -- the settings in force at the last moment
 holdoff-now : (number : ℕ) (history : History) → holdoffAt (moments number history) ≡ holdoffOf number history
 unfolding moments momentOf lastArgument
-holdoff-now number [] = refl
-holdoff-now number (event ∷ earlier) = refl
+holdoff-now number (started profile) = refl
+holdoff-now number (event following earlier) = refl
 
 wait-now : (number : ℕ) (history : History) → waitAt (moments number history) ≡ waitOf number history
 unfolding moments momentOf lastArgument
-wait-now number [] = refl
-wait-now number (event ∷ earlier) = refl
+wait-now number (started profile) = refl
+wait-now number (event following earlier) = refl
 
 either : (test : Bool) (start holdoff wait time : ℕ)
     → cond test (endAhead start holdoff time) (endAhead start wait time) ≡ endAhead start (cond test holdoff wait) time
@@ -89,10 +81,10 @@ timer-right number history time ordered =
 
 -- ---- all that is known
 
-status-recorded : (number : ℕ) (history : History) → Ordered history
-    → statusOf (recordAfter number history) (modeOn history) (timeOf history) ≡ statusBy history number
+status-recorded : (number : ℕ) (history : History) → Ordered history → Told history
+    → statusOf (profileOf history) (recordAfter number history) (modeOn history) (timeOf history) ≡ statusBy history number
 unfolding statusOf statusBy heardBy settingsBy
-status-recorded number history ordered = λ j.
+status-recorded number history ordered told = λ j.
     record {
       raw = sym (raw-recalled number history (timeOf history)) j;
       passed = passed-now number history ordered j;
@@ -102,12 +94,12 @@ status-recorded number history ordered = λ j.
           (settings-recalled number history)
           j);
       timer = timer-right number history (timeOf history) ordered j;
-      frame = frame-right number history (timeOf history) j;
+      frame = frame-right number history (timeOf history) told j;
       signal = heard-recalled number history j .good;
-      ethernet = settings-recalled number history j .ethernet;
+      kind = settings-recalled number history j .kind;
       priority = settings-recalled number history j .priority;
       locked = settings-recalled number history j .locked;
-      floor = settings-recalled number history j .floor;
+      floor = floorIn (limitsOf (profileOf history) .own) (settings-recalled number history j .floor);
     }
 
 -- WHAT IS KNOWN OF AN INPUT: after any sequence of events, it is what has happened.
@@ -119,9 +111,10 @@ status-right sequence = record { each = one }
     one number inside =
         let agrees = sequence-agrees sequence in
         rw (
+          agrees .profile,
           agrees .inputs,
           agrees .mode,
           agrees .time,
           getD-ports (λ (other : ℕ). recordAfter other (recorded sequence)) freshInput number inside,
         )
-        (status-recorded number (recorded sequence) (agrees .ordered))
+        (status-recorded number (recorded sequence) (agrees .ordered) (agrees .told))

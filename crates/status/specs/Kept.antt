@@ -3,7 +3,9 @@
 use Prim.Native.Nat.{ℕ}
 use mathlib.Core.Bool.{Bool, cond}
 use lib.ListN.{getD}
+use Rattle.numbers.specs.declared.Profile.{Profile}
 use Rattle.numbers.specs.Inputs.{frameLife}
+use Rattle.numbers.specs.Profile.{limitsOf, floorIn}
 use Rattle.numbers.specs.Quality.{isFailed}
 use Rattle.run.specs.declared.Forecast.{Forecast}
 use Rattle.run.specs.declared.Run.{Run}
@@ -22,26 +24,26 @@ unfoldable pub timerAhead : Run → Forecast → ℕ → ℕ
 timerAhead run forecast time =
     cond (run .failed) (endAhead (run .start) (forecast .holdoff) time) (endAhead (run .start) (forecast .wait) time)
 
--- the last frame heard; its quality is 7 where none was
+-- the last frame heard; its quality is failed where none was
 unfoldable pub frameAhead : Heard → ℕ → ℕ
 frameAhead heard time = cond (isFailed (heard .frame)) 0 (endAhead (heard .framed) frameLife time)
 
--- an input's record at a time, in a quality mode
-unfoldable pub statusOf : Input → Bool → ℕ → Status
-statusOf input mode time =
+-- an input's record at a time, in a profile and a quality mode
+unfoldable pub statusOf : Profile → Input → Bool → ℕ → Status
+statusOf profile input mode time =
     record {
       raw = rawAt (forecast input mode) time;
       passed = passedOf input;
-      eligible = isEligible (candidateFor mode input);
+      eligible = isEligible (candidateFor profile mode input);
       timer = timerAhead (input .run) (forecast input mode) time;
       frame = frameAhead (input .heard) time;
       signal = input .heard .good;
-      ethernet = input .settings .ethernet;
+      kind = input .settings .kind;
       priority = input .settings .priority;
       locked = input .settings .locked;
-      floor = input .settings .floor;
+      floor = floorIn (limitsOf profile .own) (input .settings .floor);
     }
 
 -- an input of a state, at the state's time
 abbrev pub inputStatus : Selector → ℕ → Status
-inputStatus state number = statusOf (getD (state .inputs) number freshInput) (state .mode) (state .time)
+inputStatus state number = statusOf (state .profile) (getD (state .inputs) number freshInput) (state .mode) (state .time)

@@ -4,13 +4,12 @@ use Prim.Native.Nat.{ℕ}
 use mathlib.Core.Bool.{cond}
 use mathlib.Core.List.{List, [], _∷_}
 use lib.Dec.{ltb}
-use Rattle.numbers.specs.declared.Event.{Event}
+use Rattle.numbers.specs.Recorded.{Recorded}
 use Rattle.numbers.specs.Inputs.{frameLife}
-use Rattle.numbers.specs.Kind.{kindFrame}
-use Rattle.numbers.specs.Quality.{quality}
+use Rattle.numbers.specs.Kind.{isFrame}
 use Rattle.run.specs.Moments.{Moments, holdoffAt, waitAt, fails}
 use Rattle.run.specs.Passed.{runBegan}
-use Rattle.input.specs.Recorded.{History, signalGood, isEthernet, priorityOf, isLockedOut, floorOf, heard, moments, timeOf, rawQualityAt, passedAt}
+use Rattle.input.specs.Recorded.{History, signalGood, inputKind, priorityOf, isLockedOut, floorOf, heard, moments, timeOf, rawQualityAt, passedAt}
 use Rattle.choice.specs.Candidate.{isEligible}
 use Rattle.due.specs.Next.{sumOrNever}
 use Rattle.events.specs.Past.{candidateBy}
@@ -26,11 +25,11 @@ abbrev pub timerBy : Moments → ℕ → ℕ
 timerBy moments time = endAhead (runBegan moments) (cond (fails moments) (holdoffAt moments) (waitAt moments)) time
 
 -- "a frame expires whatever the mode or fixed quality": 5,000 ms after the last frame heard came; 0 where none was
-abbrev pub frameBy : List Event → ℕ → ℕ
+abbrev pub frameBy : List Recorded → ℕ → ℕ
 frameBy [] time = 0
 frameBy (report ∷ earlier) time = endAhead (report .time) frameLife time
 
--- an input after the recorded events, at the time of the last of them
+-- an input after the recorded events, at the time of the last of them, in the profile of their start
 unfoldable pub statusBy : History → ℕ → Status
 statusBy history number =
     record {
@@ -38,10 +37,10 @@ statusBy history number =
       passed = passedAt number history (timeOf history);
       eligible = isEligible (candidateBy history (timeOf history) number);
       timer = timerBy (moments number history) (timeOf history);
-      frame = frameBy (heard number kindFrame history) (timeOf history);
+      frame = frameBy (heard number isFrame history) (timeOf history);
       signal = signalGood number history;
-      ethernet = isEthernet number history;
+      kind = inputKind number history;
       priority = record { 0 = priorityOf number history };
       locked = isLockedOut number history;
-      floor = quality (floorOf number history);
+      floor = floorOf number history;
     }

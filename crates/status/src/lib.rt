@@ -7,10 +7,14 @@
 use input::Heard;
 use input::Input;
 use numbers::FRAME_LIFE;
+use numbers::InputKind;
 use numbers::InputNumber;
 use numbers::Priority;
+use numbers::Profile;
 use numbers::Quality;
+use numbers::floor_in;
 use numbers::is_failed;
+use numbers::limits_of;
 use run::Forecast;
 use run::Run;
 use selector::Selector;
@@ -25,7 +29,7 @@ const NEVER: u64 = u64::MAX;
 
 // What is known of an input. `timer` is when the present run's own timer ends, needed or not: the
 // hold-off of a failed run, the wait of any other; `frame` when the last frame heard expires. Both
-// are 0 where nothing is still to end. `signal` is good signal.
+// are 0 where nothing is still to end. `signal` is good signal, `floor` the floor in force.
 pub struct Status {
     pub raw: Quality,
     pub passed: Quality,
@@ -33,10 +37,10 @@ pub struct Status {
     pub timer: u64,
     pub frame: u64,
     pub signal: bool,
-    pub ethernet: bool,
+    pub kind: InputKind,
     pub priority: Priority,
     pub locked: bool,
-    pub floor: Quality,
+    pub floor: u8,
 }
 
 // When a time of `length` ms from `start` is over, if that is later than `time`; otherwise 0.
@@ -74,17 +78,20 @@ fn frame_ahead(heard: Heard, time: u64) -> u64
     end_ahead(heard.framed, FRAME_LIFE, time)
 }
 
-// What is known of an input's record at a time, in a quality mode.
-fn status_of(input: Input, mode: bool, time: u64) -> Status
-    ensures { λ answer. ⌜ answer ≡ statusOf input mode time ⌝ }
+// What is known of an input's record at a time, in a profile and a quality mode.
+fn status_of(profile: Profile, input: Input, mode: bool, time: u64) -> Status
+    ensures { λ answer. ⌜ answer ≡ statusOf profile input mode time ⌝ }
 {
     let forecast = input.forecast(mode);
     let run = input.run;
     let heard = input.heard;
     let settings = input.settings;
     let priority = settings.priority;
-    let floor = settings.floor;
-    let candidate = candidate_for(input, mode);
+    let kind = settings.kind;
+    let limits = limits_of(profile);
+    let own = limits.own;
+    let floor = floor_in(own, settings.floor);
+    let candidate = candidate_for(profile, input, mode);
     let raw = forecast.raw_at(time);
     let passed = input.passed_quality();
     let eligible = candidate.is_eligible();
@@ -97,7 +104,7 @@ fn status_of(input: Input, mode: bool, time: u64) -> Status
         timer,
         frame,
         signal: heard.good,
-        ethernet: settings.ethernet,
+        kind,
         priority,
         locked: settings.locked,
         floor,
@@ -108,7 +115,8 @@ fn status_of(input: Input, mode: bool, time: u64) -> Status
 pub fn input_status(state: Selector, number: u8) -> Status
     ensures { λ answer. ⌜ answer ≡ inputStatus state number ⌝ }
 {
+    let profile = state.profile;
     let inputs = state.inputs;
     let input = input_at(inputs, InputNumber(number));
-    status_of(input, state.mode, state.time)
+    status_of(profile, input, state.mode, state.time)
 }

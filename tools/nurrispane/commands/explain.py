@@ -78,7 +78,7 @@ def asked_inputs(options, facts, answer):
 
 def cells(number, facts, answer, reports):
     fact = facts[number]
-    kind = "Ethernet" if fact.ethernet else "line"
+    kind = inputs.KINDS[fact.kind]
     return ["%d" % number, kind, "%d" % fact.priority if fact.priority else "off", "yes" if fact.locked else "no",
             "good" if fact.signal else "failing", reports.told(number, fact.time), inputs.quality(fact.raw),
             inputs.quality(fact.passed), inputs.why(facts, number, answer)[1]]

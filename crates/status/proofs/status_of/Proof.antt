@@ -8,6 +8,12 @@ use Rattle.status.proofs.status_of.Tie as tie
 forecast-requires : tie.Need-forecast-requires
 forecast-requires c κs = search needs
 
+limits-of-requires : tie.Need-limits-of-requires
+limits-of-requires c κs = search needs
+
+floor-in-requires : tie.Need-floor-in-requires
+floor-in-requires c κs = search needs
+
 candidate-for-requires : tie.Need-candidate-for-requires
 candidate-for-requires c κs = search needs
 
@@ -36,7 +42,9 @@ returns c =
       c .before .before .before .passed-quality .ensures,
       c .before .before .before .before .raw-at .ensures,
       c .before .before .before .before .before .candidate-for .ensures,
-      c .before .before .before .before .before .before .before .before .before .before .before .forecast .ensures,
+      c .before .before .before .before .before .before .floor-in .ensures,
+      c .before .before .before .before .before .before .before .before .limits-of .ensures,
+      c .before .before .before .before .before .before .before .before .before .before .before .before .before .forecast .ensures,
     )
 
 pub status-of-spec : {M : Type 1} → statement M
@@ -44,6 +52,8 @@ status-of-spec =
     tie.close
     (tie.spec
     forecast-requires
+    limits-of-requires
+    floor-in-requires
     candidate-for-requires
     raw-at-requires
     passed-quality-requires
