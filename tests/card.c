@@ -1,7 +1,7 @@
 /*
  * Holds the library to include/nurrispane.h: it is the header's, every field lies where the header
- * says, a refusal keeps what it must, any card is safe and answers in range, a frame is looked at for
- * a frame event alone, what is next due is next due, frames are written as they are read and read as
+ * says, a start has its profile or is refused, words come in and go out, a refusal keeps what it must,
+ * any card is safe and answers in range, a frame is looked at for a frame event alone, what is next due is next due, frames are written as they are read and read as
  * they are written, senders answer as document 02 says, and no call takes more stack than the header
  * says. tests/card builds and runs it.
  */
@@ -15,6 +15,10 @@
 
 #define RANDOM_EVENTS 100000
 #define RANDOM_CARDS 20000
+
+/* A quality in a card. */
+#define INVALID 11
+#define FAILED 12
 
 static unsigned long checks;
 
@@ -53,24 +57,25 @@ static int same(const struct nurrispane_card *one, const struct nurrispane_card 
 
 /* ---- the fields */
 
-static void check_fresh(void)
+static void check_fresh_of(uint8_t option, uint8_t place, uint16_t marks)
 {
     struct nurrispane_card card;
+    int two = option == NURRISPANE_OPTION_2;
 
-    CHECK(NURRISPANE_BELONGS());
     memset(&card, 0xa5, sizeof card);
-    nurrispane_fresh(&card);
+    nurrispane_fresh(&card, option, place, marks);
+    CHECK(card.option == (two ? NURRISPANE_OPTION_2 : NURRISPANE_OPTION_1));
+    CHECK(card.place == (two ? place : 0) && card.marks == (two ? marks : 0) && card.spare == 0);
     for (int i = 0; i < NURRISPANE_INPUTS; i++) {
         const struct nurrispane_input *input = &card.inputs[i];
 
         CHECK(input->framed == 0 && input->start == 0);
         CHECK(input->holdoff == 300 && input->wait == 5 && input->priority == 0);
-        CHECK(input->fixed == 0 && input->ethernet == 0 && input->locked == 0);
-        CHECK(input->sending == 1 && input->frame == 7 && input->line == 7);
-        CHECK(input->code == 0 && input->count == 0 && input->signal == 0);
-        CHECK(input->good == 7 && input->failed == 1 && input->up == 0);
-        CHECK(input->floor == 4);
-        CHECK(input->spare1 == 0 && input->spare2 == 0 && input->spare4 == 0);
+        CHECK(input->fixed == 0 && input->kind == NURRISPANE_INPUT_LINE && input->locked == 0);
+        CHECK(input->sending == 1 && input->frame == FAILED && input->line == FAILED);
+        CHECK(input->last == 0 && input->count == 0 && input->signal == 0);
+        CHECK(input->good == FAILED && input->failed == 1 && input->up == 0);
+        CHECK(input->floor == 0 && input->spare2 == 0 && input->spare4 == 0);
     }
     CHECK(card.time == 0 && card.mode == 1 && card.held == 0);
     CHECK(card.switch_kind == NURRISPANE_SWITCH_NONE);
@@ -78,9 +83,36 @@ static void check_fresh(void)
     CHECK(card.selection == 0 && card.selected == NURRISPANE_NO_INPUT && card.served == 0);
     CHECK(card.answer.number == NURRISPANE_ACCEPTED);
     CHECK(card.answer.selected == NURRISPANE_NO_INPUT);
-    CHECK(card.answer.clock_state == NURRISPANE_FREE_RUN && card.answer.clock_quality == 4);
+    CHECK(card.answer.clock_state == NURRISPANE_FREE_RUN);
+    CHECK(card.answer.clock_quality == (two ? 6 : 4));
     CHECK(card.answer.switch_kind == NURRISPANE_SWITCH_NONE);
     CHECK(card.answer.switch_input == NURRISPANE_NO_INPUT);
+}
+
+/* Option II with a place above 8 is refused, and of the card only its number and its count change. */
+static void check_fresh(void)
+{
+    struct nurrispane_card card, kept;
+
+    CHECK(NURRISPANE_BELONGS());
+    for (unsigned option = 0; option < 256; option++) {
+        for (unsigned place = 0; place < 256; place++) {
+            uint16_t marks = (uint16_t)random_number();
+
+            if (option != NURRISPANE_OPTION_2 || place <= 8) {
+                check_fresh_of((uint8_t)option, (uint8_t)place, marks);
+                continue;
+            }
+            for (size_t at = 0; at < sizeof card; at++)
+                ((uint8_t *)&card)[at] = (uint8_t)below(256);
+            kept = card;
+            nurrispane_fresh(&card, (uint8_t)option, (uint8_t)place, marks);
+            CHECK(card.answer.number == NURRISPANE_REFUSED_ARGUMENT_OUT_OF_RANGE && card.served == 0);
+            card.answer.number = kept.answer.number;
+            card.served = kept.served;
+            CHECK(same(&card, &kept));
+        }
+    }
 }
 
 static struct nurrispane_card card;
@@ -90,12 +122,33 @@ static void event(uint8_t kind, uint64_t time, uint8_t input, uint16_t argument)
     nurrispane_step(&card, kind, time, input, argument, NURRISPANE_NO_FRAME, 0);
 }
 
+/* A fresh card of option I. */
 static struct nurrispane_card fresh(void)
 {
     struct nurrispane_card made;
 
-    nurrispane_fresh(&made);
+    nurrispane_fresh(&made, NURRISPANE_OPTION_1, 0, 0);
     return made;
+}
+
+/* A fresh card of one option or the other, with any place and marks. */
+static struct nurrispane_card fresh_of_any(void)
+{
+    struct nurrispane_card made;
+    uint8_t option = (uint8_t)(1 + below(2));
+    uint8_t place = (uint8_t)below(9);
+    uint16_t marks = (uint16_t)random_number();
+
+    nurrispane_fresh(&made, option, place, marks);
+    return made;
+}
+
+static struct nurrispane_words outgoing_words(const struct nurrispane_card *of)
+{
+    struct nurrispane_words words;
+
+    nurrispane_outgoing_words(of, &words);
+    return words;
 }
 
 static struct nurrispane_codes outgoing_codes(const struct nurrispane_card *of)
@@ -122,7 +175,7 @@ static void check_fields(void)
     const struct nurrispane_input *line = &card.inputs[3], *ethernet = &card.inputs[9];
     struct nurrispane_card other;
 
-    nurrispane_fresh(&card);
+    card = fresh();
     event(NURRISPANE_EVENT_PRIORITY, 10, 3, 7);
     event(NURRISPANE_EVENT_HOLDOFF, 20, 3, 1800);
     event(NURRISPANE_EVENT_WAIT, 30, 3, 12);
@@ -132,14 +185,14 @@ static void check_fields(void)
     CHECK(line->signal == 1 && line->failed == 1 && line->start == 0);
     event(NURRISPANE_EVENT_LINE_CODE, 1100, 3, 4);
     event(NURRISPANE_EVENT_LINE_CODE, 1101, 3, 4);
-    CHECK(line->code == 4 && line->count == 2 && line->line == 7 && line->good == 7);
+    CHECK(line->last == 4 && line->count == 2 && line->line == FAILED && line->good == FAILED);
     event(NURRISPANE_EVENT_LINE_CODE, 1102, 3, 4);
-    CHECK(line->code == 4 && line->count == 3 && line->line == 2 && line->good == 2);
+    CHECK(line->last == 4 && line->count == 3 && line->line == 2 && line->good == 2);
     CHECK(line->failed == 0 && line->up == 0 && line->start == 1102 && line->framed == 0);
     event(NURRISPANE_EVENT_LINE_CODE, 1200, 3, 8);
-    CHECK(line->code == 8 && line->count == 1 && line->line == 2 && line->frame == 7);
+    CHECK(line->last == 8 && line->count == 1 && line->line == 2 && line->frame == FAILED);
     event(NURRISPANE_EVENT_FIXED_QUALITY, 1300, 3, 3);
-    CHECK(line->fixed == 3 && line->good == 3 && line->locked == 0 && line->ethernet == 0);
+    CHECK(line->fixed == 3 && line->good == 3 && line->locked == 0 && line->kind == 0);
     event(NURRISPANE_EVENT_LOCKOUT, 1400, 3, 1);
     CHECK(line->locked == 1);
     event(NURRISPANE_EVENT_LOCKOUT, 1500, 3, 0);
@@ -150,7 +203,7 @@ static void check_fields(void)
     event(NURRISPANE_EVENT_INPUT_KIND, 2000, 9, 1);
     event(NURRISPANE_EVENT_SIGNAL, 2100, 9, 0);
     event(NURRISPANE_EVENT_PRIORITY, 2200, 9, 2);
-    CHECK(ethernet->ethernet == 1 && ethernet->signal == 1 && ethernet->priority == 2);
+    CHECK(ethernet->kind == NURRISPANE_INPUT_ETHERNET && ethernet->signal == 1 && ethernet->priority == 2);
     /* a fresh card tells SEC: the frame says 4 */
     other = fresh();
     CHECK(nurrispane_write_frame(&other, 0, 1, source, sizeof source, frame, sizeof frame) ==
@@ -158,7 +211,7 @@ static void check_fields(void)
     nurrispane_step(&card, NURRISPANE_EVENT_FRAME, 2345, 9, 0, frame, sizeof frame);
     CHECK(card.answer.number == NURRISPANE_ACCEPTED);
     CHECK(ethernet->framed == 2345 && ethernet->start == 2345 && ethernet->frame == 4);
-    CHECK(ethernet->line == 7 && ethernet->good == 4 && ethernet->up == 0);
+    CHECK(ethernet->line == FAILED && ethernet->good == 4 && ethernet->up == 0);
     event(NURRISPANE_EVENT_CLEAR_WAIT, 2400, 9, 0);
     CHECK(ethernet->up == 1 && ethernet->failed == 0 && ethernet->start == 2345);
     CHECK(card.time == 2400 && card.selection == 1 && card.selected == 9 && card.held == 1);
@@ -180,6 +233,78 @@ static void check_fields(void)
     event(NURRISPANE_EVENT_PRIORITY, 2800, 3, 0);
     event(NURRISPANE_EVENT_PRIORITY, 2900, 9, 0);
     CHECK(card.selection == 0 && card.selected == NURRISPANE_NO_INPUT && card.held == 1);
+}
+
+/* ---- option II: qualities, words, marks and the place of PROV, by the words of document 02 */
+
+/* Codes and words of qualities 1 to 10; ST4 has no code, and 15 goes out. */
+static const uint8_t code_of[11] = {0, 1, 0, 7, 4, 13, 10, 12, 15, 14, 15};
+static const uint16_t word_of[11] = {0,      0x04ff, 0x08ff, 0x0cff, 0x78ff, 0x7cff,
+                                     0x10ff, 0x22ff, 0x28ff, 0x40ff, 0x30ff};
+
+/* Three words in a row make a quality; the ports tell it, a marked one TNC and ST3E as ST3. */
+static void check_words(void)
+{
+    for (uint8_t place = 0; place <= 8; place++) {
+        for (uint8_t quality = 1; quality <= 10; quality++) {
+            const struct nurrispane_input *input = &card.inputs[5];
+            int usable = quality == 9 ? place > 0 && place < 8 : quality <= 8;
+            int marked = quality == 4 || quality == 5;
+            struct nurrispane_words words;
+            struct nurrispane_codes codes;
+
+            nurrispane_fresh(&card, NURRISPANE_OPTION_2, place, 0x0006);
+            event(NURRISPANE_EVENT_WORD, 1, 5, word_of[quality]);
+            CHECK(card.answer.number == NURRISPANE_REFUSED_WRONG_INPUT_KIND);
+            event(NURRISPANE_EVENT_INPUT_KIND, 2, 5, NURRISPANE_INPUT_WORDS);
+            CHECK(input->kind == NURRISPANE_INPUT_WORDS);
+            event(NURRISPANE_EVENT_LINE_CODE, 3, 5, 1);
+            CHECK(card.answer.number == NURRISPANE_REFUSED_WRONG_INPUT_KIND);
+            event(NURRISPANE_EVENT_PRIORITY, 4, 5, 1);
+            event(NURRISPANE_EVENT_FLOOR, 5, 5, 8);
+            event(NURRISPANE_EVENT_WAIT, 6, 5, 0);
+            event(NURRISPANE_EVENT_SIGNAL, 7, 5, 0);
+            event(NURRISPANE_EVENT_SENDING, 8, 7, 0);
+            event(NURRISPANE_EVENT_WORD, 10, 5, word_of[quality]);
+            event(NURRISPANE_EVENT_WORD, 11, 5, word_of[quality]);
+            CHECK(input->last == word_of[quality] && input->count == 2 && input->line == FAILED);
+            event(NURRISPANE_EVENT_WORD, 12, 5, word_of[quality]);
+            CHECK(input->line == quality && input->good == quality && input->count == 3);
+            CHECK(card.answer.selected == (usable ? 5 : NURRISPANE_NO_INPUT));
+            CHECK(card.answer.clock_quality == (usable ? quality : 6));
+            words = outgoing_words(&card);
+            codes = outgoing_codes(&card);
+            for (int port = 0; port < NURRISPANE_INPUTS; port++) {
+                uint8_t told = usable ? quality : 6;
+
+                if (port == 7) {
+                    CHECK(words.words[port] == 0x08ff && codes.codes[port] == 15);
+                } else if (usable && port == 5) {
+                    CHECK(words.words[port] == 0x30ff && codes.codes[port] == 15);
+                } else if (usable && marked && (port == 1 || port == 2)) {
+                    CHECK(words.words[port] == 0x10ff && codes.codes[port] == 10);
+                } else {
+                    CHECK(words.words[port] == word_of[told] && codes.codes[port] == code_of[told]);
+                }
+            }
+            event(NURRISPANE_EVENT_QUALITY_MODE, 13, 0, 0);
+            words = outgoing_words(&card);
+            for (int port = 0; port < NURRISPANE_INPUTS; port++)
+                CHECK(words.words[port] == (port == 7 ? 0x08ff : 0x30ff));
+        }
+    }
+    /* words that are not listed read as invalid; option I knows no words */
+    nurrispane_fresh(&card, NURRISPANE_OPTION_2, 0, 0);
+    event(NURRISPANE_EVENT_INPUT_KIND, 1, 5, NURRISPANE_INPUT_WORDS);
+    event(NURRISPANE_EVENT_SIGNAL, 2, 5, 0);
+    for (int i = 0; i < 3; i++)
+        event(NURRISPANE_EVENT_WORD, 3, 5, 0x1234);
+    CHECK(card.inputs[5].line == INVALID && card.inputs[5].last == 0x1234);
+    card = fresh();
+    event(NURRISPANE_EVENT_INPUT_KIND, 1, 5, NURRISPANE_INPUT_WORDS);
+    CHECK(card.answer.number == NURRISPANE_REFUSED_ARGUMENT_OUT_OF_RANGE);
+    event(NURRISPANE_EVENT_WORD, 2, 5, 0x04ff);
+    CHECK(card.answer.number == NURRISPANE_REFUSED_KIND_UNKNOWN);
 }
 
 /* ---- what a frame says */
@@ -247,7 +372,7 @@ static void check_frames(void)
     struct nurrispane_codes outgoing;
 
     memset(kept, 0xa5, sizeof kept);
-    nurrispane_fresh(&card);
+    card = fresh();
     event(NURRISPANE_EVENT_SENDING, 5, 6, 0);
     outgoing = outgoing_codes(&card);
     for (unsigned port = 0; port < 256; port++) {
@@ -300,10 +425,10 @@ struct call {
 static struct call any_call(const struct nurrispane_card *from)
 {
     static const uint8_t source[NURRISPANE_SOURCE_OCTETS] = {2, 0, 0, 0, 0, 7};
-    static const uint16_t arguments[] = {0, 0, 0, 1, 1, 2, 4, 8, 11, 15, 300, 1800, 65535};
+    static const uint16_t arguments[] = {0, 0, 0, 1, 1, 2, 4, 8, 11, 15, 300, 1800, 65535, 0x04ff, 0x78ff};
     struct call call;
 
-    call.kind = (uint8_t)(below(50) ? below(18) : below(256));
+    call.kind = (uint8_t)(below(50) ? below(19) : below(256));
     call.input = (uint8_t)(below(20) ? below(4) : below(256));
     call.argument = arguments[below(sizeof arguments / sizeof *arguments)];
     call.time = from->time + (below(30) ? below(400) : below(400000));
@@ -318,7 +443,7 @@ static struct call any_call(const struct nurrispane_card *from)
                                      call.frame, sizeof call.frame) == NURRISPANE_ACCEPTED);
         call.frame[27] = (uint8_t)arguments[below(11)];
         call.frame_length = below(20) ? 60 + below(21) : below(81);
-        if (below(10) == 0)
+        if (below(3) == 0)
             call.frame[below(28)] ^= (uint8_t)(1 << below(8));
         if (below(4))
             call.argument = 0;
@@ -333,11 +458,12 @@ static struct nurrispane_card stepped(struct nurrispane_card from, const struct 
     return from;
 }
 
-/* Until what is next due a tick changes no answer and no code; there it serves something. */
+/* Until what is next due a tick changes no answer, no code and no word; there it serves something. */
 static void check_due(uint64_t due)
 {
     struct nurrispane_card early = card, there = card;
     struct nurrispane_codes codes = outgoing_codes(&card), then;
+    struct nurrispane_words words = outgoing_words(&card), said;
     uint64_t most = due < (uint64_t)1 << 48 ? due - 1 : ((uint64_t)1 << 48) - 1;
 
     CHECK(due > card.time);
@@ -345,7 +471,8 @@ static void check_due(uint64_t due)
     then = outgoing_codes(&early);
     CHECK(early.answer.number == NURRISPANE_ACCEPTED && early.served == 0);
     CHECK(memcmp(&early.answer.selected, &card.answer.selected, 5) == 0);
-    CHECK(memcmp(&codes, &then, sizeof codes) == 0);
+    said = outgoing_words(&early);
+    CHECK(memcmp(&codes, &then, sizeof codes) == 0 && memcmp(&words, &said, sizeof words) == 0);
     early.time = card.time;
     early.answer = card.answer;
     early.served = card.served;
@@ -356,11 +483,24 @@ static void check_due(uint64_t due)
     CHECK(there.answer.number == NURRISPANE_ACCEPTED && there.served == 1);
 }
 
+/* A fresh card of any profile with two inputs that are eligible, the first of lower quality. */
+static void begin(void)
+{
+    card = fresh_of_any();
+    for (uint8_t input = 0; input < 2; input++) {
+        event(NURRISPANE_EVENT_PRIORITY, 0, input, 1);
+        event(NURRISPANE_EVENT_WAIT, 0, input, 0);
+        event(NURRISPANE_EVENT_FIXED_QUALITY, 0, input, (uint16_t)(1 + input));
+        event(NURRISPANE_EVENT_SIGNAL, 0, input, 0);
+    }
+    CHECK(card.answer.selected == 0 && card.answer.clock_quality == 1);
+}
+
 static void check_events(void)
 {
     unsigned long numbers[20] = {0};
 
-    nurrispane_fresh(&card);
+    begin();
     for (int i = 0; i < RANDOM_EVENTS; i++) {
         struct call call = any_call(&card);
         struct nurrispane_card before = card;
@@ -386,8 +526,9 @@ static void check_events(void)
         CHECK(card.selected == card.answer.selected);
         CHECK(card.switch_kind == card.answer.switch_kind);
         CHECK(card.switch_input == card.answer.switch_input);
-        if (card.time > 0xf00000000000)
-            nurrispane_fresh(&card);
+        CHECK(card.option == before.option && card.place == before.place && card.marks == before.marks);
+        if (card.time > 0xf00000000000 || below(1000) == 0)
+            begin();
     }
     for (int number = 2; number < 18; number++)
         CHECK(numbers[number] > 0);
@@ -406,14 +547,16 @@ static void check_cards(void)
         call = any_call(&wild);
         next = stepped(wild, &call);
         nurrispane_next_due(&wild);
+        outgoing_words(&wild);
         outgoing = outgoing_codes(&wild);
         for (int port = 0; port < NURRISPANE_INPUTS; port++) {
             const struct nurrispane_input *input = &next.inputs[port];
 
             CHECK(outgoing.codes[port] < 16);
-            CHECK(input->ethernet < 2 && input->locked < 2 && input->sending < 2);
+            CHECK(input->kind < 3 && input->locked < 2 && input->sending < 2);
             CHECK(input->signal < 2 && input->failed < 2 && input->up < 2);
         }
+        CHECK(next.option == (wild.option == NURRISPANE_OPTION_2 ? 2 : 1) && next.spare == 0);
         CHECK(next.mode < 2 && next.held < 2 && next.selection < 2 && next.served <= 48);
         CHECK(next.switch_kind < 3 && next.answer.switch_kind < 3 && next.answer.clock_state < 3);
         CHECK(next.answer.selected < 16 || next.answer.selected == NURRISPANE_NO_INPUT);
@@ -502,7 +645,7 @@ static void check_senders(void)
     }
     CHECK(senders.number == NURRISPANE_ACCEPTED && senders.frame == NURRISPANE_HEARTBEAT_NOTHING);
 
-    nurrispane_fresh(&card);
+    card = fresh_of_any();
     for (int i = 0; i < RANDOM_QUESTIONS; i++) {
         struct nurrispane_senders before;
         uint8_t buffer[80], kept[80], wanted[80];
@@ -552,7 +695,7 @@ static void check_senders(void)
             nurrispane_fresh_senders(&senders);
             memset(sent_count, 0, sizeof sent_count);
             memset(asked, 0, sizeof asked);
-            nurrispane_fresh(&card);
+            card = fresh_of_any();
             time = 0;
         }
     }
@@ -584,6 +727,7 @@ static ucontext_t here, there;
 static struct call stack_call;
 static struct nurrispane_card stack_card;
 static struct nurrispane_codes stack_codes;
+static struct nurrispane_words stack_words;
 static struct nurrispane_frame stack_read;
 static struct nurrispane_senders stack_senders;
 static uint64_t stack_due;
@@ -595,7 +739,7 @@ static void run_nothing(void)
 
 static void run_fresh(void)
 {
-    nurrispane_fresh(&stack_card);
+    nurrispane_fresh(&stack_card, NURRISPANE_OPTION_2, 3, 5);
 }
 
 static void run_step(void)
@@ -612,6 +756,11 @@ static void run_due(void)
 static void run_codes(void)
 {
     nurrispane_outgoing_codes(&card, &stack_codes);
+}
+
+static void run_words(void)
+{
+    nurrispane_outgoing_words(&card, &stack_words);
 }
 
 static void run_read(void)
@@ -660,6 +809,7 @@ static void check_stack(void)
                 {"step", run_step},
                 {"next_due", run_due},
                 {"outgoing_codes", run_codes},
+                {"outgoing_words", run_words},
                 {"read_frame", run_read},
                 {"write_frame", run_write},
                 {"fresh_senders", run_fresh_senders},
@@ -667,7 +817,7 @@ static void check_stack(void)
     enum { RUNS = sizeof runs / sizeof *runs };
     size_t most[RUNS] = {0}, nothing = stack_of(run_nothing);
 
-    nurrispane_fresh(&card);
+    card = fresh_of_any();
     for (int i = 0; i < 2000; i++) {
         stack_call = any_call(&card);
         for (int r = 0; r < RUNS; r++) {
@@ -692,6 +842,7 @@ int main(void)
 {
     check_fresh();
     check_fields();
+    check_words();
     check_reading();
     check_frames();
     check_events();
@@ -699,11 +850,11 @@ int main(void)
     check_unread();
     check_senders();
     check_stack();
-    printf("sizes: card %zu, input %zu, answer %zu, codes %zu, frame %zu, senders %zu, "
+    printf("sizes: card %zu, input %zu, answer %zu, codes %zu, words %zu, frame %zu, senders %zu, "
            "sender %zu bytes\n",
            sizeof(struct nurrispane_card), sizeof(struct nurrispane_input),
            sizeof(struct nurrispane_answer), sizeof(struct nurrispane_codes),
-           sizeof(struct nurrispane_frame), sizeof(struct nurrispane_senders),
+           sizeof(struct nurrispane_words), sizeof(struct nurrispane_frame), sizeof(struct nurrispane_senders),
            sizeof(struct nurrispane_sender));
     printf("%lu checks hold\n", checks);
     return 0;
