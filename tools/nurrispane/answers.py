@@ -4,11 +4,12 @@ is the same for a person."""
 import collections
 import re
 
+from nurrispane import profiles
+
 STATES = {0: "free", 1: "hold", 2: "lock", 3: "state-03"}
 SWITCHES = {0: None, 1: "forced", 2: "manual"}
 NONE = 0xFF
 CLOCK = {0: "free run", 1: "holdover", 2: "locked"}
-QUALITIES = {0: "no quality", 1: "PRC", 2: "SSU-A", 3: "SSU-B", 4: "SEC", 5: "DNU", 6: "invalid", 7: "failed"}
 # The words of document 01.
 REFUSALS = {
     1: "line malformed",
@@ -29,6 +30,8 @@ REFUSALS = {
     16: "manual: input not eligible",
     17: "manual: an eligible input has lower passed quality",
 }
+# Those of document 02 for option II.
+REFUSALS_II = {7: "code, frame or word for an input of another kind"}
 
 # An answer in words: what is left out is None.
 Answer = collections.namedtuple("Answer", "number shown outgoing count")
@@ -65,7 +68,8 @@ def line_of(answer):
 
 def refusal(number):
     """A number of refusal with what it says, as "16, manual: input not eligible"."""
-    return "%d, %s" % (number, REFUSALS.get(number, "no number of document 01"))
+    told = REFUSALS if profiles.chosen.prov is None else {**REFUSALS, **REFUSALS_II}
+    return "%d, %s" % (number, told.get(number, "no number of document 01"))
 
 
 def meaning(line):
@@ -83,7 +87,7 @@ def meaning(line):
     switched = "no switch"
     if (switch, switch_input) != (0, NONE):
         switched = "%s to input %d" % (SWITCHES.get(switch) or "switch %02x" % switch, switch_input)
-    return "%s; %s, %s; %s" % (taken, clock, QUALITIES.get(quality, "quality %d" % quality), switched)
+    return "%s; %s, %s; %s" % (taken, clock, profiles.quality(quality) if quality else "no quality", switched)
 
 
 def read(text):

@@ -4,7 +4,8 @@ into words. Nothing is worked out here but which of the facts is told."""
 import collections
 import re
 
-from nurrispane import answers, programs
+from nurrispane import answers, profiles, programs
+from nurrispane.profiles import quality
 from nurrispane.files import Trouble
 
 INPUTS = 16
@@ -20,23 +21,6 @@ Fact = collections.namedtuple(
 # The kinds of input, by number, and what comes in there.
 KINDS = ("line", "Ethernet", "words")
 REPORTS = ("code", "frame", "word")
-
-# The names of a profile: those of its qualities by number, and what a code of four bits is called.
-Names = collections.namedtuple("Names", "qualities codes failed dnu invalid told")
-OPTION_I = Names(
-    qualities={**answers.QUALITIES, 0: "not told"},
-    codes={0b0010: "PRC", 0b0100: "SSU-A", 0b1000: "SSU-B", 0b1011: "SEC", 0b1111: "DNU"},
-    failed=7,
-    dnu=5,
-    invalid=6,
-    told=1,
-)
-NAMES = OPTION_I
-
-
-def quality(number):
-    return NAMES.qualities.get(number, "quality %d" % number)
-
 
 # ---- asked of the program
 
@@ -96,19 +80,23 @@ def unfit(fact, brief=False):
         return "off", "off"
     if fact.locked:
         return "locked", "locked out"
-    if fact.passed == NAMES.failed:
-        if fact.raw != NAMES.failed:
+    names = profiles.chosen
+    if fact.passed == names.failed:
+        if fact.raw != names.failed:
             return "wait", "wait: " + left(fact, fact.timer, brief)
         if not fact.signal:
             return "failed", "failed: the signal is failing"
         return "failed", "failed: no %s counts" % REPORTS[fact.kind]
-    if fact.passed == NAMES.dnu:
-        return "DNU", "%s can't be followed" % quality(fact.passed)
-    if fact.passed == NAMES.invalid:
+    if fact.passed == names.do_not_use:
+        return quality(fact.passed), "%s can't be followed" % quality(fact.passed)
+    if fact.passed == names.invalid:
         return "invalid", "an invalid code can't be followed"
-    if fact.passed < NAMES.told:
+    if fact.passed == 0:
         return "not told", "no quality is told, from when quality mode was off"
-    return "floor", "%s is below its floor, %s" % (quality(fact.passed), quality(fact.floor))
+    if fact.passed == names.prov and not names.place:
+        return "PROV", "PROV has no place, so it can't be followed"
+    below = " stands just below %s," % quality(names.place) if fact.passed == names.prov else ""
+    return "floor", "%s%s is below its floor, %s" % (quality(fact.passed), below, quality(fact.floor))
 
 
 def outdone(facts, number, selected):
@@ -135,12 +123,21 @@ def why(facts, number, answer, brief=False):
         reason = "switch", "a %s switch stands on input %d" % (answers.SWITCHES[switch], on)
     else:
         reason = outdone(facts, number, selected)
-    if fact.passed != NAMES.failed and fact.raw == NAMES.failed:
+    failed = profiles.chosen.failed
+    if fact.passed != failed and fact.raw == failed:
         return reason[0], "%s; has failed, still passes %s: hold-off, %s" % (reason[1], quality(fact.passed), left(fact, fact.timer, brief))
     return reason
 
 
-REPORT = re.compile(rb"(02|03)([0-9a-f]{12})([0-9a-f]{2})000([0-9a-f])(?:[0-9a-f]{55}([0-9a-f])[0-9a-f]*)?")
+REPORT = re.compile(rb"(02|03|12)([0-9a-f]{12})([0-9a-f]{2})([0-9a-f]{4})(?:[0-9a-f]{55}([0-9a-f])[0-9a-f]*)?")
+WORD = b"12"
+
+
+def report_in_words(kind, number):
+    """What a code, a frame's code or a word says."""
+    if kind == WORD:
+        return profiles.chosen.words.get(number, "word %04x" % number)
+    return profiles.chosen.codes.get(number, "code %d" % number)
 
 
 class Reports:
@@ -151,11 +148,11 @@ class Reports:
 
     def take(self, line, answer):
         if answer[:2] == b"00" and (report := REPORT.fullmatch(line)):
-            code = report.group(5) if report.group(1) == b"02" else report.group(4)
-            self.last[int(report.group(3), 16)] = int(report.group(2), 16), int(code or b"0", 16)
+            said = int(report.group(5) or report.group(4), 16)
+            self.last[int(report.group(3), 16)] = int(report.group(2), 16), report_in_words(report.group(1), said)
 
     def told(self, number, time):
         if number not in self.last:
             return "-"
-        came, code = self.last[number]
-        return "%s %s ms ago" % (NAMES.codes.get(code, "code %d" % code), format(time - came, ","))
+        came, said = self.last[number]
+        return "%s %s ms ago" % (said, format(time - came, ","))

@@ -9,15 +9,15 @@ import html
 import json
 import pathlib
 
-from nurrispane import answers, inputs, words
+from nurrispane import answers, inputs, profiles, words
 from nurrispane.files import read_text
 
 HERE = pathlib.Path(__file__).resolve().parent
 # The style of a stretch, by its value: dark to light by quality, hatched where there is none.
 STYLES = {"PRC": "q1", "SSU-A": "q2", "SSU-B": "q3", "SEC": "q4", "DNU": "q5", "invalid": "q5", "not told": "q6", "failed": "q7",
+          "PRS": "q1", "STU": "q1", "ST2": "q2", "TNC": "q2", "ST3E": "q3", "ST3": "q3", "SIC": "q4", "ST4": "q4", "PROV": "q4", "DUS": "q5",
           "no input": "q7", "locked": "q2", "holdover": "q4", "free run": "q6", "no switch": "q6", "right": "q6", "wrong": "wrong"}
 SELECTED = "q2"
-KEY = ["PRC", "SSU-A", "SSU-B", "SEC", "DNU", "not told", "failed", "wrong"]
 
 Stretch = collections.namedtuple("Stretch", "start end value text")
 
@@ -43,6 +43,13 @@ class Lane:
 
 def style(value):
     return STYLES.get(value, SELECTED)
+
+
+def key():
+    """The values whose styles a page explains, best first."""
+    names = profiles.chosen
+    told = [said for number, said in sorted(names.qualities.items()) if number not in (0, names.invalid, names.failed)]
+    return told + ["not told", "failed", "wrong"]
 
 
 def selection(octets):
@@ -99,7 +106,7 @@ def page(title, lanes, last):
         return places[text]
 
     data = {
-        "title": title, "last": max(last, 1), "key": [[value, style(value)] for value in KEY],
+        "title": title, "last": max(last, 1), "key": [[value, style(value)] for value in key()],
         "lanes": [[name, [[each.start, each.end, place(each.value), style(each.value), place(each.text)] for each in stretches]]
                   for name, stretches in lanes],
         "texts": texts,

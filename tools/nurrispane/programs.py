@@ -7,6 +7,7 @@ import sys
 import tempfile
 import threading
 
+from nurrispane import profiles
 from nurrispane.files import ROOT, Trouble, name_of, read, reason, standard, write, write_out
 
 CHUNK = 1 << 16
@@ -21,7 +22,7 @@ def ready(name):
 
 
 def command(name):
-    return [str(ROOT / ".ci" / "program"), name]
+    return [str(ROOT / ".ci" / "program"), name, *profiles.start_of(name)]
 
 
 class LineCount:

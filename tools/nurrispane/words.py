@@ -6,7 +6,7 @@
 import collections
 import re
 
-from nurrispane import answers
+from nurrispane import answers, profiles
 from nurrispane.files import Trouble
 
 TIME_LIMIT = 2**48
@@ -34,8 +34,9 @@ KINDS = [
     Kind(0x0D, "mode", False, {"on": 1, "off": 0}),
     Kind(0x0E, "sending", True, {"on": 1, "off": 0}),
     Kind(0x0F, "tick", False, None),
-    Kind(0x10, "kind", True, {"line": 0, "ethernet": 1}),
+    Kind(0x10, "kind", True, {"line": 0, "ethernet": 1, "words": 2}),
     Kind(0x11, "floor", True, {}),
+    Kind(0x12, "word", True, {said: word for word, said in profiles.OPTION_II.words.items()}),
 ]
 FRAME_KIND = 0x02
 BY_WORD = {kind.word: kind for kind in KINDS}

@@ -7,7 +7,7 @@ has it, recorded or not. Times are those of the log in ms. Exit status 0, or 2 f
 import csv
 import io
 
-from nurrispane import answers, inputs, logs, programs, words
+from nurrispane import answers, inputs, logs, profiles, programs, words
 from nurrispane.files import FINE, Trouble, read, write
 
 SUMMARY = "why each input is selected or isn't, line by line, by what is proved"
@@ -22,6 +22,7 @@ CSV = ["line", "time", "event", "number", "selected", "state", "quality", "switc
 
 def arguments(parser):
     parser.add_argument("log", help="an event log; - for standard input")
+    profiles.argument(parser)
     parser.add_argument("--line", type=int, metavar="N", help="only line N, from 1")
     parser.add_argument("--input", type=int, metavar="I", help="only input I, 0 to 15")
     parser.add_argument("--csv", action="store_true", help="a row an input, for other programs")
@@ -29,6 +30,7 @@ def arguments(parser):
 
 
 def run(options):
+    profiles.choose(options.start)
     if options.input is not None and not 0 <= options.input < inputs.INPUTS:
         raise Trouble("there is no input %d: 0 to 15" % options.input)
     data = read(options.log)

@@ -11,7 +11,7 @@ import functools
 import re
 import sys
 
-from nurrispane import answers, faults, inputs, logs, programs, timeline, words
+from nurrispane import answers, faults, inputs, logs, profiles, programs, timeline, words
 from nurrispane.commands import explain
 from nurrispane.files import FINDING, FINE, Trouble, name_of, read, read_text, write
 
@@ -29,6 +29,7 @@ BLOCK = 256
 
 def arguments(parser):
     parser.add_argument("log", help="an event log; - for standard input")
+    profiles.argument(parser)
     parser.add_argument("answers", nargs="?", metavar="ANSWERS", help="the card's answer lines")
     parser.add_argument("--times", metavar="FILE", help="the card's times and selections instead")
     parser.add_argument("--tolerance", default="0ms", metavar="MS", help="with --times: how long a difference may last, as 50ms")
@@ -38,6 +39,7 @@ def arguments(parser):
 
 
 def run(options):
+    profiles.choose(options.start)
     if (options.answers is None) == (options.times is None):
         raise Trouble("either ANSWERS or --times FILE is needed")
     data = read(options.log)

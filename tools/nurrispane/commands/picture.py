@@ -5,7 +5,7 @@ FILE.html is one page with nothing outside it: zoom with the wheel or the keys +
 hover for the reason. FILE.svg is the whole time as one small picture, FILE.vcd the same lanes as signals for GTKWave.
 All of it is asked of the proved programs. Exit status 0: no difference, or no ANSWERS; 1: the card differs; 2: trouble."""
 
-from nurrispane import logs, pictures, programs, words
+from nurrispane import logs, pictures, profiles, programs, words
 from nurrispane.files import FINDING, FINE, Trouble, name_of, read, write, write_out
 
 SUMMARY = "a log and a card's answers as lanes over time: a page, a small picture, or a wave file"
@@ -17,11 +17,13 @@ EXAMPLES = [
 
 def arguments(parser):
     parser.add_argument("log", help="an event log; - for standard input")
+    profiles.argument(parser)
     parser.add_argument("answers", nargs="?", metavar="ANSWERS", help="the card's answer lines")
     parser.add_argument("-o", "--out", metavar="FILE", required=True, help="where it goes: FILE.html, FILE.svg or FILE.vcd")
 
 
 def run(options):
+    profiles.choose(options.start)
     form = options.out.rpartition(".")[2]
     if form not in ("html", "svg", "vcd"):
         raise Trouble("%s: a picture is a FILE.html, a FILE.svg or a FILE.vcd" % options.out)

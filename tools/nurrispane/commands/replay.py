@@ -8,7 +8,7 @@ how many lines were accepted, and refused for what reason, is told there too."""
 import collections
 import sys
 
-from nurrispane import answers, logs, programs
+from nurrispane import answers, logs, profiles, programs
 from nurrispane.files import FINE, read, write
 
 SUMMARY = "an event log's answers, by the proved program"
@@ -21,12 +21,14 @@ EXAMPLES = [
 
 def arguments(parser):
     parser.add_argument("log", help="an event log; - for standard input")
+    profiles.argument(parser)
     parser.add_argument("--words", action="store_true", help="answers in words: docs/WORDS.md")
     parser.add_argument("--summary", action="store_true", help="how many lines were accepted and refused, on standard error")
     parser.add_argument("--out", metavar="FILE", help="write to FILE, whole or not at all")
 
 
 def run(options):
+    profiles.choose(options.start)
     if options.words or options.summary:
         data = read(options.log)
         right = programs.answers("replay", data)
