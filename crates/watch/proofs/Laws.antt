@@ -16,13 +16,15 @@ use Rattle.numbers.specs.declared.Profile.{Profile}
 use Rattle.numbers.specs.Recorded.{saidEvent}
 use Rattle.numbers.specs.Profile.{limitsOf}
 use Rattle.numbers.specs.declared.Quality.{Quality}
-use Rattle.numbers.specs.Inputs.{frameLife, inputCount}
-use Rattle.numbers.specs.Kind.{kindForced, kindManual, kindClearSwitch, kindQualityMode, kindTick}
+use Rattle.numbers.specs.Inputs.{frameLife, inputCount, reportsNeeded}
+use Rattle.numbers.specs.Codes.{qualityOfCode}
+use Rattle.numbers.specs.Kind.{kindFrame, kindLineCode, kindForced, kindManual, kindClearSwitch, kindQualityMode, kindTick}
 use Rattle.numbers.specs.Refusal.{accepted}
 use Rattle.frame.specs.declared.FrameRead.{FrameRead}
 use Rattle.run.specs.declared.Forecast.{Forecast}
 use Rattle.run.specs.declared.Run.{Run}
 use Rattle.run.proofs.Laws.{byBool}
+use Rattle.input.specs.declared.Heard.{Heard}
 use Rattle.input.specs.declared.Input.{Input}
 use Rattle.input.specs.Record.{freshInput, passedOf}
 use Rattle.choice.specs.declared.Seen.{Seen}
@@ -33,15 +35,15 @@ use Rattle.selector.specs.Answer.{answerOf}
 use Rattle.selector.proofs.Laws.{getD-any}
 use Rattle.events.specs.Refusals.{earlyRefusal}
 use Rattle.events.specs.Step.{inputAfter, earlyNumber}
-use Rattle.events.specs.Given.{readEvent, recordedEvent}
+use Rattle.events.specs.Given.{recordedArgument, readEvent, recordedEvent}
 use Rattle.events.proofs.Refused.{earlyRefusal-outside, accepted-input}
 use Rattle.watch.specs.declared.Left.{Left}
 use Rattle.watch.specs.declared.Left.the-variants.{Nothing, Choice, Service}
 use Rattle.watch.specs.declared.Own.{Own}
 use Rattle.watch.specs.declared.Watch.{Watch}
 use Rattle.watch.specs.Due.{never, lesser, sumOrNever, waitDue, expiryDue, runDue, dueOf, dueAmong, dueOfAll, dueAnew}
-use Rattle.watch.specs.Watch.{watchOf, numbered, commands, isServed, seenAlike, movedTo, ownBefore, ownAfter, quickState, quickDue, quickAnswer, servedWatch, dueStep, renewed, watchStep}
-use Rattle.watch.specs.Own.{OwnPlace, ownOf, ownTake, ownStep, completed}
+use Rattle.watch.specs.Watch.{watchOf, numbered, commands, isServed, codeAgain, frameAgain, isAgain, framedInput, againInput, againDue, seenAlike, movedTo, ownBefore, ownAfter, ownAgain, quickState, quickDue, quickAnswer, servedWatch, dueStep, renewed, watchStep}
+use Rattle.watch.specs.Own.{OwnPlace, ownOf, againOwn, ownTake, ownStep, completed}
 
 -- ---- lesser, sumOrNever
 
@@ -189,6 +191,83 @@ seenAlike-by before after seen other answer s o a = a ∙ (rw (s, o))
 
 pub ruleset seenAlike-laws = (seenAlike-by)
 
+-- ---- codeAgain, frameAgain, isAgain, againOwn
+
+module _ (profile : Profile) (heard : Heard) (code : ℕ) where
+  pub codeAgain-failing : heard .good ≡ false → false ≡ codeAgain profile heard code
+  unfolding codeAgain
+  codeAgain-failing g = rw g
+
+  pub codeAgain-other : heard .good ≡ true → (heard .last ≡ code → ⊥) → false ≡ codeAgain profile heard code
+  unfolding codeAgain
+  codeAgain-other g n = rw (g, ne-eqb _ _ n)
+
+  pub codeAgain-few : heard .good ≡ true → heard .last ≡ code → (heard .count ≡ reportsNeeded → ⊥)
+      → false ≡ codeAgain profile heard code
+  unfolding codeAgain
+  codeAgain-few g c n = rw (g, eq-eqb _ _ c, ne-eqb _ _ n)
+
+  pub codeAgain-told : (told : Quality) → heard .good ≡ true → heard .last ≡ code → heard .count ≡ reportsNeeded
+      → told ≡ qualityOfCode profile code
+      → eqb (heard .line .0) (told .0) ≡ codeAgain profile heard code
+  unfolding codeAgain
+  codeAgain-told told g c n t = rw (g, eq-eqb _ _ c, eq-eqb _ _ n, t)
+
+pub ruleset codeAgain-laws = (codeAgain-failing, codeAgain-other, codeAgain-few, codeAgain-told)
+
+module _ (profile : Profile) (heard : Heard) (failed : Bool) (code : ℕ) where
+  pub frameAgain-failed : failed ≡ true → false ≡ frameAgain profile heard failed code
+  unfolding frameAgain
+  frameAgain-failed f = rw f
+
+  pub frameAgain-told : (told : Quality) → failed ≡ false → heard .good ≡ true → told ≡ qualityOfCode profile code
+      → eqb (heard .frame .0) (told .0) ≡ frameAgain profile heard failed code
+  unfolding frameAgain
+  frameAgain-told told f g t = rw (f, g, t)
+
+  pub frameAgain-failing : failed ≡ false → heard .good ≡ false → false ≡ frameAgain profile heard failed code
+  unfolding frameAgain
+  frameAgain-failing f g = rw (f, g)
+
+pub ruleset frameAgain-laws = (frameAgain-failed, frameAgain-told, frameAgain-failing)
+
+module _ (input : Input) (profile : Profile) (kind argument : ℕ) where
+  pub isAgain-tick : kind ≡ kindTick → true ≡ isAgain input profile kind argument
+  unfolding isAgain
+  isAgain-tick k = rw k
+
+  pub isAgain-code : (answer : Bool) → kind ≡ kindLineCode → answer ≡ codeAgain profile (input .heard) argument
+      → answer ≡ isAgain input profile kind argument
+  unfolding isAgain
+  isAgain-code answer k a = a ∙ (rw k)
+
+  pub isAgain-frame : (answer : Bool) → kind ≡ kindFrame
+      → answer ≡ frameAgain profile (input .heard) (input .run .failed) argument
+      → answer ≡ isAgain input profile kind argument
+  unfolding isAgain
+  isAgain-frame answer k a = a ∙ (rw k)
+
+  pub isAgain-other : (kind ≡ kindTick → ⊥) → (kind ≡ kindLineCode → ⊥) → (kind ≡ kindFrame → ⊥)
+      → false ≡ isAgain input profile kind argument
+  unfolding isAgain
+  isAgain-other n1 n2 n3 = rw (ne-eqb _ _ n1, ne-eqb _ _ n2, ne-eqb _ _ n3)
+
+pub ruleset isAgain-laws = (isAgain-tick, isAgain-code, isAgain-frame, isAgain-other)
+
+module _ (before : Input) (due : ℕ) (event : Event) where
+  pub againOwn-frame : (expiry next : ℕ) → event .kind ≡ kindFrame → expiry ≡ sumOrNever (event .time) frameLife
+      → next ≡ lesser due expiry
+      → ownOf (framedInput before (event .time)) (event .time) next accepted Nothing ≡ againOwn before due event
+  unfolding againOwn againInput againDue
+  againOwn-frame expiry next k e n = rw (n, e, eq-eqb _ _ k)
+
+  pub againOwn-other : (event .kind ≡ kindFrame → ⊥)
+      → ownOf before (event .time) due accepted Nothing ≡ againOwn before due event
+  unfolding againOwn againInput againDue
+  againOwn-other n = rw (ne-eqb _ _ n)
+
+pub ruleset againOwn-laws = (againOwn-frame, againOwn-other)
+
 -- ---- dueStep
 
 module _ (watch : Watch) (event : Event) (read : FrameRead) where
@@ -249,17 +328,19 @@ module _ (before : Input) (profile : Profile) (mode : Bool) (time due : ℕ) (ev
     unfolding ownStep
     ownStep-served y = rw (← e, z, ← s, y)
 
-    pub ownStep-tick : serves ≡ false → event .kind ≡ kindTick
-        → ownOf before (event .time) due accepted Nothing ≡ ownStep before profile mode time due event read
-    unfolding ownStep
-    ownStep-tick y t = rw (← e, z, ← s, y, eq-eqb _ _ t)
+    module _ (argument : ℕ) (again : Bool) (g : argument ≡ recordedArgument (event .kind) (event .argument) read)
+        (a : again ≡ isAgain before profile (event .kind) argument) (y : serves ≡ false) where
+      pub ownStep-again : (own : Own) → again ≡ true → own ≡ againOwn before due event
+          → own ≡ ownStep before profile mode time due event read
+      unfolding ownStep
+      ownStep-again own t h = h ∙ (rw (← e, z, ← s, y, ← g, ← a, t))
 
-    pub ownStep-taken : (own : Own) → serves ≡ false → (event .kind ≡ kindTick → ⊥)
-        → own ≡ ownTake before profile mode due event read → own ≡ ownStep before profile mode time due event read
-    unfolding ownStep
-    ownStep-taken own y n h = h ∙ (rw (← e, z, ← s, y, ne-eqb _ _ n))
+      pub ownStep-taken : (own : Own) → again ≡ false → own ≡ ownTake before profile mode due event read
+          → own ≡ ownStep before profile mode time due event read
+      unfolding ownStep
+      ownStep-taken own t h = h ∙ (rw (← e, z, ← s, y, ← g, ← a, t))
 
-pub ruleset ownStep-laws = (ownStep-refused, ownStep-served, ownStep-tick, ownStep-taken)
+pub ruleset ownStep-laws = (ownStep-refused, ownStep-served, ownStep-again, ownStep-taken)
 
 -- ---- completed
 
@@ -338,6 +419,14 @@ module _ (watch : Watch) (event : Event) (read : FrameRead) (zeroed : Input) (pl
     there : place ≡ event .input
     there = own-place at (accepted-input (limitsOf (watch .state .profile)) (watch .state .time) (before .settings .kind) event read none)
 
+    same-again : ownAgain (watch .state) event read
+        ≡ isAgain before (watch .state .profile) (event .kind) (recordedArgument (event .kind) (event .argument) read)
+    same-again =
+        ap
+        (λ (input : Input). isAgain input (watch .state .profile) (event .kind)
+        (recordedArgument (event .kind) (event .argument) read))
+        (sym here)
+
     put-served : isServed (watch .due) (event .kind) (event .time) ≡ true
         → ownPut watch place (ownOf before (watch .state .time) (watch .due) accepted Service) event read ≡
         dueStep watch event read
@@ -345,13 +434,12 @@ module _ (watch : Watch) (event : Event) (read : FrameRead) (zeroed : Input) (pl
     put-served y = rw put-back (dueStep-served watch event read (sym own-early ∙ none) y)
 
     module _ (y : isServed (watch .due) (event .kind) (event .time) ≡ false) where
-      put-tick : eqb (event .kind) kindTick ≡ true
-          → ownPut watch place (ownOf before (event .time) (watch .due) accepted Nothing) event read ≡
-          dueStep watch event read
-      unfolding completed quickState quickDue quickAnswer
-      put-tick t = rw (put-back, ← dueStep-quick watch event read (sym own-early ∙ none) y, t)
+      put-again : ownAgain (watch .state) event read ≡ true
+          → ownPut watch place (againOwn before (watch .due) event) event read ≡ dueStep watch event read
+      unfolding completed againOwn quickState quickDue quickAnswer
+      put-again t = rw (here, there, ← dueStep-quick watch event read (sym own-early ∙ none) y, t)
 
-      put-taken : eqb (event .kind) kindTick ≡ false
+      put-taken : ownAgain (watch .state) event read ≡ false
           → ownPut watch place (ownTake before (watch .state .profile) (watch .state .mode) (watch .due) event read) event read ≡
           dueStep watch event read
       unfolding completed ownTake quickState quickDue quickAnswer
@@ -369,9 +457,10 @@ module _ (watch : Watch) (event : Event) (read : FrameRead) (zeroed : Input) (pl
       byBool (eqb early accepted)
       (λ e. byBool (isServed (watch .due) (event .kind) (event .time))
       (λ y. rw (e, y) (put-served (eqb-true _ _ e) y))
-      (λ y. byBool (eqb (event .kind) kindTick)
-      (λ t. rw (e, y, t) (put-tick (eqb-true _ _ e) y t))
-      (λ t. rw (e, y, t) (put-taken (eqb-true _ _ e) y t))))
+      (λ y. byBool
+      (isAgain before (watch .state .profile) (event .kind) (recordedArgument (event .kind) (event .argument) read))
+      (λ t. rw (e, y, t) (put-again (eqb-true _ _ e) y (same-again (eqb-true _ _ e) ∙ t)))
+      (λ t. rw (e, y, t) (put-taken (eqb-true _ _ e) y (same-again (eqb-true _ _ e) ∙ t)))))
       (λ e. rw e (put-refused (eqb-false _ _ e)))
 
 -- what the code makes of them is the definition

@@ -12,7 +12,6 @@ use Rattle.numbers.specs.declared.Event.{Event}
 use Rattle.numbers.specs.declared.Profile.{Profile}
 use Rattle.numbers.specs.Profile.{limitsOf}
 use Rattle.numbers.specs.Inputs.{inputCount}
-use Rattle.numbers.specs.Kind.{kindTick}
 use Rattle.numbers.specs.Refusal.{accepted}
 use Rattle.frame.specs.declared.FrameRead.{FrameRead}
 use Rattle.input.specs.declared.Input.{Input}
@@ -21,13 +20,13 @@ use Rattle.selector.specs.State.{decided}
 use Rattle.selector.specs.Answer.{answerOf}
 use Rattle.events.specs.Refusals.{earlyRefusal}
 use Rattle.events.specs.Step.{inputAfter}
-use Rattle.events.specs.Given.{recordedEvent}
+use Rattle.events.specs.Given.{recordedArgument, recordedEvent}
 use Rattle.watch.specs.declared.Left.{Left}
 use Rattle.watch.specs.declared.Left.the-variants.{Nothing, Choice, Service}
 use Rattle.watch.specs.declared.Own.{Own}
 use Rattle.watch.specs.declared.Watch.{Watch}
 use Rattle.watch.specs.Due.{lesser, dueOf}
-use Rattle.watch.specs.Watch.{watchOf, isServed, seenAlike, servedWatch}
+use Rattle.watch.specs.Watch.{watchOf, isServed, isAgain, againInput, againDue, seenAlike, servedWatch}
 
 -- where an input stands among the sixteen; its number, taken round, where there is no such input
 pub record OwnPlace (inputs : List Input) (number place : ℕ) : Type 0 where
@@ -38,19 +37,27 @@ pub record OwnPlace (inputs : List Input) (number place : ℕ) : Type 0 where
 abbrev pub ownOf : Input → ℕ → ℕ → ℕ → Left → Own
 ownOf input time due number left = record { input = input; time = time; due = due; number = number; left = left }
 
+-- an event that says again what was said before: nothing is left to do
+unfoldable pub againOwn : Input → ℕ → Event → Own
+againOwn before due event =
+    ownOf (againInput before (event .kind) (event .time)) (event .time) (againDue due (event .kind) (event .time))
+    accepted
+    Nothing
+
 -- the input takes the event, and a choice is left where it would see the input otherwise than before
 unfoldable pub ownTake : Input → Profile → Bool → ℕ → Event → FrameRead → Own
 ownTake before profile mode due event read =
     let after = inputAfter before (recordedEvent profile event read) mode in
     ownOf after (event .time) (lesser due (dueOf after mode)) accepted (cond (seenAlike before after) Nothing Choice)
 
--- one event: refused at once; or left to be served; or a tick, which moves the time alone; or taken
+-- one event: refused at once; or left to be served; or said before; or taken
 unfoldable pub ownStep : Input → Profile → Bool → ℕ → ℕ → Event → FrameRead → Own
 ownStep before profile mode time due event read =
     let early = earlyRefusal (limitsOf profile) time (before .settings .kind) event read in
     cond (not (eqb early accepted)) (ownOf before time due early Nothing)
     (cond (isServed due (event .kind) (event .time)) (ownOf before time due accepted Service)
-    (cond (eqb (event .kind) kindTick) (ownOf before (event .time) due accepted Nothing)
+    (cond (isAgain before profile (event .kind) (recordedArgument (event .kind) (event .argument) read))
+    (againOwn before due event)
     (ownTake before profile mode due event read)))
 
 -- what is left to do, on the state with the event's own input in it

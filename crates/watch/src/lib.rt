@@ -5,9 +5,11 @@
 // `requires`.
 use events::early_refusal;
 use events::input_after;
+use events::recorded_argument;
 use events::recorded_event;
 use events::step_read;
 use frame::FrameRead;
+use input::Heard;
 use input::Input;
 use numbers::ACCEPTED;
 use numbers::Answer;
@@ -16,21 +18,27 @@ use numbers::FRAME_LIFE;
 use numbers::INPUT_COUNT;
 use numbers::KIND_CLEAR_SWITCH;
 use numbers::KIND_FORCED;
+use numbers::KIND_FRAME;
+use numbers::KIND_LINE_CODE;
 use numbers::KIND_MANUAL;
 use numbers::KIND_QUALITY_MODE;
 use numbers::KIND_TICK;
 use numbers::Profile;
+use numbers::quality_of_code;
 use run::Forecast;
 use run::Run;
 use selector::Selector;
 use selector::seen_of;
 ghost use mathlib.Core.Path.{_≡_};
 ghost use Rattle.watch.specs.Due.{sumOrNever, lesser, waitDue, expiryDue, runDue, dueOf, dueOfAll, dueAnew};
-ghost use Rattle.watch.specs.Watch.{freshWatch, commands, isServed, seenAlike, servedWatch, watchStep};
-ghost use Rattle.watch.specs.Own.{OwnPlace, ownTake, ownStep, completed};
+ghost use Rattle.watch.specs.Watch.{freshWatch, commands, isServed, codeAgain, frameAgain, isAgain, seenAlike, servedWatch, watchStep};
+ghost use Rattle.watch.specs.Own.{OwnPlace, againOwn, ownTake, ownStep, completed};
 
 // Stands for a time that never comes.
 const NEVER: u64 = u64::MAX;
+
+// How many equal codes in a row settle a line's quality.
+const REPORTS_NEEDED: u8 = 3;
 
 // The state; the time before which nothing is due; and the answer to the last event, which but for
 // its number changes only where a choice is made.
@@ -201,6 +209,87 @@ pub fn own_place(inputs: [Input; 16], number: u8) -> usize
     (number % INPUT_COUNT) as usize
 }
 
+// Whether a code has come three times that comes again: nothing that was heard changes.
+fn code_again(profile: Profile, heard: Heard, code: u16) -> bool
+    ensures { λ answer. ⌜ answer ≡ codeAgain profile heard code ⌝ }
+{
+    if heard.good {
+        if heard.last != code {
+            return false;
+        }
+        if heard.count != REPORTS_NEEDED {
+            return false;
+        }
+        let line = heard.line;
+        let told = quality_of_code(profile, code);
+        return line.0 == told.0;
+    }
+    false
+}
+
+// Whether a frame says what the last one said, in a run that is not failed: of what was heard the
+// time of the last frame alone changes.
+fn frame_again(profile: Profile, heard: Heard, failed: bool, code: u16) -> bool
+    ensures { λ answer. ⌜ answer ≡ frameAgain profile heard failed code ⌝ }
+{
+    if failed {
+        return false;
+    }
+    if heard.good {
+        let frame = heard.frame;
+        let told = quality_of_code(profile, code);
+        return frame.0 == told.0;
+    }
+    false
+}
+
+// Whether an event says again what was said before: a tick says nothing. A word is not looked at.
+pub fn is_again(before: Input, profile: Profile, kind: u8, argument: u16) -> bool
+    ensures { λ answer. ⌜ answer ≡ isAgain before profile kind argument ⌝ }
+{
+    let heard = before.heard;
+    let run = before.run;
+    match kind {
+        KIND_TICK => true,
+        KIND_LINE_CODE => code_again(profile, heard, argument),
+        KIND_FRAME => frame_again(profile, heard, run.failed, argument),
+        _ => false,
+    }
+}
+
+// Such an event, taken by its own input: a frame is remembered, and expires the later.
+pub fn again_own(before: Input, due: u64, event: Event) -> Own
+    ensures { λ answer. ⌜ answer ≡ againOwn before due event ⌝ }
+{
+    if event.kind == KIND_FRAME {
+        let mut heard = before.heard;
+        heard.framed = event.time;
+        let run = before.run;
+        let settings = before.settings;
+        let expiry = sum_or_never(event.time, FRAME_LIFE);
+        let next = lesser(due, expiry);
+        let input = Input {
+            heard,
+            run,
+            settings,
+        };
+        return Own {
+            input,
+            time: event.time,
+            due: next,
+            number: ACCEPTED,
+            left: Left::Nothing,
+        };
+    }
+    Own {
+        input: before,
+        time: event.time,
+        due,
+        number: ACCEPTED,
+        left: Left::Nothing,
+    }
+}
+
 // An event taken by its own input, with a choice left where one would see it otherwise.
 fn own_take(
     before: Input,
@@ -263,14 +352,9 @@ pub fn own_step(
             left: Left::Service,
         };
     }
-    if event.kind == KIND_TICK {
-        return Own {
-            input: before,
-            time: event.time,
-            due,
-            number: ACCEPTED,
-            left: Left::Nothing,
-        };
+    let argument = recorded_argument(event.kind, event.argument, read);
+    if is_again(before, profile, event.kind, argument) {
+        return again_own(before, due, event);
     }
     own_take(before, profile, mode, due, event, read)
 }
@@ -316,8 +400,8 @@ impl Watch {
     }
 
     // One event with its frame read. Before anything is due, an event that does not command the
-    // switch or the mode is taken by its own input alone, and a choice is made only where it would
-    // see that input otherwise than before.
+    // switch or the mode is taken by its own input alone: at once where it says again what was said
+    // before, and a choice is made only where it would see that input otherwise than before.
     pub fn step(self, event: Event, read: FrameRead) -> Watch
         ensures { λ after. ⌜ after ≡ watchStep self event read ⌝ }
     {

@@ -17,6 +17,15 @@ is-served-requires c κs = search needs
 returns-2 : tie.Need-returns-2
 returns-2 c = search ownStep-laws
 
+recorded-argument-requires : tie.Need-recorded-argument-requires
+recorded-argument-requires c κs = search needs
+
+is-again-requires : tie.Need-is-again-requires
+is-again-requires c κs = search needs
+
+again-own-requires : tie.Need-again-own-requires
+again-own-requires c κs = search needs
+
 returns-3 : tie.Need-returns-3
 returns-3 c = search ownStep-laws
 
@@ -34,6 +43,9 @@ own-step-spec =
     returns
     is-served-requires
     returns-2
+    recorded-argument-requires
+    is-again-requires
+    again-own-requires
     returns-3
     own-take-requires
     returns-4)
