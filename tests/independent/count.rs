@@ -4,10 +4,11 @@
 use std::io::{self, Read, Write};
 
 use crate::generate::LAST_TIME;
-use crate::line;
+use crate::line::{self, Line};
 use crate::log::LogReader;
+use crate::replay::Replay;
 use crate::selector::{
-    ClockState, Event, Input, InputNumber, Kind, Profile, Quality, Selector, Switch, Time,
+    ClockState, Event, Input, InputNumber, Kind, Profile, Quality, Selector, Start, Switch, Time,
     FRAME_LIFE, NEVER, PROV, ST3E, ST4, TNC,
 };
 
@@ -98,6 +99,9 @@ items! {
     WordForgotten "word-forgotten-by-third-kind-on-third-kind"
     PassedNotTold "passed-0-with-mode-on"
     PassedWithModeOff "passed-1-to-6-with-mode-off"
+    AnotherByte "malformed-for-another-byte-only"
+    BeforeProfile "malformed-before-the-profile-is-set"
+    RefusedFirst "refused-and-sets-the-profile"
     SameMillisecond "event-in-millisecond-of-the-one-before"
     LastTime "event-in-last-millisecond"
 }
@@ -130,15 +134,21 @@ impl Counts {
     }
 }
 
-pub fn count(profile: Profile, log: impl Read, output: &mut impl Write) -> io::Result<()> {
+pub fn count(start: Start, log: impl Read, output: &mut impl Write) -> io::Result<()> {
     let mut log = LogReader::new(log);
     let mut counts = Counts {
         items: [0; NAMES.len()],
         numbers: [0; NUMBERS],
     };
-    let mut selector = Selector::started(profile);
+    let mut replay = Replay::fresh(start);
     while let Some(digits) = log.next_line()? {
-        let number = take(digits, &mut selector, &mut counts);
+        let set_before = replay.profile_is_set();
+        let number = match replay.read(digits) {
+            None => count_malformed(digits, &replay, &mut counts),
+            Some(line) => take(&line, &mut replay.selector, &mut counts),
+        };
+        let refused_first = !set_before && replay.profile_is_set() && number != 0;
+        counts.add_if(Item::RefusedFirst, refused_first);
         counts.numbers[usize::from(number)] += 1;
         counts.add(Item::Lines);
     }
@@ -146,12 +156,16 @@ pub fn count(profile: Profile, log: impl Read, output: &mut impl Write) -> io::R
     counts.write(output)
 }
 
+/// A malformed line; some are so for their byte alone.
+fn count_malformed(digits: &[u8], replay: &Replay, counts: &mut Counts) -> u8 {
+    counts.add_if(Item::AnotherByte, line::read(digits).is_some());
+    counts.add_if(Item::BeforeProfile, !replay.profile_is_set());
+    1
+}
+
 /// `line::take`, with a look at the state before, between and after.
-fn take(digits: &[u8], selector: &mut Selector, counts: &mut Counts) -> u8 {
-    let Some(line) = line::read(digits) else {
-        return 1;
-    };
-    let (event, input) = match line::check(&line, selector) {
+fn take(line: &Line, selector: &mut Selector, counts: &mut Counts) -> u8 {
+    let (event, input) = match line::check(line, selector) {
         Err(number) => return number,
         Ok(taken) => taken,
     };

@@ -1,7 +1,7 @@
 //! Logs that were in order (realistic or nasty) and then suffered: bits flipped, bytes
 //! cut, doubled, put in, lines swapped, joined and doubled.
 
-use crate::generate::{sound, LogSource, Numbers};
+use crate::generate::{sound, time_in_old_form, Form, LogSource, Numbers};
 use crate::line;
 use crate::nasty::{LINES_AT_END_OF_TIME, SHORTEST_WITH_LEAPS};
 use crate::random::Random;
@@ -17,6 +17,8 @@ const FAR: Time = 500;
 
 pub struct Damaged {
     sound: Box<dyn LogSource>,
+    /// The byte of the log's lines, if it is of L11's form.
+    byte: Option<&'static [u8; 2]>,
     random: Random,
     line: u64,
     lines: u64,
@@ -27,16 +29,22 @@ pub struct Damaged {
 }
 
 impl Damaged {
-    pub fn new(mut random: Random, lines: u64, numbers: &'static Numbers) -> Damaged {
+    pub fn new(mut random: Random, lines: u64, numbers: &'static Numbers, form: Form) -> Damaged {
         let inner = Random::new(random.next(), 0);
         let sound: Box<dyn LogSource> = if random.percent(50) {
             sound("realistic", inner, lines, numbers)
         } else {
             sound("nasty", inner, lines, numbers)
         };
+        let byte = match form {
+            Form::Old => None,
+            Form::New(_) => Some(numbers.byte),
+        };
+        let sound = form.of(sound, numbers, lines);
         let last_lf_missing = random.percent(50);
         Damaged {
             sound,
+            byte,
             random,
             line: 0,
             lines,
@@ -78,15 +86,24 @@ impl Damaged {
         self.sound.next_line(log);
     }
 
+    /// The time of a well-formed line of the log's form, whatever its byte is: it may be the first.
+    fn time_of(&self, line: &[u8]) -> Option<Time> {
+        match self.byte {
+            None => time_in_old_form(line),
+            Some(_) => line::read(line).map(|line| line.time),
+        }
+    }
+
+    /// The same of a sound line, which has the log's byte.
+    fn time_of_sound(&self, line: &[u8]) -> Option<Time> {
+        let of_this_log = self.byte.is_none_or(|byte| line.get(2..4) == Some(byte));
+        self.time_of(line).filter(|_| of_this_log)
+    }
+
     fn leaps(&self, log: &[u8]) -> bool {
         let mut lines = log.split(|&byte| byte == b'\n');
-        lines.any(|line| time_of(line).is_some_and(|time| time > self.now + FAR))
+        lines.any(|line| self.time_of(line).is_some_and(|time| time > self.now + FAR))
     }
-}
-
-/// The time of a well-formed line.
-fn time_of(line: &[u8]) -> Option<Time> {
-    line::read(line).map(|line| line.time)
 }
 
 impl LogSource for Damaged {
@@ -94,7 +111,7 @@ impl LogSource for Damaged {
     fn next_line(&mut self, log: &mut Vec<u8>) {
         self.line += 1;
         self.sound.next_line(log);
-        let time = time_of(&log[..log.len() - 1]).unwrap_or(0);
+        let time = self.time_of_sound(&log[..log.len() - 1]).unwrap_or(0);
         self.now = self.now.max(time);
         if !self.random.one_in(DAMAGE) {
             return;

@@ -7,11 +7,13 @@ use crate::damaged::Damaged;
 use crate::headers::{Frames, Headers};
 use crate::hex;
 use crate::nasty::Nasty;
+use crate::new_form::NewForm;
 use crate::questions::Questions;
 use crate::random::Random;
 use crate::realistic::Realistic;
 use crate::selector::{Code, Time};
 use crate::sparse::Sparse;
+use crate::unit_events::UnitEvents;
 use crate::words::Words;
 
 /// "time at or above 2^48" can't come from a log; this is the last one that can.
@@ -20,6 +22,8 @@ pub const LAST_TIME: Time = (1 << 48) - 1;
 /// The numbers and codes of an option, spelled out here so that the logs don't lean on the
 /// rules under test.
 pub struct Numbers {
+    /// L11: the byte of its lines, in digits.
+    pub byte: &'static [u8; 2],
     /// Codes to be heard, the usual ones more often.
     pub codes: &'static [Code],
     /// The codes of qualities that can be followed, the best first.
@@ -41,6 +45,7 @@ pub struct Numbers {
 pub const DO_NOT_USE: Code = 15;
 
 pub const OPTION_ONE: Numbers = Numbers {
+    byte: b"01",
     codes: &[2, 2, 2, 4, 4, 4, 8, 8, 11, 11, 15, 0, 2, 4, 1, 14],
     followed: &[2, 4, 8, 11],
     invalid: [0, 1, 3, 14],
@@ -53,6 +58,7 @@ pub const OPTION_ONE: Numbers = Numbers {
 
 /// PROV, 1110, is among those that can be followed: where it is placed decides.
 pub const OPTION_TWO: Numbers = Numbers {
+    byte: b"02",
     codes: &[1, 1, 0, 0, 7, 7, 4, 13, 10, 12, 14, 14, 14, 15, 2, 8],
     followed: &[1, 0, 7, 4, 13, 10, 14, 14, 12],
     invalid: [2, 3, 5, 11],
@@ -113,7 +119,24 @@ impl LogSource for Box<dyn LogSource> {
 
 const FLUSH_AT: usize = 60_000;
 
-/// A log in order, or as much as its kind has it, with words where the option has them.
+/// The form of a log's lines: document 01's, or L11's with what its bytes are drawn from.
+pub enum Form {
+    Old,
+    New(Random),
+}
+
+impl Form {
+    /// A log of document 01's form in this one.
+    pub fn of(self, log: Box<dyn LogSource>, numbers: &Numbers, lines: u64) -> Box<dyn LogSource> {
+        match self {
+            Form::Old => log,
+            Form::New(random) => Box::new(NewForm::new(log, random, numbers, lines)),
+        }
+    }
+}
+
+/// A log in order, or as much as its kind has it, with words where the option has them. It has
+/// document 01's form.
 pub fn sound(
     kind: &str,
     mut random: Random,
@@ -132,28 +155,39 @@ pub fn sound(
     }
 }
 
-/// `SEED` is a number, or `SEED.PIECE` for the further logs of one seed; `OPTION` 1, 2 or `words`.
+/// `SEED` is a number, or `SEED.PIECE` for the further logs of one seed; `OPTION` 1, 2 or `words`,
+/// and after it `old` for document 01's form.
 pub fn generate(
     kind: &str,
     seed: &str,
     lines: &str,
-    option: &str,
+    option: &[&str],
     output: &mut impl Write,
 ) -> io::Result<()> {
     let lines = number(lines)?;
-    let numbers = Numbers::of(option)?;
     let (seed, piece) = seed.split_once('.').unwrap_or((seed, "0"));
-    let random = Random::new(number(seed)?, number(piece)?);
-    match kind {
-        "realistic" | "nasty" | "sparse" => {
-            write_lines(sound(kind, random, lines, numbers), lines, output)
+    let (seed, piece) = (number(seed)?, number(piece)?);
+    let (option, form) = match option {
+        [] => ("1", Form::New(Random::new(!seed, piece))),
+        [option] => (*option, Form::New(Random::new(!seed, piece))),
+        [option, "old"] => (*option, Form::Old),
+        [_, more @ ..] => return Err(not_understood(&more.join(" "))),
+    };
+    let numbers = Numbers::of(option)?;
+    let random = Random::new(seed, piece);
+    let source: Box<dyn LogSource> = match kind {
+        "realistic" | "nasty" | "sparse" => sound(kind, random, lines, numbers),
+        "headers" => Box::new(Headers::new(random, numbers)),
+        "questions" => Box::new(Questions::new(random, lines, numbers)),
+        "frames" => return write_lines(Frames::new(random), lines, output),
+        "unit" => return write_lines(UnitEvents::new(random, lines, numbers), lines, output),
+        "damaged" => {
+            let damaged = Damaged::new(random, lines, numbers, form);
+            return write_damaged(damaged, lines, output);
         }
-        "frames" => write_lines(Frames::new(random), lines, output),
-        "questions" => write_lines(Questions::new(random, lines, numbers), lines, output),
-        "headers" => write_lines(Headers::new(random, numbers), lines, output),
-        "damaged" => write_damaged(Damaged::new(random, lines, numbers), lines, output),
-        _ => Err(not_understood(kind)),
-    }
+        _ => return Err(not_understood(kind)),
+    };
+    write_lines(form.of(source, numbers, lines), lines, output)
 }
 
 fn number(text: &str) -> io::Result<u64> {
@@ -203,7 +237,19 @@ fn write_damaged(mut source: Damaged, lines: u64, output: &mut impl Write) -> io
     Ok(())
 }
 
-/// Adds an event's line. What doesn't fit its bytes is cut off above.
+/// The time of a line of document 01's form, if it is one.
+pub fn time_in_old_form(line: &[u8]) -> Option<Time> {
+    let frame = line.starts_with(b"02") && line.len() % 2 == 0;
+    let right_length = line.len() == 20 || frame && (20..=3_048).contains(&line.len());
+    if !right_length || !hex::all_digits(line) {
+        return None;
+    }
+    let digits = std::str::from_utf8(&line[2..14]).ok()?;
+    Time::from_str_radix(digits, 16).ok()
+}
+
+/// Adds an event's line, in document 01's form: the byte is written in by `new_form.rs`. What
+/// doesn't fit its bytes is cut off above.
 pub fn event_line(log: &mut Vec<u8>, kind: u8, time: Time, input: u8, argument: u16) {
     event_digits(log, kind, time, input, argument);
     log.push(b'\n');

@@ -951,8 +951,11 @@ impl Nasty {
         };
         log.resize(start + length, b'0');
         if length > 3_052 || self.random.percent(30) {
+            let place = log.len() + 2;
             event_line(log, 0x0f, self.now, 0, 0);
             log.pop();
+            // The rest is a line of L11's form.
+            log.splice(place..place, *self.numbers.byte);
         }
     }
 

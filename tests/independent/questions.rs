@@ -5,8 +5,7 @@
 
 use std::collections::VecDeque;
 
-use crate::generate::{event_line, random_octets, sound, LogSource, Numbers};
-use crate::line;
+use crate::generate::{event_line, random_octets, sound, time_in_old_form, LogSource, Numbers};
 use crate::random::Random;
 use crate::selector::Time;
 
@@ -217,8 +216,8 @@ impl Questions {
     fn log_line(&mut self, text: &mut Vec<u8>) {
         let start = text.len();
         self.log.next_line(text);
-        if let Some(line) = line::read(text[start..].trim_ascii_end()) {
-            self.log_time = self.log_time.max(line.time);
+        if let Some(time) = time_in_old_form(text[start..].trim_ascii_end()) {
+            self.log_time = self.log_time.max(time);
         }
     }
 }

@@ -698,8 +698,6 @@ pub struct Placed {
     prov: u8,
     /// Bit i for port i: "A port marked first generation".
     marks: u16,
-    /// Whether words are known: from L12 on.
-    words: bool,
 }
 
 /// A place among the qualities that can be followed: lower is better.
@@ -737,39 +735,17 @@ const FIRST_GENERATION_WORD: Word = 0x10ff;
 /// "With sending off the word is 08FF, which a receiver reads as STU".
 const NOT_SENDING: Word = 0x08ff;
 
-/// The level at which words are known, unless START says another.
-const LEVEL_OF_WORDS: u64 = 12;
-
 impl Profile {
-    /// START: nothing, or `2 PLACE MARKS`, and after it the level if it isn't 12 (10: words are
-    /// not known). The profile; `None` for a refused start.
-    pub fn of_start(arguments: &[&str]) -> Result<Option<Profile>, String> {
-        match arguments {
-            [] => Ok(Some(Profile::OptionI)),
-            ["2", place, marks, level @ ..] if level.len() <= 1 => {
-                let wrong = || format!("not a start: {}", arguments.join(" "));
-                let place = decimal(place).ok_or_else(wrong)?;
-                let marks = four_digits(marks).ok_or_else(wrong)?;
-                let level = level
-                    .first()
-                    .map_or(Some(LEVEL_OF_WORDS), |level| decimal(level));
-                let words = level.ok_or_else(wrong)? >= LEVEL_OF_WORDS;
-                Ok(Profile::option_two(place, marks, words))
-            }
-            _ => Err(format!("not a start: {}", arguments.join(" "))),
-        }
-    }
-
     /// Option II; nothing for a place of PROV that is out of range, "otherwise refusal 6 and
     /// no start".
-    pub fn option_two(place: u64, marks: u16, words: bool) -> Option<Profile> {
+    pub fn option_two(place: u64, marks: u16) -> Option<Profile> {
         let prov = u8::try_from(place).ok().filter(|place| *place <= ST4.0)?;
-        Some(Profile::OptionII(Placed { prov, marks, words }))
+        Some(Profile::OptionII(Placed { prov, marks }))
     }
 
     /// L12: words are for option II only; "in option I it stays unknown".
     pub fn knows_words(self) -> bool {
-        matches!(self, Profile::OptionII(placed) if placed.words)
+        matches!(self, Profile::OptionII(_))
     }
 
     /// L12's table; "Words not listed read as invalid."
@@ -919,13 +895,49 @@ impl Placed {
     }
 }
 
+/// START: what a log of option II starts with. L11: "02: no marks, PROV unplaced", unless it is
+/// given.
+#[derive(Clone, Copy, Debug)]
+pub struct Start {
+    option_two: Profile,
+}
+
+impl Start {
+    pub const NOTHING: Start = Start {
+        option_two: Profile::OptionII(Placed { prov: 0, marks: 0 }),
+    };
+
+    /// Nothing, or `2 PLACE MARKS`; `None` for a refused start.
+    pub fn read(arguments: &[&str]) -> Result<Option<Start>, String> {
+        let wrong = || format!("not a start: {}", arguments.join(" "));
+        match arguments {
+            [] => Ok(Some(Start::NOTHING)),
+            ["2", place, marks] => {
+                let place = decimal(place).ok_or_else(wrong)?;
+                let marks = four_digits(marks).ok_or_else(wrong)?;
+                let option_two = Profile::option_two(place, marks);
+                Ok(option_two.map(|option_two| Start { option_two }))
+            }
+            _ => Err(wrong()),
+        }
+    }
+
+    /// The profile that a log's byte chooses.
+    pub fn profile(self, option: u8) -> Profile {
+        match option {
+            1 => Profile::OptionI,
+            _ => self.option_two,
+        }
+    }
+}
+
 /// A number too large for its type is out of range as well.
-fn decimal(digits: &str) -> Option<u64> {
+pub fn decimal(digits: &str) -> Option<u64> {
     let right = !digits.is_empty() && digits.bytes().all(|digit| digit.is_ascii_digit());
     right.then(|| digits.parse().unwrap_or(u64::MAX))
 }
 
-fn four_digits(digits: &str) -> Option<u16> {
+pub fn four_digits(digits: &str) -> Option<u16> {
     let right = digits.len() == 4 && digits.bytes().all(|digit| digit.is_ascii_hexdigit());
     right
         .then(|| u16::from_str_radix(digits, 16).ok())

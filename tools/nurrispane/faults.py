@@ -1,7 +1,7 @@
 """The known faults: wrong copies of the independent program, and what each does to a log.
 
 tests/independent/wrong-copies*.txt list them: a name, the mode in which the fault shows if it isn't
-`replay`, and edits of the program's text. A copy is built once and kept below target/, under a name
+`replay`, with START where it is one of option II, and edits of the program's text. A copy is built once and kept below target/, under a name
 made of its text, so that it is built anew where anything of it has changed. One for a mode that takes
 a log has sequences/log_modes.rs in place of the program's main.rs.
 """
@@ -41,8 +41,17 @@ def lists():
 
 
 def known():
-    """The known faults that a log may show."""
+    """The known faults that a log of option I may show."""
     return [fault for fault in every() if fault.mode in LOG_MODES]
+
+
+def of_answers(option):
+    """The known faults that the answers to a log of this option may show."""
+    return [fault for fault in every() if fault.mode == "replay" or option != 1 and fault.mode.startswith("replay ")]
+
+
+# "NAME (MODE START)"
+NAMED = re.compile(r"(.*?)(?: \(([a-z_-]+(?: [0-9a-f ]+)?)\))?")
 
 
 def every():
@@ -52,8 +61,8 @@ def every():
         for text in path.read_text().splitlines():
             mark, rest = text[:1], text[2:]
             if mark == "#":
-                name, _, mode = rest.partition(" (")
-                faults.append(Fault(name, mode.rstrip(")") or "replay", []))
+                name, mode = NAMED.fullmatch(rest).groups()
+                faults.append(Fault(name, mode or "replay", []))
             elif mark == "@":
                 faults[-1].edits.append((rest, [], []))
             elif mark in ("<", ">"):
@@ -65,7 +74,7 @@ RIGHT = Fault("no fault", "replay", [])
 
 
 def main_of(fault):
-    return MAIN.name if fault.mode in LOG_MODES else "main.rs"
+    return MAIN.name if fault.mode.split()[0] in LOG_MODES else "main.rs"
 
 
 def sources(fault, added=None):

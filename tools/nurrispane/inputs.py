@@ -129,7 +129,7 @@ def why(facts, number, answer, brief=False):
     return reason
 
 
-REPORT = re.compile(rb"(02|03|12)([0-9a-f]{12})([0-9a-f]{2})([0-9a-f]{4})(?:[0-9a-f]{55}([0-9a-f])[0-9a-f]*)?")
+REPORT = re.compile(rb"(02|03|12)0[12]([0-9a-f]{12})([0-9a-f]{2})([0-9a-f]{4})(?:[0-9a-f]{55}([0-9a-f])[0-9a-f]*)?")
 WORD = b"12"
 
 

@@ -5,23 +5,45 @@ import sys
 from nurrispane import words
 from nurrispane.files import name_of
 
+# So much of a log is looked at.
+FRONT, LINES = 65_536, 100
 
-def form_of(data):
+
+def first_lines(data):
+    return words.split_log(data[:FRONT])[0][:LINES]
+
+
+def is_old(data):
+    """Whether a log has lines of the old form, and none of the new one."""
+    lines = first_lines(data)
+    return not any(map(words.event_of, lines)) and any(map(words.OLD_EVENT.fullmatch, lines))
+
+
+def form_of(data, name):
     """What is wrong with a log as a whole, in words; None where nothing is."""
-    front = data[:65_536]
-    if b"\r\n" in front:
-        return "has CR LF line ends, so that its lines are malformed and refused with 1: tr -d '\\r' takes the CRs away"
-    lines = words.split_log(front)[0][:100]
-    if lines and not any(words.event_of(line) for line in lines):
+    if is_old(data):
+        return "has lines of the old form, without the option's byte, which are refused with 1: ./nurrispane convert new %s -o NEW" % name
+    lines = first_lines(data)
+    returns = sum(line.endswith(b"\r") for line in lines)
+    if returns:
+        told = "%d of its first %d lines" % (returns, len(lines)) if returns < len(lines) else "its lines"
+        return "has CR LF line ends, so that %s are malformed and refused with 1: tr -d '\\r' takes the CRs away" % told
+    if lines and not any(map(words.event_of, lines)):
         return "is no event log: none of its first %d lines is formed, and such lines are refused with 1" % len(lines)
     return None
 
 
 def word_on_form(command, path, data):
     """One line on standard error where a log has the wrong form."""
-    wrong = form_of(data)
+    wrong = form_of(data, path)
     if wrong:
         sys.stderr.write("nurrispane %s: %s %s\n" % (command, name_of(path), wrong))
+
+
+def word_on_old_form(command, path, data):
+    """The same where it has the old form alone: for a log that may be damaged otherwise."""
+    if is_old(data):
+        word_on_form(command, path, data)
 
 
 def seconds(time):

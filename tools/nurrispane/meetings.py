@@ -9,7 +9,7 @@ import itertools
 import re
 import subprocess
 
-from nurrispane import faults, words
+from nurrispane import faults, timeline, words
 from nurrispane.files import ROOT, Trouble
 
 TRACE = ROOT / "docs" / "TRACE.md"
@@ -155,13 +155,11 @@ def fields(text):
     return dict(FIELD.findall(text))
 
 
-# An extra tick changes nothing, and shows the fresh state.
-FIRST = words.event_line(words.BY_WORD["tick"].number, 0, 0, 0) + b"\n"
-
-
 def moments(program, data):
     """Each moment of a log, the fresh one first."""
-    run = subprocess.run([str(program), "replay"], input=FIRST + data, capture_output=True)
+    # an extra tick changes nothing, and shows the fresh state
+    first = timeline.tick(0, words.split_log(data)[0]) + b"\n"
+    run = subprocess.run([str(program), "replay"], input=first + data, capture_output=True)
     numbers = [int(answer[:2], 16) for answer in run.stdout.splitlines()]
     if run.returncode != 0 or len(numbers) != 1 + data.count(b"\n"):
         raise Trouble("the independent program does not tell the moments of a log")

@@ -149,14 +149,15 @@ def read_log(path):
     return data
 
 
-def on_files(name, logs, *numbers):
-    """What a program says to logs in files and numbers: the files are copies, so that nothing changes under it."""
+def on_files(name, logs, *numbers, first=()):
+    """What a program says to logs in files and numbers, after words that come first: the files are copies, so that nothing
+    changes under it."""
     ready(name)
     with tempfile.TemporaryDirectory() as directory:
         paths = [pathlib.Path(directory) / ("log-%d" % place) for place in range(1, len(logs) + 1)]
         for path, data in zip(paths, logs):
             path.write_bytes(data)
-        call = command(name) + [str(argument) for argument in (*paths, *numbers)]
+        call = command(name) + [str(argument) for argument in (*first, *paths, *numbers)]
         run = subprocess.run(call, stdin=subprocess.DEVNULL, capture_output=True)
     if run.returncode != 0:
         raise Trouble("the program %s ended with status %d" % (name, run.returncode))

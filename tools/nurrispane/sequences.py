@@ -35,8 +35,9 @@ def playable(data, allowed=None):
     longest time is left out with all after it."""
     kept, dropped, latest = [], collections.Counter(), 0
     lines, ended = words.split_log(data)
+    option = words.option_of(lines)
     for line in lines:
-        event = words.event_of(line)
+        event = words.event_of(line, option)
         if event is None or len(event.octets) > LARGEST_FRAME:
             why = MALFORMED
         elif event.time > LONGEST:
@@ -55,11 +56,12 @@ def playable(data, allowed=None):
 
 
 def stored():
-    """A sequence of each hand-made log that is stored."""
+    """A sequence of each hand-made log of option I that is stored."""
     path = STORED / "hand-made.txt"
     for log in words.logs(read_text(path), path):
-        data, dropped = playable(log.data())
-        yield Sequence(log.name, log.shows, data, dropped)
+        if log.option == 1:
+            data, dropped = playable(log.data())
+            yield Sequence(log.name, log.shows, data, dropped)
 
 
 def kept(folder):
@@ -97,6 +99,7 @@ def needs(data, answers):
 def in_words(shows, lines):
     """The text of a sequence's file."""
     told = ["shows " + shows] if shows else []
+    told += ["option 2"] * (words.option_of(lines) == 2)
     return "".join(line + "\n" for line in told + [words.line_in_words(line) for line in lines])
 
 
@@ -133,7 +136,7 @@ def time_of(line):
 def moved(line, time):
     """The line at another time."""
     event = words.event_of(line)
-    return words.event_line(event.kind, time, event.input, event.argument, event.octets)
+    return words.event_line(event.kind, time, event.input, event.argument, event.octets, event.option)
 
 
 def paced(lines, is_good):

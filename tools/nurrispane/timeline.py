@@ -24,8 +24,9 @@ class Ticked:
         return bisect.bisect_right(self.times, time)
 
 
-def tick(time):
-    return words.event_line(0x0F, time, 0, 0)
+def tick(time, lines):
+    """A tick for a log of these lines, of its option."""
+    return words.event_line(words.BY_WORD["tick"].number, time, 0, 0, option=words.option_of(lines) or 1)
 
 
 def moves(right):
@@ -42,7 +43,7 @@ def served(lines):
             times.append(facts[0].time)
             ends = {end for fact in facts for end in (fact.timer, fact.frame)}
             if moves(right[number - 1]):
-                added += [(number, tick(end)) for end in sorted(ends) if facts[0].time < end < later[number - 1]]
+                added += [(number, tick(end, lines)) for end in sorted(ends) if facts[0].time < end < later[number - 1]]
         if not added:
             return Ticked(lines, right, times)
         lines = with_ticks(lines, added)
@@ -55,7 +56,7 @@ def next_times(lines, right):
     for line, answer in zip(reversed(lines), reversed(right)):
         found.append(next_time)
         if moves(answer):
-            next_time = int(line[2:14], 16)
+            next_time = words.event_of(line).time
     return found[::-1]
 
 

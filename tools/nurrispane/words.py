@@ -13,6 +13,9 @@ TIME_LIMIT = 2**48
 LARGEST_INPUT = 0xFF
 LARGEST_ARGUMENT = 0xFFFF
 LARGEST_FRAME = 65_535
+# The options, by the byte after a line's kind; and the most digits of a line.
+OPTIONS = (1, 2)
+LONGEST_LINE = 3_050
 # More octets than these are not told one by one.
 MOST_CHANGES = 8
 
@@ -43,7 +46,7 @@ BY_WORD = {kind.word: kind for kind in KINDS}
 BY_NUMBER = {kind.number: kind for kind in KINDS}
 
 # What a well-formed line holds; the frame's octets are empty for other kinds.
-Event = collections.namedtuple("Event", "kind time input argument octets")
+Event = collections.namedtuple("Event", "kind option time input argument octets")
 # A line of a log: its bytes without LF, the answer in words if one is given, and where it stands.
 Line = collections.namedtuple("Line", "data answer place words")
 # A word and the column of its first character.
@@ -53,8 +56,8 @@ Word = collections.namedtuple("Word", "text column")
 class Log:
     """A log in words."""
 
-    def __init__(self, name, place):
-        self.name, self.place, self.shows = name, place, ""
+    def __init__(self, name, place, option=1):
+        self.name, self.place, self.option, self.shows = name, place, option, ""
         self.lines, self.ended = [], True
 
     def data(self):
@@ -134,13 +137,13 @@ def number(word, largest, what):
     return int(word.text)
 
 
-def event_line(kind, time, input_number, argument, octets=b""):
+def event_line(kind, time, input_number, argument, octets=b"", option=1):
     """The bytes of a line of the log."""
-    return b"%02x%012x%02x%04x" % (kind, time, input_number, argument) + bytes(octets).hex().encode()
+    return b"%02x%02x%012x%02x%04x" % (kind, option, time, input_number, argument) + bytes(octets).hex().encode()
 
 
-def line_of_words(said):
-    """The line for "TIME WORD ..", given as words with their columns."""
+def line_of_words(said, option):
+    """The line for "TIME WORD ..", given as words with their columns, in a log of this option."""
     said = collections.deque(said)
     end = said[-1].column + len(said[-1].text)
 
@@ -152,11 +155,11 @@ def line_of_words(said):
     time = number(take("a time"), TIME_LIMIT - 1, "a time in ms")
     word = take("the event's word")
     if word.text == "event":
-        line = any_event(time, take, said)
+        line = any_event(time, take, said, option)
     elif word.text == "frame":
-        line = frame_line(time, take, said)
+        line = frame_line(time, take, said, option)
     elif word.text in BY_WORD:
-        line = known_event(BY_WORD[word.text], time, take)
+        line = known_event(BY_WORD[word.text], time, take, option)
     else:
         raise Wrong(word.column, "no such word: %s" % ascii(word.text))
     if said:
@@ -164,7 +167,7 @@ def line_of_words(said):
     return line
 
 
-def known_event(kind, time, take):
+def known_event(kind, time, take, option):
     input_number = number(take("an input"), LARGEST_INPUT, "an input") if kind.has_input else 0
     argument = 0
     if kind.names is not None:
@@ -174,18 +177,18 @@ def known_event(kind, time, take):
         if kind.names and named is None and not word.text.isdigit():
             raise Wrong(word.column, "%s is %s or a number" % (what, ", ".join(kind.names)))
         argument = number(word, LARGEST_ARGUMENT, what) if named is None else named
-    return event_line(kind.number, time, input_number, argument)
+    return event_line(kind.number, time, input_number, argument, option=option)
 
 
-def frame_line(time, take, said):
+def frame_line(time, take, said, option):
     input_number = number(take("an input"), LARGEST_INPUT, "an input")
     octets = sound_frame(number(take("a code"), 15, "a code"))
     while said:
         octets = change_frame(octets, said.popleft())
-    return event_line(FRAME_KIND, time, input_number, 0, octets)
+    return event_line(FRAME_KIND, time, input_number, 0, octets, option)
 
 
-def any_event(time, take, said):
+def any_event(time, take, said, option):
     """ "event KIND INPUT ARGUMENT [DIGITS]": any numbers."""
     kind = take("a kind")
     if not re.fullmatch("[0-9a-f]{2}", kind.text):
@@ -195,20 +198,20 @@ def any_event(time, take, said):
     digits = said.popleft() if said else Word("", 0)
     if not re.fullmatch("[0-9a-f]*", digits.text):
         raise Wrong(digits.column, "a frame's octets are lowercase hexadecimal digits")
-    return event_line(int(kind.text, 16), time, input_number, argument) + digits.text.encode()
+    return event_line(int(kind.text, 16), time, input_number, argument, option=option) + digits.text.encode()
 
 
 ESCAPES = {"\\": b"\\", "t": b"\t", "r": b"\r"}
 
 
-def raw_line(text, column):
-    """The bytes of "raw TEXT": escapes, and "(PART)*N REST" for N times PART and then REST."""
+def plain_bytes(text, column):
+    """The bytes of "bytes TEXT": escapes, and "(PART)*N REST" for N times PART and then REST."""
     if text.startswith("("):
         group = re.match(r"\(([^()]*)\)\*([0-9]{1,9})( |$)", text)
         if not group:
             raise Wrong(column, "a repeated part is (PART)*N, then a space or nothing")
-        part = raw_line(group.group(1), column + 1)
-        return part * int(group.group(2)) + raw_line(text[group.end():], column + group.end())
+        part = plain_bytes(group.group(1), column + 1)
+        return part * int(group.group(2)) + plain_bytes(text[group.end():], column + group.end())
     data, place = b"", 0
     while place < len(text):
         escape = re.compile(r"\\(?:x([0-9a-f]{2})|(.))?", re.S).match(text, place)
@@ -229,15 +232,21 @@ def raw_line(text, column):
     return data
 
 
+def raw_line(text, column, option):
+    """The bytes of "raw TEXT": the same with the option's byte after the first two."""
+    data = plain_bytes(text, column)
+    return data[:2] + b"%02x" % option + data[2:] if len(data) >= 2 else data
+
+
 # ---- a text in words
 
 
 def logs(text, source):
     """The logs of a text; errors name `source`, line and column."""
-    found = []
+    found, options = [], options_of(text)
     for place, line in enumerate(text.split("\n"), 1):
         try:
-            take_line(found, line.split("#")[0].rstrip(), place)
+            take_line(found, line.split("#")[0].rstrip(), place, options)
         except Wrong as wrong:
             column, what = wrong.args
             raise Trouble("%s:%d:%d: %s" % (source, place, column, what)) from wrong
@@ -256,7 +265,21 @@ def one_log(text, source, name=None):
     return found[0] if found else Log(None, 1)
 
 
-def take_line(found, text, place):
+def options_of(text):
+    """The option of each log of a text: that of its line "option N", wherever it stands, otherwise 1."""
+    found = []
+    for line in text.split("\n"):
+        said = line.split("#")[0].split("|")[0].split()
+        if len(said) > 1 and said[0] == "log":
+            found.append(1)
+        elif said:
+            found = found or [1]
+            if len(said) == 2 and said[0] == "option" and said[1] in map(str, OPTIONS):
+                found[-1] = int(said[1])
+    return found
+
+
+def take_line(found, text, place, options):
     """One line of words, its comment gone."""
     if not text:
         return
@@ -264,14 +287,16 @@ def take_line(found, text, place):
     said = [Word(word.group(), word.start() + 1) for word in re.finditer(r"\S+", told)]
     first = said[0].text if said else ""
     if first == "log" and len(said) > 1:
-        found.append(Log(told[3:].strip(), place))
+        found.append(Log(told[3:].strip(), place, options[len(found)]))
         return
     if not found:
-        found.append(Log(None, place))
+        found.append(Log(None, place, options[0] if options else 1))
     log = found[-1]
     if first == "shows":
         log.shows = " ".join([log.shows, text[6:].strip()]).strip()
         return
+    if first == "option":
+        return take_option(log, said)
     if not log.ended:
         raise Wrong(1, "a line after \"no final LF\"")
     if told.split() == ["no", "final", "LF"]:
@@ -279,10 +304,18 @@ def take_line(found, text, place):
         return
     if not said:
         raise Wrong(1, "an answer without an event")
-    log.lines += told_lines(told, said, first, bar, answer, place)
+    log.lines += told_lines(told, said, bar, answer, place, log.option)
 
 
-def told_lines(told, said, first, bar, answer, place):
+def take_option(log, said):
+    """A line "option N", which `options_of` has read: only what is wrong with it is left to tell."""
+    if len(said) != 2 or said[1].text not in map(str, OPTIONS):
+        raise Wrong(said[1].column if len(said) > 1 else len("option") + 1, "an option is 1 or 2")
+    if int(said[1].text) != log.option:
+        raise Wrong(said[1].column, "the log has another option: %d" % log.option)
+
+
+def told_lines(told, said, bar, answer, place, option):
     """The lines of "EVENT [xN] [| ANSWER]"; of N equal ones the last is answered so."""
     times = re.search(r"\sx([0-9]{1,6})\s*$", told)
     if times:
@@ -291,11 +324,13 @@ def told_lines(told, said, first, bar, answer, place):
         expected = answers.read(answer) if bar else None
     except ValueError as error:
         raise Wrong(len(told) + 2, str(error)) from error
-    if first == "raw":
-        rest = told[said[0].column + 2:].strip()
-        data = raw_line(rest, said[1].column if len(said) > 1 else said[0].column + 3)
+    first = said[0].text
+    if first in ("bytes", "raw"):
+        end = said[0].column - 1 + len(first)
+        rest, column = told[end:].strip(), said[1].column if len(said) > 1 else end + 1
+        data = plain_bytes(rest, column) if first == "bytes" else raw_line(rest, column, option)
     else:
-        data = line_of_words(said)
+        data = line_of_words(said, option)
     count = int(times.group(1)) if times else 1
     lines = [Line(data, None, place, told.strip())] * (count - 1)
     return lines + [Line(data, expected, place, told.strip())] * min(count, 1)
@@ -310,20 +345,40 @@ def split_log(data):
     return (lines[:-1], True) if lines[-1] == b"" else (lines, False)
 
 
-def event_of(data):
-    """What a line holds, or None where it is no line of digits with an event's length."""
-    if not re.fullmatch(rb"[0-9a-f]{20}|02[0-9a-f]{18}(?:[0-9a-f]{2})*", data):
+EVENT = re.compile(rb"[0-9a-f]{2}0[12][0-9a-f]{18}|020[12][0-9a-f]{18}(?:[0-9a-f]{2})*")
+# A line in the form of document 01, which has no option's byte.
+OLD_EVENT = re.compile(rb"[0-9a-f]{20}|02[0-9a-f]{18}(?:[0-9a-f]{2})*")
+
+
+def event_of(data, option=None):
+    """What a line holds, or None where it is no line of digits with an event's length, or not one of this option."""
+    if not EVENT.fullmatch(data):
         return None
     octets = bytes.fromhex(data.decode())
-    kind, time, argument = octets[0], octets[1:7], octets[8:10]
-    return Event(kind, int.from_bytes(time, "big"), octets[7], int.from_bytes(argument, "big"), octets[10:])
+    if option not in (None, octets[1]):
+        return None
+    kind, time, argument = octets[0], octets[2:8], octets[9:11]
+    return Event(kind, octets[1], int.from_bytes(time, "big"), octets[8], int.from_bytes(argument, "big"), octets[11:])
 
 
-def line_in_words(data):
-    """The words of a line."""
-    event = event_of(data)
+def option_of(lines):
+    """The option of a log: that of its first line that is formed; None where there is none."""
+    for line in lines:
+        if len(line) <= LONGEST_LINE and (event := event_of(line)):
+            return event.option
+    return None
+
+
+def option_in(data):
+    """The same of a log's bytes, which are looked at no further than needed."""
+    return option_of(line.group() for line in re.finditer(rb"[^\n]+", data))
+
+
+def line_in_words(data, option=None):
+    """The words of a line of a log that has this option; None for a line alone."""
+    event = event_of(data, option)
     if event is None:
-        return ("raw " + raw_in_words(data)).rstrip()
+        return ("bytes " + bytes_in_words(data)).rstrip()
     if event.kind == FRAME_KIND and event.argument == 0:
         frame = frame_in_words(event.octets)
         if frame is not None:
@@ -345,8 +400,8 @@ def line_in_words(data):
 LONG_RUN = re.compile(rb"(.)\1{63,}", re.S)
 
 
-def raw_in_words(data):
-    """The text of a raw line; a long run of one byte is told once."""
+def bytes_in_words(data):
+    """The text of a line that is no event; a long run of one byte is told once."""
     said, place = [], 0
     for run in LONG_RUN.finditer(data):
         if place < run.start():
@@ -367,7 +422,11 @@ def escaped(data):
 def log_in_words(data):
     """A log in words, a line for each of its lines."""
     lines, ended = split_log(data)
-    said = [line_in_words(line) for line in lines]
+    option = option_of(lines) or 1
+    said = [line_in_words(line, option) for line in lines]
+    # behind the lines, so that line N of the words is line N of the log
+    if option != 1:
+        said.append("option %d" % option)
     if not ended:
         said.append("no final LF")
     return "".join(line + "\n" for line in said)

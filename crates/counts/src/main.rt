@@ -1,18 +1,18 @@
 // How long each tick was: document 02, "How long can a tick be?". Reads an event log from standard
-// input to its end and writes for each line the count of due moments that its tick served, from a
-// fresh start of the profile that START says in its arguments; where that could not be done, it says
-// so on standard error.
+// input to its end and writes for each line the count of due moments that its tick served, from
+// fresh; START in its arguments gives the place of PROV and the marks with which a log of option II
+// starts. Where that could not be done, it says so on standard error.
 use replayer::Form;
 use start::StartRead;
 use start::read_start;
 
 fn main() {
     let start = read_start();
-    let StartRead::Started(profile) = start else {
+    let StartRead::Started(place, marks) = start else {
         console::say_start(start);
         return;
     };
-    let ended = console::replay(Form::Counts, profile);
+    let ended = console::replay(Form::Counts, place, marks);
     let ending = ended.ending;
     console::say(ending);
 }

@@ -79,3 +79,7 @@ sourceNotSix = 19
 -- L6: "A list longer than the room lent for it"; L8: "Output lent too short for either the log or the report"
 abbrev pub outputTooShort : ℕ
 outputTooShort = 20
+
+-- document 02, L11: "going back is refused with new number 21"
+abbrev pub noOldForm : ℕ
+noOldForm = 21

@@ -39,7 +39,7 @@ padded-next total octets place octet here room =
     ∙ sym (append-snoc octets octet (replicate (total - suc (length octets)) 0)))
 
 -- a text copied to the front of zeros
-drop-zeros : (count total : ℕ) → drop {A = ℕ} count (replicate total 0) ≡ replicate (total - count) 0
+pub drop-zeros : (count total : ℕ) → drop {A = ℕ} count (replicate total 0) ≡ replicate (total - count) 0
 drop-zeros zero total = let all : total ≡ total - 0 = omega arith in ap (λ (n : ℕ). replicate n 0) all
 drop-zeros (suc count) zero = let none : 0 ≡ 0 - suc count = omega arith in ap (λ (n : ℕ). replicate n 0) none
 drop-zeros (suc count) (suc total) =

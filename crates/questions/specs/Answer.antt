@@ -7,6 +7,7 @@ use lib.Dec.{ltb}
 use lib.ListN.{length, drop, replicate}
 use Rattle.digits.specs.Digits.{digitsOf, octetsOf}
 use Rattle.reader.specs.Lines.{lineFeed}
+use Rattle.eventlog.specs.Line.{longestNewLine}
 use Rattle.frame.specs.Write.{writtenLength}
 use Rattle.selector.specs.declared.Selector.{Selector}
 use Rattle.sender.specs.declared.Heartbeat.{Heartbeat}
@@ -41,7 +42,7 @@ heartbeatText (H.Refused number) frame = frameText (number ∷ [])
 
 -- a question has no more characters than the longest line of a log, whatever zeros its numbers begin with
 abbrev pub longestQuestion : ℕ
-longestQuestion = 3048
+longestQuestion = longestNewLine
 
 -- what a line that begins with `?` says
 unfoldable pub askedIn : List ℕ → QuestionRead

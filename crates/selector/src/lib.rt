@@ -36,14 +36,14 @@ ghost use Rattle.selector.specs.State.{seenOf, candidateFor, candidatesO
 ghost use Rattle.selector.specs.Answer.{selectedNumber, switchNumber, switchInput, clockState, clockQuality, outgoingCode, outgoingWord, selectedCandidate, signFor, ports, qualityOf, answerOf, outgoingCodes, outgoingWords};
 
 // Stands for no input in an answer.
-const NO_INPUT: u8 = 255;
+pub const NO_INPUT: u8 = 255;
 
 // The clock states.
 const FREE_RUN: u8 = 0;
 
 const HOLDOVER: u8 = 1;
 
-const LOCKED: u8 = 2;
+pub const LOCKED: u8 = 2;
 
 // The switches.
 pub const SWITCH_NONE: u8 = 0;

@@ -9,7 +9,6 @@ use borrow.Author.Tests.{eqb-true, eq-eqb, ne-eqb, le-leb, lt-leb, lt-ltb, leb-f
 use lib.Dec.{eqb, leb, ltb}
 use lib.ListN.{length, getD, drop, drop-of-length-le}
 use lib.Seq.{drop-cons}
-use Rattle.numbers.specs.declared.Profile.{Profile}
 use Rattle.numbers.specs.declared.Profile.the-variants as P
 use Rattle.numbers.specs.Refusal.{accepted, argumentOutOfRange}
 use Rattle.numbers.specs.Profile.{placeOf, lastPlace, startNumber}
@@ -22,7 +21,7 @@ use Rattle.text.specs.declared.NumberRead.the-variants.{Number, NoNumber}
 use Rattle.text.specs.Text.{allNumerals, readNumber}
 use Rattle.start.specs.declared.StartRead.{StartRead}
 use Rattle.start.specs.declared.StartRead.the-variants.{Started, Refused, NoStart}
-use Rattle.start.specs.Start.{numeral2, isTwo, isDecimal, isMarks, digitsValue, startOf, startIn, startBy}
+use Rattle.start.specs.Start.{numeral2, isOptionWord, isDecimal, isMarks, digitsValue, startOf, startIn, startBy}
 use Rattle.start.specs.Parts.{ValueOf, FourDigits}
 
 -- both cases of a test, with the equation
@@ -30,16 +29,16 @@ byBool : {C : Type 0} (test : Bool) → (test ≡ true → C) → (test ≡ fals
 byBool true f g = f refl
 byBool false f g = g refl
 
--- ---- isTwo, isMarks
+-- ---- isOptionWord, isMarks
 
 module _ (word : List ℕ) where
-  pub isTwo-size : (length word ≡ 1 → ⊥) → false ≡ isTwo word
-  unfolding isTwo
-  isTwo-size other = rw (ne-eqb _ _ other)
+  pub isOptionWord-size : (numeral : ℕ) → (length word ≡ 1 → ⊥) → false ≡ isOptionWord numeral word
+  unfolding isOptionWord
+  isOptionWord-size numeral other = rw (ne-eqb _ _ other)
 
-  pub isTwo-character : length word ≡ 1 → eqb (getD word 0 0) numeral2 ≡ isTwo word
-  unfolding isTwo
-  isTwo-character one = rw (eq-eqb _ _ one)
+  pub isOptionWord-character : (numeral : ℕ) → length word ≡ 1 → eqb (getD word 0 0) numeral ≡ isOptionWord numeral word
+  unfolding isOptionWord
+  isOptionWord-character numeral one = rw (eq-eqb _ _ one)
 
   pub isMarks-size : (length word ≡ 4 → ⊥) → false ≡ isMarks word
   unfolding isMarks
@@ -49,7 +48,7 @@ module _ (word : List ℕ) where
   unfolding isMarks
   isMarks-digits answer four all = all ∙ (rw (eq-eqb _ _ four))
 
-pub ruleset isTwo-laws = (isTwo-size, isTwo-character)
+pub ruleset isOptionWord-laws = (isOptionWord-size, isOptionWord-character)
 
 pub ruleset isMarks-laws = (isMarks-size, isMarks-digits)
 
@@ -130,21 +129,19 @@ value-of digit answer is value = record { value = value; below = omega (arith, v
 
 -- ---- startOf
 
-pub startOf-started : (profile : Profile) (number : ℕ) → number ≡ startNumber profile → number ≡ accepted
-    → Started profile ≡ startOf profile
-unfolding startOf
-startOf-started profile number is taken = rw (eq-eqb (startNumber profile) accepted (sym is ∙ taken))
+module _ (place marks number : ℕ) (is : number ≡ startNumber (P.OptionTwo place marks)) where
+  pub startOf-started : number ≡ accepted → Started place marks ≡ startOf place marks
+  unfolding startOf
+  startOf-started taken = rw (eq-eqb (startNumber (P.OptionTwo place marks)) accepted (sym is ∙ taken))
 
-pub startOf-refused : (profile : Profile) (number : ℕ) → number ≡ startNumber profile → (number ≡ accepted → ⊥)
-    → Refused ≡ startOf profile
-unfolding startOf
-startOf-refused profile number is left =
-    rw (ne-eqb (startNumber profile) accepted (λ same. left (is ∙ same)))
+  pub startOf-refused : (number ≡ accepted → ⊥) → Refused ≡ startOf place marks
+  unfolding startOf
+  startOf-refused left = rw (ne-eqb (startNumber (P.OptionTwo place marks)) accepted (λ same. left (is ∙ same)))
 
 pub ruleset startOf-laws = (startOf-started, startOf-refused)
 
 -- a place above 255 is above 8
-startOf-above : (place marks : ℕ) → lastPlace < place → Refused ≡ startOf (P.OptionTwo place marks)
+startOf-above : (place marks : ℕ) → lastPlace < place → Refused ≡ startOf place marks
 unfolding startOf startNumber placeOf
 startOf-above place marks above = rw (lt-ltb lastPlace place above)
 
@@ -152,15 +149,20 @@ number-none : (value : ℕ) → Number value ≡ NoNumber → ⊥
 number-none value same = let wrong : _≡_ {A = ℕ} 0 1 = cc in omega arith
 
 module _ (place : List ℕ) (marks most : ℕ) (decimal : isDecimal place ≡ true) where
-  pub place-above : (read : NumberRead) → read ≡ readNumber place most → read ≡ NoNumber → lastPlace ≤ most
-      → Refused ≡ startOf (P.OptionTwo (decimalValue 0 place) marks)
+  -- a number that is not read is too large
+  pub number-above : (read : NumberRead) → read ≡ readNumber place most → read ≡ NoNumber → most < decimalValue 0 place
   unfolding readNumber isDecimal
-  place-above read is none enough =
+  number-above read is none =
       byBool (leb (decimalValue 0 place) most)
       (λ fits.
       let parts = and-both (ltb 0 (length place)) (allNumerals place) decimal in
       absurd (number-none (decimalValue 0 place) (rw (parts .0, parts .1, fits) at (sym is ∙ none))))
-      (λ over. startOf-above (decimalValue 0 place) marks (omega (arith, leb-false (decimalValue 0 place) most over)))
+      (λ over. leb-false (decimalValue 0 place) most over)
+
+  pub place-above : (read : NumberRead) → read ≡ readNumber place most → read ≡ NoNumber → lastPlace ≤ most
+      → Refused ≡ startOf (decimalValue 0 place) marks
+  place-above read is none enough =
+      startOf-above (decimalValue 0 place) marks (omega (arith, number-above read is none))
 
   pub place-is : (read : NumberRead) (number : ℕ) → read ≡ readNumber place most → read ≡ Number number
       → number ≡ decimalValue 0 place
@@ -178,25 +180,25 @@ module _ (place : List ℕ) (marks most : ℕ) (decimal : isDecimal place ≡ tr
 
   pub place-start : (start : StartRead) (read : NumberRead) (number : ℕ) → read ≡ readNumber place most
       → read ≡ Number number
-      → start ≡ startOf (P.OptionTwo number marks)
-      → start ≡ startOf (P.OptionTwo (decimalValue 0 place) marks)
+      → start ≡ startOf number marks
+      → start ≡ startOf (decimalValue 0 place) marks
   place-start start read number reads told is =
-      is ∙ ap (λ (value : ℕ). startOf (P.OptionTwo value marks)) (place-is read number reads told)
+      is ∙ ap (λ (value : ℕ). startOf value marks) (place-is read number reads told)
 
 -- ---- startIn
 
 module _ (option place marks : List ℕ) where
-  pub startIn-option : (two : Bool) → two ≡ isTwo option → not two ≡ true → NoStart ≡ startIn option place marks
+  pub startIn-option : (two : Bool) → two ≡ isOptionWord numeral2 option → not two ≡ true → NoStart ≡ startIn option place marks
   unfolding startIn
   startIn-option two is none = rw (sym is ∙ not-true two none)
 
-  pub startIn-place : (two decimal : Bool) → two ≡ isTwo option → not two ≡ false → decimal ≡ isDecimal place
+  pub startIn-place : (two decimal : Bool) → two ≡ isOptionWord numeral2 option → not two ≡ false → decimal ≡ isDecimal place
       → not decimal ≡ true
       → NoStart ≡ startIn option place marks
   unfolding startIn
   startIn-place two decimal is taken test none = rw (sym is ∙ not-false two taken, sym test ∙ not-true decimal none)
 
-  pub startIn-marks : (two decimal four : Bool) → two ≡ isTwo option → not two ≡ false → decimal ≡ isDecimal place
+  pub startIn-marks : (two decimal four : Bool) → two ≡ isOptionWord numeral2 option → not two ≡ false → decimal ≡ isDecimal place
       → not decimal ≡ false
       → four ≡ isMarks marks
       → not four ≡ true
@@ -205,13 +207,13 @@ module _ (option place marks : List ℕ) where
   startIn-marks two decimal four is taken test also digits none =
       rw (sym is ∙ not-false two taken, sym test ∙ not-false decimal also, sym digits ∙ not-true four none)
 
-  pub startIn-start : (read : StartRead) (value : ℕ) (two decimal four : Bool) → two ≡ isTwo option → not two ≡ false
+  pub startIn-start : (read : StartRead) (value : ℕ) (two decimal four : Bool) → two ≡ isOptionWord numeral2 option → not two ≡ false
       → decimal ≡ isDecimal place
       → not decimal ≡ false
       → four ≡ isMarks marks
       → not four ≡ false
       → value ≡ digitsValue 0 marks
-      → read ≡ startOf (P.OptionTwo (decimalValue 0 place) value)
+      → read ≡ startOf (decimalValue 0 place) value
       → read ≡ startIn option place marks
   unfolding startIn
   startIn-start read value two decimal four is taken test also digits all same start =
@@ -237,7 +239,7 @@ marks-hold marks four-digits is holds = four marks (sym is ∙ not-false four-di
 -- ---- startBy
 
 module _ (count : ℕ) (option place marks : List ℕ) where
-  pub startBy-nothing : count ≡ 0 → Started P.OptionOne ≡ startBy count option place marks
+  pub startBy-nothing : count ≡ 0 → Started 0 0 ≡ startBy count option place marks
   unfolding startBy
   startBy-nothing none = rw (eq-eqb count 0 none)
 

@@ -1,12 +1,11 @@
--- START: document 02, L10, and the paper of its readings, "Programs". Cited by `src/lib.rt`. A character is its number in
--- ASCII. Assumes nothing.
+-- START: document 02, L10 and L11, and the paper of their readings, "Programs". Cited by `src/lib.rt`. A character is
+-- its number in ASCII. Assumes nothing.
 use Prim.Native.Nat.{ℕ, zero, suc, _+_, _*_}
 use mathlib.Core.Bool.{Bool, cond, _&&_}
 use mathlib.Core.List.{List, [], _∷_}
 use mathlib.Core.Path.{_≡_}
 use lib.Dec.{eqb, ltb}
 use lib.ListN.{length, getD}
-use Rattle.numbers.specs.declared.Profile.{Profile}
 use Rattle.numbers.specs.declared.Profile.the-variants as P
 use Rattle.numbers.specs.Refusal.{accepted}
 use Rattle.numbers.specs.Profile.{startNumber}
@@ -20,9 +19,9 @@ use Rattle.start.specs.declared.StartRead.the-variants.{Started, Refused
 abbrev pub numeral2 : ℕ
 numeral2 = 50
 
--- the word is `2`
-unfoldable pub isTwo : List ℕ → Bool
-isTwo word = eqb (length word) 1 && eqb (getD word 0 0) numeral2
+-- the word is that numeral, and nothing else
+unfoldable pub isOptionWord : ℕ → List ℕ → Bool
+isOptionWord numeral word = eqb (length word) 1 && eqb (getD word 0 0) numeral
 
 -- "PLACE decimal": at least one digit, and no other character
 unfoldable pub isDecimal : List ℕ → Bool
@@ -37,21 +36,21 @@ unfoldable pub digitsValue : ℕ → List ℕ → ℕ
 digitsValue passed [] = passed
 digitsValue passed (digit ∷ rest) = digitsValue (passed * 16 + digitValue digit) rest
 
--- a start of a profile: "A place above 8 prints `06` and nothing else."
-unfoldable pub startOf : Profile → StartRead
-startOf profile = cond (eqb (startNumber profile) accepted) (Started profile) Refused
+-- a start with a place and marks: "A place above 8 prints `06` and nothing else."
+unfoldable pub startOf : ℕ → ℕ → StartRead
+startOf place marks = cond (eqb (startNumber (P.OptionTwo place marks)) accepted) (Started place marks) Refused
 
 -- "`2 PLACE MARKS`": three words; a place may be a number of any size
 unfoldable pub startIn : List ℕ → List ℕ → List ℕ → StartRead
 startIn option place marks =
-    cond (isTwo option && isDecimal place && isMarks marks)
-    (startOf (P.OptionTwo (decimalValue 0 place) (digitsValue 0 marks)))
+    cond (isOptionWord numeral2 option && isDecimal place && isMarks marks)
+    (startOf (decimalValue 0 place) (digitsValue 0 marks))
     NoStart
 
--- "nothing, or `2 PLACE MARKS`"; "nothing is option I": so many words, of which the first three are given
+-- "nothing, or `2 PLACE MARKS`"; "with nothing they are L11's: unplaced, no marks": so many words, of which the first three are given
 unfoldable pub startBy : ℕ → List ℕ → List ℕ → List ℕ → StartRead
 startBy count option place marks =
-    cond (eqb count 0) (Started P.OptionOne)
+    cond (eqb count 0) (Started 0 0)
     (cond (eqb count 3) (startIn option place marks)
     NoStart)
 

@@ -1,5 +1,6 @@
-// START, with which a program is started: document 02, L10, "Programs" of its readings. Nothing, or
-// `2 PLACE MARKS`.
+// START, with which a program is started: document 02, L10 and L11, "Programs" of its readings.
+// Nothing, or `2 PLACE MARKS`: the place of PROV and the marks with which a log of option II starts;
+// which option a log means its lines say.
 //
 // What the system hands over as arguments no contract can say: `read_start` promises that its answer
 // is that of some words, and `start_by` which answer they have. No public function has a `requires`:
@@ -10,14 +11,16 @@ use numbers::start_number;
 use text::NumberRead;
 ghost use mathlib.Core.Bool.{true};
 ghost use mathlib.Core.Path.{_≡_};
-ghost use Rattle.numbers.specs.declared.Profile.the-variants.{OptionTwo};
 ghost use Rattle.digits.specs.Digits.{isDigit};
 ghost use Rattle.digits.specs.Decimal.{decimalValue};
-ghost use Rattle.start.specs.Start.{isTwo, isDecimal, isMarks, digitsValue, startOf, startIn, startBy, StartRight};
+ghost use Rattle.start.specs.Start.{isOptionWord, isDecimal, isMarks, digitsValue, startOf, startIn, startBy, StartRight};
 ghost use Rattle.start.specs.Parts.{ValueOf, FourDigits};
 
 // The words of `2 PLACE MARKS`.
 const WORDS: usize = 3;
+
+// The numeral of option II.
+const OPTION_TWO: u8 = b'2';
 
 // "MARKS four hexadecimal digits"
 const MARKS: usize = 4;
@@ -28,25 +31,26 @@ const LARGEST: u64 = 255;
 // So many octets of a place are read: the programs' stack has room for them.
 const LONGEST_WORD: usize = 65_536;
 
-// What START says: the profile to start with; that the start is refused; or that it is no START.
+// What START says: the place of PROV and the marks; that the start is refused; or that it is no
+// START.
 pub enum StartRead {
-    Started(Profile),
+    Started(u8, u16),
     Refused,
     NoStart,
 }
 
-// Whether a word is `2`.
-fn is_two(word: &[u8]) -> bool
-    ensures { λ answer. ⌜ answer ≡ isTwo (now (word .entry)) ⌝ }
+// Whether a word is the numeral of an option, and nothing else.
+pub fn is_option_word(word: &[u8], numeral: u8) -> bool
+    ensures { λ answer. ⌜ answer ≡ isOptionWord numeral (now (word .entry)) ⌝ }
 {
     if word.len() != 1 {
         return false;
     }
-    word[0] == b'2'
+    word[0] == numeral
 }
 
 // Whether a word is a number in decimal digits, of any size.
-fn is_decimal(word: &[u8]) -> bool
+pub fn is_decimal(word: &[u8]) -> bool
     ensures { λ answer. ⌜ answer ≡ isDecimal (now (word .entry)) ⌝ }
 {
     if word.len() == 0 {
@@ -100,26 +104,27 @@ fn marks_in(word: &[u8]) -> u16
     ((first * 16 + second) * 16 + third) * 16 + last
 }
 
-// The start of a profile: "A place above 8" is refused.
-fn start_of(profile: Profile) -> StartRead
-    ensures { λ read. ⌜ read ≡ startOf profile ⌝ }
+// A start with a place and marks: "A place above 8" is refused.
+fn start_of(place: u8, marks: u16) -> StartRead
+    ensures { λ read. ⌜ read ≡ startOf place marks ⌝ }
 {
+    let profile = Profile::OptionTwo(place, marks);
     if start_number(profile) == ACCEPTED {
-        return StartRead::Started(profile);
+        return StartRead::Started(place, marks);
     }
     StartRead::Refused
 }
 
-// The start of option II with a place that is a number of any size.
+// A start with a place that is a number of any size.
 fn start_at(place: &[u8], marks: u16) -> StartRead
     requires { ⌜ isDecimal (now place) ≡ true ⌝ }
-    ensures { λ read. ⌜ read ≡ startOf (OptionTwo (decimalValue 0 (now (place .entry))) marks) ⌝ }
+    ensures { λ read. ⌜ read ≡ startOf (decimalValue 0 (now (place .entry))) marks ⌝ }
 {
     let read = text::read_number(place, LARGEST);
     let NumberRead::Number(number) = read else {
         return StartRead::Refused;
     };
-    start_of(Profile::OptionTwo(number as u8, marks))
+    start_of(number as u8, marks)
 }
 
 // What three words say: `2 PLACE MARKS`.
@@ -127,7 +132,7 @@ pub fn start_in(option: &[u8], place: &[u8], marks: &[u8]) -> StartRead
     ensures { λ read. ⌜
         read ≡ startIn (now (option .entry)) (now (place .entry)) (now (marks .entry)) ⌝ }
 {
-    if !is_two(option) {
+    if !is_option_word(option, OPTION_TWO) {
         return StartRead::NoStart;
     }
     if !is_decimal(place) {
@@ -139,13 +144,13 @@ pub fn start_in(option: &[u8], place: &[u8], marks: &[u8]) -> StartRead
     start_at(place, marks_in(marks))
 }
 
-// What so many words say, of which the first three are given: nothing is option I.
+// What so many words say, of which the first three are given: nothing is unplaced, and no marks.
 pub fn start_by(count: usize, option: &[u8], place: &[u8], marks: &[u8]) -> StartRead
     ensures { λ read. ⌜
         read ≡ startBy count (now (option .entry)) (now (place .entry)) (now (marks .entry)) ⌝ }
 {
     if count == 0 {
-        return StartRead::Started(Profile::OptionOne);
+        return StartRead::Started(0, 0);
     }
     if count != WORDS {
         return StartRead::NoStart;

@@ -54,14 +54,16 @@ def files_of(it):
     """Name and content of each file of a sequence's folder."""
     lines = words.split_log(it.sequence.data)[0]
     told = [words.line_in_words(line) for line in lines]
+    option = ["option 2"] * (words.option_of(lines) == 2)
     yield "events.log", it.sequence.data
     yield "commands.words", text(
         ["shows " + it.sequence.shows] * bool(it.sequence.shows)
+        + option
         + [line for line, event in zip(told, it.events) if not on_a_port(event)]
     )
     yield "expected.words", text(
-        "%-24s | %s > %s = %s" % (line, answers.words(answer), codes.decode(), count.decode())
-        for line, answer, codes, count in zip(told, it.answers, it.outgoing, it.counts)
+        ["%-24s | %s > %s = %s" % (line, answers.words(answer), codes.decode(), count.decode())
+         for line, answer, codes, count in zip(told, it.answers, it.outgoing, it.counts)] + option
     )
     for number, frames in sorted(frames_by_port(it.events).items()):
         yield port_file(number, frames[0][0]), captures.pcap(frames)

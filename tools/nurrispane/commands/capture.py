@@ -6,6 +6,7 @@ capture's first frame, of whatever protocol, in whole milliseconds; with --first
 gets that time. VLAN-tagged, short and oversized frames are kept as they are; replay refuses them
 with document 01's number. --map says which input a frame is heard
 on, by the sender's address or by the interface of the capture (its name, or its number from 0).
+The card is of option I; of option II where --setup has a line "option 2", or with --option 2.
 What is left out is counted on standard error, and why. Exit status 1: frames of a mapped input
 are missing in the log, since the capture cut them short, gave them no time or says that it
 dropped some."""
@@ -41,6 +42,7 @@ def arguments(parser):
     parser.add_argument(
         "--map", nargs="+", action="extend", default=[], metavar="KEY=INPUT", help="ADDRESS=INPUT or INTERFACE=INPUT"
     )
+    parser.add_argument("--option", type=int, choices=words.OPTIONS, help="the card's option; else that of the words")
     parser.add_argument("--setup", metavar="WORDS", help="settings and commands in words, put in by their times")
     parser.add_argument("--tick", type=positive, metavar="MS", help="put in a tick each MS milliseconds")
     parser.add_argument("--until", type=whole, metavar="MS", help="ticks go on up to this time")
@@ -100,10 +102,10 @@ def left_out(frame, number, take_all):
     return NO_TIME if frame.time is None else None
 
 
-def setup_lines(path):
-    """Time and line of each event in words; their times don't go back."""
+def setup_lines(path, log):
+    """Time and line of each event of a log in words; their times don't go back."""
     lines, latest = [], 0
-    for line in words.one_log(read_text(path), name_of(path)).lines:
+    for line in log.lines:
         event = words.event_of(line.data)
         if event is None:
             raise Trouble("%s:%d:1: an event with a time is needed here" % (name_of(path), line.place))
@@ -114,9 +116,9 @@ def setup_lines(path):
     return lines
 
 
-def ticks(step, last):
+def ticks(step, last, option):
     """A tick each `step` milliseconds up to the last time."""
-    return [(time, words.event_line(words.BY_WORD["tick"].number, time, 0, 0)) for time in range(step, last + 1, step)]
+    return [(time, words.event_line(words.BY_WORD["tick"].number, time, 0, 0, option=option)) for time in range(step, last + 1, step)]
 
 
 def run(options):
@@ -148,13 +150,16 @@ def run(options):
 
 def log_of(options, events):
     """The log: in each millisecond settings, then frames, then a tick."""
-    lines = setup_lines(options.setup) if options.setup else []
-    lines += [(time, words.event_line(words.FRAME_KIND, time, number, 0, octets)) for time, number, octets in events]
+    setup = words.one_log(read_text(options.setup), name_of(options.setup)) if options.setup else words.Log(None, 1, options.option or 1)
+    if options.option not in (None, setup.option):
+        raise Trouble("%s is of option %d, not %d" % (name_of(options.setup), setup.option, options.option))
+    lines = setup_lines(options.setup, setup)
+    lines += [(time, words.event_line(words.FRAME_KIND, time, number, 0, octets, setup.option)) for time, number, octets in events]
     last = max([time for time, _ in lines] + [options.until or 0], default=0)
     if last >= words.TIME_LIMIT:
         raise Trouble("a time of %d ms is more than a log can carry" % last)
     if options.tick:
-        lines += ticks(options.tick, last)
+        lines += ticks(options.tick, last, setup.option)
     return b"".join(line + b"\n" for _, line in sorted(lines, key=lambda line: line[0]))
 
 

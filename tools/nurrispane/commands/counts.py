@@ -15,6 +15,6 @@ def arguments(parser):
 
 
 def run(options):
-    profiles.choose(options.start)
+    profiles.take_start(options.start)
     programs.put_out("counts", options.log, options.out)
     return FINE

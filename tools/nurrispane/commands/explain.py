@@ -30,11 +30,12 @@ def arguments(parser):
 
 
 def run(options):
-    profiles.choose(options.start)
+    profiles.take_start(options.start)
     if options.input is not None and not 0 <= options.input < inputs.INPUTS:
         raise Trouble("there is no input %d: 0 to 15" % options.input)
     data = read(options.log)
     lines = words.split_log(data)[0]
+    profiles.follow(words.option_of(lines))
     if options.line is not None and not 1 <= options.line <= len(lines):
         raise Trouble("there is no line %d: the log has %d" % (options.line, len(lines)))
     logs.word_on_form("explain", options.log, data)
@@ -58,9 +59,10 @@ def explained(lines, options):
 
 def event_in_words(line):
     """When a line's event came and what it is; a malformed line as it stands."""
-    event = words.event_of(line)
+    option = profiles.chosen.option
+    event = words.event_of(line, option)
     if event is None:
-        said = words.line_in_words(line)
+        said = words.line_in_words(line, option)
         return None, said if len(said) <= 60 else said[:58] + ".."
     if event.kind == words.FRAME_KIND:
         return event.time, "frame on input %d" % event.input

@@ -39,10 +39,11 @@ def arguments(parser):
 
 
 def run(options):
-    profiles.choose(options.start)
+    profiles.take_start(options.start)
     if (options.answers is None) == (options.times is None):
         raise Trouble("either ANSWERS or --times FILE is needed")
     data = read(options.log)
+    profiles.follow(words.option_in(data))
     logs.word_on_form("judge", options.log, data)
     if options.times is not None:
         told = by_times(data, options)
@@ -108,7 +109,7 @@ def difference(sort, places, lines, right, card, facts):
     yield "  line %d  %s  %s" % (place + 1, logs.seconds(time), event)
     yield "    right: %s" % answers.meaning(right[place])
     yield "    card:  %s" % answers.meaning(card[place])
-    for said in reasons(facts, answers.octets_of(right[place]), answers.octets_of(card[place]), words.event_of(lines[place])):
+    for said in reasons(facts, answers.octets_of(right[place]), answers.octets_of(card[place]), words.event_of(lines[place], profiles.chosen.option)):
         yield "    " + said
 
 
@@ -127,7 +128,7 @@ def reasons(facts, right, wrong, event):
 
 def candidates(data, card, only):
     """The known faults that would give exactly these answers."""
-    chosen = [fault for fault in faults.known() if fault.mode == "replay" and only in fault.name]
+    chosen = [fault for fault in faults.of_answers(profiles.chosen.option) if only in fault.name]
     if not chosen:
         raise Trouble("no known fault has %s in its name" % ascii(only))
     missing = [fault for fault in chosen if not faults.path_of(fault).exists()]
@@ -151,7 +152,7 @@ def by_times(data, options):
     lines = words.split_log(data)[0]
     if card:
         # what is right behind the log's end, if no further event comes; refused where the card ends first
-        lines = lines + [timeline.tick(card[-1][0])]
+        lines = lines + [timeline.tick(card[-1][0], lines)]
     ticked = timeline.served(lines)
     right = timeline.selections(ticked)
     last = right[-1][0]

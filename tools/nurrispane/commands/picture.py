@@ -23,22 +23,23 @@ def arguments(parser):
 
 
 def run(options):
-    profiles.choose(options.start)
+    profiles.take_start(options.start)
     form = options.out.rpartition(".")[2]
     if form not in ("html", "svg", "vcd"):
         raise Trouble("%s: a picture is a FILE.html, a FILE.svg or a FILE.vcd" % options.out)
     data = read(options.log)
+    profiles.follow(words.option_in(data))
     logs.word_on_form("picture", options.log, data)
     card = words.split_log(read(options.answers))[0] if options.answers else None
     lines, right = words.split_log(data)[0], programs.answers("replay", data)
     lanes, last = pictures.lanes_of(lines, right, card)
     title = name_of(options.log) + (" and " + name_of(options.answers) if options.answers else "")
+    differing = sum(one != other for one, other in zip(right, card or right)) + (abs(len(right) - len(card)) if card is not None else 0)
+    summary = "; the card differs in %s" % format(differing, ",") if card is not None else ""
     if form == "vcd":
         made = pictures.vcd(lanes)
     else:
-        made = (pictures.page if form == "html" else pictures.svg)(title, lanes, last)
+        made = (pictures.page if form == "html" else pictures.svg)(title, lanes, last, "%s lines%s" % (format(len(lines), ","), summary))
     write(options.out, made.encode())
-    differing = sum(one != other for one, other in zip(right, card or right)) + (abs(len(right) - len(card)) if card is not None else 0)
-    said = "%d lines in %d lanes are in %s" % (len(lines), len(lanes), options.out)
-    write_out((said + ("; the card differs in %d\n" % differing if card is not None else "\n")).encode())
+    write_out(("%d lines in %d lanes are in %s%s\n" % (len(lines), len(lanes), options.out, summary)).encode())
     return FINDING if differing else FINE

@@ -8,7 +8,7 @@ how many lines were accepted, and refused for what reason, is told there too."""
 import collections
 import sys
 
-from nurrispane import answers, logs, profiles, programs
+from nurrispane import answers, logs, profiles, programs, words
 from nurrispane.files import FINE, read, write
 
 SUMMARY = "an event log's answers, by the proved program"
@@ -28,9 +28,10 @@ def arguments(parser):
 
 
 def run(options):
-    profiles.choose(options.start)
+    profiles.take_start(options.start)
     if options.words or options.summary:
         data = read(options.log)
+        profiles.follow(words.option_in(data))
         right = programs.answers("replay", data)
         said = [answers.words(line).encode() for line in right] if options.words else right
         write(options.out, b"".join(line + b"\n" for line in said))

@@ -8,11 +8,11 @@ nothing is written."""
 
 import os
 
-from nurrispane import answers, programs, words
+from nurrispane import answers, logs, profiles, programs, words
 from nurrispane.files import FINDING, FINE, Trouble, name_of, write, write_out
 
 SUMMARY = "a damaged log without the lines that replay can't take, by the proved program"
-EXAMPLES = ["./nurrispane salvage tests/vectors/L8/torn.log -o /tmp/salvaged.log"]
+EXAMPLES = ["./nurrispane salvage tests/vectors/L11/torn-option-two.log -o /tmp/salvaged.log"]
 
 # The most numbers of a report, two a dropped line; and what the program says where there are more.
 PLACES, TOO_SHORT = 65_536, b"14"
@@ -27,6 +27,7 @@ def run(options):
     if os.path.exists(options.log) and os.path.exists(options.out) and os.path.samefile(options.log, options.out):
         raise Trouble("%s is the damaged log itself: what is dropped would be lost" % options.out)
     log = programs.read_log(options.log)
+    logs.word_on_old_form("salvage", options.log, log)
     report, salvaged = kept(log)
     write(options.out, salvaged)
     write_out("".join(line + "\n" for line in told(options, log, report)).encode())
@@ -55,11 +56,12 @@ def count_of(log):
 def told(options, log, report):
     """What is said of what was dropped."""
     lines = words.split_log(log)[0]
+    profiles.follow(words.option_of(lines))
     for number, refusal in report:
         yield "line %d dropped, refused with %s: %s" % (number, answers.refusal(refusal), shortened(lines[number - 1]))
     yield "%d of %d lines are in %s, %d dropped" % (len(lines) - len(report), len(lines), name_of(options.out), len(report))
 
 
 def shortened(line):
-    said = words.line_in_words(line)
+    said = words.line_in_words(line, profiles.chosen.option)
     return said if len(said) <= 60 else said[:58] + ".."

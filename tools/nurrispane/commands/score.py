@@ -79,6 +79,6 @@ def finding(path, data, shown):
     """A fault that is found: its name, the line, and both answers in words."""
     line = words.split_log(data)[0][shown.line - 1:shown.line]
     where = "%sline %d" % ("%s, " % name_of(path) if path else "", shown.line)
-    said = words.line_in_words(line[0]) if line else "the end of the log"
+    said = words.line_in_words(line[0], words.option_in(data)) if line else "the end of the log"
     right, wrong = (faults.in_words(shown.mode, answer, answers.meaning) for answer in (shown.right, shown.wrong))
     return "%s: %s, %s\n    right:          %s\n    with the fault: %s" % (shown.fault.name, where, said, right, wrong)

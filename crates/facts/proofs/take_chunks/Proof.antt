@@ -9,11 +9,11 @@ use Rattle.facts.proofs.take_chunks.Statement.{statement}
 use Rattle.facts.proofs.take_chunks.Tie as tie
 
 abbrev Inv-loop : tie.InvT-loop
-Inv-loop chunk₀ digits₀ out₀ facts₀ progress₀ left₀ chunk digits out facts progress left =
+Inv-loop prov marks chunk₀ digits₀ out₀ facts₀ progress₀ left₀ chunk digits out facts progress left =
     (length chunk ≡ length chunk₀) × ((length out ≡ length out₀) × (length facts ≡ length facts₀))
 
 abbrev μ-loop : tie.MeasureT-loop
-μ-loop chunk₀ digits₀ out₀ facts₀ progress₀ left₀ chunk digits out facts progress left = left
+μ-loop prov marks chunk₀ digits₀ out₀ facts₀ progress₀ left₀ chunk digits out facts progress left = left
 
 start-requires : tie.Need-start-requires Inv-loop μ-loop
 start-requires c κs = search needs

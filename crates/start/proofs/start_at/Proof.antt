@@ -20,8 +20,8 @@ enum-told c = search needs
 returns : tie.Need-returns
 returns c = search (place-above, needs)
 
-cast-t5 : tie.Need-cast-t5
-cast-t5 c = record { fits = omega (arith, readNumber-most _ _ _ (sym (c .before .read .given .1) ∙ c .before .before .before .read-number .ensures)) }
+cast-start-of : tie.Need-cast-start-of
+cast-start-of c = record { fits = omega (arith, readNumber-most _ _ _ (sym (c .before .read .given .1) ∙ c .before .before .before .read-number .ensures)) }
 
 start-of-requires : tie.Need-start-of-requires
 start-of-requires c κs = search needs
@@ -37,6 +37,6 @@ start-at-spec =
     enum-known-read
     enum-told
     returns
-    cast-t5
+    cast-start-of
     start-of-requires
     returns-2)

@@ -5,8 +5,8 @@ use borrow.Author.Needs.{needs}
 use Rattle.start.proofs.start_in.Statement.{statement}
 use Rattle.start.proofs.start_in.Tie as tie
 
-is-two-requires : tie.Need-is-two-requires
-is-two-requires c κs = search needs
+is-option-word-requires : tie.Need-is-option-word-requires
+is-option-word-requires c κs = search needs
 
 returns : tie.Need-returns
 returns c = search startIn-laws
@@ -38,7 +38,7 @@ pub start-in-spec : {M : Type 1} → statement M
 start-in-spec =
     tie.close
     (tie.spec
-    is-two-requires
+    is-option-word-requires
     returns
     is-decimal-requires
     returns-2
