@@ -1,0 +1,59 @@
+-- `replay_unit::say_unit_start` meets its contract: each line is what is said of its start.
+-- Assumes nothing.
+use Rattle.console.specs.Said.{octetsOfText}
+use Rattle.replay_unit.specs.Said.{unitStartSaid}
+use borrow.Author.Needs.{needs}
+use Rattle.replay_unit.proofs.say_unit_start.Statement.{statement}
+use Rattle.replay_unit.proofs.say_unit_start.Tie as tie
+
+enum-told : tie.Need-enum-told
+enum-told c = search needs
+
+slice-aggregate-start-line : tie.Need-slice-aggregate-start-line
+slice-aggregate-start-line c = search needs
+
+start-line-requires : tie.Need-start-line-requires
+unfolding unitStartSaid octetsOfText
+start-line-requires c κs = rw (c .before .enum-told .given .1)
+
+enum-told-2 : tie.Need-enum-told-2
+enum-told-2 c = search needs
+
+say-start-requires : tie.Need-say-start-requires
+say-start-requires c κs = search needs
+
+enum-told-3 : tie.Need-enum-told-3
+enum-told-3 c = search needs
+
+slice-aggregate-start-line-2 : tie.Need-slice-aggregate-start-line-2
+slice-aggregate-start-line-2 c = search needs
+
+start-line-requires-2 : tie.Need-start-line-requires-2
+unfolding unitStartSaid octetsOfText
+start-line-requires-2 c κs = rw (c .before .enum-told3 .given .1)
+
+returns : tie.Need-returns
+returns c = search needs
+
+returns-2 : tie.Need-returns-2
+unfolding unitStartSaid
+returns-2 c = rw (c .before .enum-told2 .given .1) (c .say-start .ensures)
+
+returns-3 : tie.Need-returns-3
+returns-3 c = search needs
+
+pub say-unit-start-spec : {M : Type 1} → statement M
+say-unit-start-spec =
+    tie.close
+    (tie.spec
+    enum-told
+    slice-aggregate-start-line
+    start-line-requires
+    enum-told-2
+    say-start-requires
+    enum-told-3
+    slice-aggregate-start-line-2
+    start-line-requires-2
+    returns
+    returns-2
+    returns-3)

@@ -1,0 +1,2 @@
+-- What is said where the unit does not start.
+pub mod Said

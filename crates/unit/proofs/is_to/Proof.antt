@@ -1,0 +1,51 @@
+-- `unit::is_to` meets its contract: each way is a law.
+-- Assumes nothing.
+use Rattle.unit.proofs.Laws.{isTo-laws}
+use borrow.Author.Needs.{needs}
+use Rattle.unit.proofs.is_to.Statement.{statement}
+use Rattle.unit.proofs.is_to.Tie as tie
+
+enum-told : tie.Need-enum-told
+enum-told c = search needs
+
+enum-told-2 : tie.Need-enum-told-2
+enum-told-2 c = search needs
+
+enum-told-3 : tie.Need-enum-told-3
+enum-told-3 c = search needs
+
+enum-told-4 : tie.Need-enum-told-4
+enum-told-4 c = search needs
+
+enum-told-5 : tie.Need-enum-told-5
+enum-told-5 c = search needs
+
+enum-told-6 : tie.Need-enum-told-6
+enum-told-6 c = search needs
+
+returns : tie.Need-returns
+returns c = search isTo-laws
+
+returns-2 : tie.Need-returns-2
+returns-2 c = search isTo-laws
+
+returns-3 : tie.Need-returns-3
+returns-3 c = search isTo-laws
+
+returns-4 : tie.Need-returns-4
+returns-4 c = search isTo-laws
+
+pub is-to-spec : {M : Type 1} → statement M
+is-to-spec =
+    tie.close
+    (tie.spec
+    enum-told
+    enum-told-2
+    enum-told-3
+    enum-told-4
+    enum-told-5
+    enum-told-6
+    returns
+    returns-2
+    returns-3
+    returns-4)

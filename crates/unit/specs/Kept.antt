@@ -1,0 +1,71 @@
+-- The unit as the code keeps it, and what it makes of an event. Cited by `src/lib.rt`; `Claims` says what it comes to.
+-- Assumes nothing.
+use Prim.Native.Nat.{ℕ}
+use mathlib.Core.Bool.{Bool, not, _&&_, _||_, cond}
+use mathlib.Core.List.{List, []}
+use lib.Dec.{eqb, ltb}
+use Rattle.numbers.specs.declared.Event.{Event}
+use Rattle.numbers.specs.declared.Profile.{Profile}
+use Rattle.numbers.specs.declared.Quality.{Quality}
+use Rattle.numbers.specs.Profile.{limitsOf, placeOf}
+use Rattle.numbers.specs.Quality.{quality}
+use Rattle.numbers.specs.Refusal.{accepted}
+use Rattle.frame.specs.declared.FrameRead.{FrameRead}
+use Rattle.frame.specs.Read.{readCode}
+use Rattle.choice.specs.Rank.{rankOf}
+use Rattle.selector.specs.declared.Selector.{Selector}
+use Rattle.selector.specs.State.{freshSelector}
+use Rattle.selector.specs.Answer.{noInput, locked, answerOf}
+use Rattle.events.specs.declared.Stepped.{Stepped}
+use Rattle.events.specs.Given.{tickAt}
+use Rattle.events.specs.Step.{stepRead}
+use Rattle.unit.specs.declared.Half.{Half}
+use Rattle.unit.specs.declared.Half.the-variants as H
+use Rattle.unit.specs.declared.Unit.{Unit}
+use Rattle.unit.specs.declared.UnitStepped.{UnitStepped}
+use Rattle.unit.specs.Unit.{goesTo}
+
+-- "It holds two selectors of one profile", and the minimum
+abbrev pub freshUnit : Profile → Quality → Unit
+freshUnit profile minimum =
+    record { equipment = freshSelector profile; station = freshSelector profile; minimum = minimum }
+
+-- one selector's own step: the tick, and then the event where it goes there
+unfoldable pub halfStep : Selector → Bool → Event → FrameRead → Stepped
+halfStep state goes event read =
+    let ticked = stepRead state (tickAt (event .time) .event) (readCode []) in
+    cond goes (stepRead (ticked .state) event read) ticked
+
+-- the step of one half of a unit
+abbrev pub stepOfHalf : Half → Selector → Profile → Half → Event → FrameRead → Stepped
+stepOfHalf half state profile to event read =
+    halfStep state (goesTo (limitsOf profile) (event .kind) to half) event read
+
+-- one event with its frame read
+unfoldable pub stepUnitRead : Unit → Half → Event → FrameRead → UnitStepped
+stepUnitRead unit to event read =
+    let profile = unit .equipment .profile in
+    let equipment = stepOfHalf H.Equipment (unit .equipment) profile to event read in
+    let station = stepOfHalf H.Station (unit .station) profile to event read in
+    record {
+      equipment = equipment .number;
+      station = station .number;
+      unit = record { equipment = equipment .state; station = station .state; minimum = unit .minimum };
+    }
+
+-- one event with the frame lent
+unfoldable pub stepUnit : Unit → Half → Event → List ℕ → UnitStepped
+stepUnit unit to event frame = stepUnitRead unit to event (readCode frame)
+
+-- the station output squelches, by the station selector's answer: its clock is not locked, or, quality mode on, what
+-- the locked clock tells is worse than the minimum
+unfoldable pub isSquelched : Unit → Bool
+isSquelched unit =
+    let answer = answerOf accepted (unit .station) in
+    let place = placeOf (unit .station .profile) in
+    not (eqb (answer .state) locked) ||
+    (unit .station .mode && ltb (rankOf place (unit .minimum) .0) (rankOf place (quality (answer .quality)) .0))
+
+-- the source identifier of the station output
+unfoldable pub sourceOf : Unit → ℕ
+sourceOf unit = cond (isSquelched unit) noInput (answerOf accepted (unit .station) .selected)

@@ -1,0 +1,26 @@
+-- What C may index by: after every event, whatever unit came in. And what no answer depends on. Not cited by the code.
+-- Assumes nothing.
+use Prim.Native.Nat.{ℕ, _≤_}
+use mathlib.Core.List.{List}
+use mathlib.Core.Logic.{_≢_}
+use mathlib.Core.Path.{_≡_}
+use Rattle.numbers.specs.Kind.{kindFrame}
+use Rattle.card.specs.Range.{IsInput, InRange}
+use Rattle.unitcard.specs.declared.UnitCard.{UnitCard}
+use Rattle.unitcard.specs.Flat.{equipmentHalf, stationHalf}
+use Rattle.unitcard.specs.UnitCard.{stepUnitCard}
+
+-- after any call, on any unit at all
+pub record AnyUnit (flat : UnitCard) (half kind time input argument : ℕ) (frame : List ℕ) : Type 0 where
+  pub equipment : InRange (stepUnitCard flat half kind time input argument frame .equipment)
+  pub station : InRange (stepUnitCard flat half kind time input argument frame .station)
+  pub source : IsInput (stepUnitCard flat half kind time input argument frame .source)
+  pub squelched : stepUnitCard flat half kind time input argument frame .squelched ≤ 1
+  -- any number but the station's is the equipment's
+  pub other : half ≢ stationHalf
+      → stepUnitCard flat half kind time input argument frame ≡
+      stepUnitCard flat equipmentHalf kind time input argument frame
+  -- a frame is looked at for a frame event alone: for any other, what is lent changes nothing
+  pub unread : kind ≢ kindFrame
+      → (lent : List ℕ)
+      → stepUnitCard flat half kind time input argument frame ≡ stepUnitCard flat half kind time input argument lent

@@ -1,0 +1,42 @@
+-- What each function that C calls for the unit answers and leaves, by the unit's own definitions. Cited by `src/lib.rt`
+-- and `src/exports.rt`. Assumes nothing.
+use Prim.Native.Nat.{ℕ}
+use mathlib.Core.Bool.{cond}
+use mathlib.Core.List.{List}
+use lib.Dec.{eqb}
+use Rattle.numbers.specs.declared.Profile.{Profile}
+use Rattle.numbers.specs.declared.Quality.{Quality}
+use Rattle.numbers.specs.Quality.{quality}
+use Rattle.numbers.specs.Refusal.{accepted}
+use Rattle.unit.specs.declared.UnitStepped.{UnitStepped}
+use Rattle.unit.specs.Unit.{unitStartNumber}
+use Rattle.unit.specs.Kept.{freshUnit, stepUnitRead}
+use Rattle.card.specs.Flat.{profileIn}
+use Rattle.card.specs.Card.{eventOf, readFor}
+use Rattle.unitcard.specs.declared.UnitCard.{UnitCard}
+use Rattle.unitcard.specs.Flat.{halfIn, unitOf, unitCardOf, withNumbers}
+
+-- how long a unit is in C
+abbrev pub unitOctets : ℕ
+unitOctets = 1352
+
+-- "It holds two selectors of one profile", and the minimum
+unfoldable pub freshUnitCard : Profile → Quality → UnitCard
+freshUnitCard profile minimum = unitCardOf accepted accepted (freshUnit profile minimum)
+
+-- "otherwise 6 and no start": a fresh unit, or the unit as it was with that number in both answers
+unfoldable pub startUnitCard : UnitCard → ℕ → ℕ → ℕ → ℕ → UnitCard
+startUnitCard flat option place marks minimum =
+    let profile = profileIn option place marks in
+    let number = unitStartNumber profile (quality minimum) in
+    cond (eqb number accepted) (freshUnitCard profile (quality minimum)) (withNumbers flat number)
+
+-- what a step leaves, as numbers: each half with an answer of its own
+abbrev pub steppedUnitCard : UnitStepped → UnitCard
+steppedUnitCard stepped = unitCardOf (stepped .equipment) (stepped .station) (stepped .unit)
+
+-- the unit after one event with a lent frame, sent to a half; the frame is looked at for a frame event alone
+unfoldable pub stepUnitCard : UnitCard → ℕ → ℕ → ℕ → ℕ → ℕ → List ℕ → UnitCard
+stepUnitCard flat half kind time input argument frame =
+    steppedUnitCard
+    (stepUnitRead (unitOf flat) (halfIn half) (eventOf kind time input argument) (readFor kind frame))

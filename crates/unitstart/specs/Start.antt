@@ -1,0 +1,55 @@
+-- OPTION PLACE MARKS MINIMUM: document 02, L13, and the paper of its readings, "Programs". `startIn` of crate `start` has
+-- `2 PLACE MARKS`. Cited by `src/lib.rt`. Assumes nothing.
+use Prim.Native.Nat.{ℕ}
+use mathlib.Core.Bool.{cond}
+use mathlib.Core.List.{List}
+use mathlib.Core.Path.{_≡_}
+use lib.Dec.{eqb}
+use Rattle.numbers.specs.declared.Profile.{Profile}
+use Rattle.numbers.specs.declared.Profile.the-variants as P
+use Rattle.numbers.specs.declared.Quality.{Quality}
+use Rattle.numbers.specs.Quality.{quality}
+use Rattle.numbers.specs.Refusal.{accepted}
+use Rattle.digits.specs.Decimal.{decimalValue}
+use Rattle.start.specs.declared.StartRead.{StartRead}
+use Rattle.start.specs.declared.StartRead.the-variants as S
+use Rattle.start.specs.Start.{isOptionWord, isDecimal, startIn}
+use Rattle.unit.specs.Unit.{unitStartNumber}
+use Rattle.unitstart.specs.declared.UnitStart.{UnitStart}
+use Rattle.unitstart.specs.declared.UnitStart.the-variants.{Started, Refused, NoStart}
+
+-- the numeral of option I
+abbrev pub numeral1 : ℕ
+numeral1 = 49
+
+-- a start of a profile with a minimum: "A refused start prints `06` and nothing else."
+unfoldable pub unitStartOf : Profile → Quality → UnitStart
+unitStartOf profile minimum = cond (eqb (unitStartNumber profile minimum) accepted) (Started profile minimum) Refused
+
+-- a start of option II, by what START's words `2 PLACE MARKS` say
+unfoldable pub unitStartTwo : StartRead → Quality → UnitStart
+unitStartTwo (S.Started place marks) minimum = unitStartOf (P.OptionTwo place marks) minimum
+unitStartTwo S.Refused minimum = Refused
+unitStartTwo S.NoStart minimum = NoStart
+
+-- "OPTION PLACE MARKS MINIMUM": four words; a minimum may be a number of any size; in option I "what is lent" for place
+-- and marks "isn't looked at"
+unfoldable pub unitStartIn : List ℕ → List ℕ → List ℕ → List ℕ → UnitStart
+unitStartIn option place marks minimum =
+    let least = quality (decimalValue 0 minimum) in
+    cond (isDecimal minimum)
+    (cond (isOptionWord numeral1 option) (unitStartOf P.OptionOne least) (unitStartTwo (startIn option place marks) least))
+    NoStart
+
+-- so many arguments, the program's name before the four words
+unfoldable pub unitStartBy : ℕ → List ℕ → List ℕ → List ℕ → List ℕ → UnitStart
+unitStartBy count option place marks minimum = cond (eqb count 5) (unitStartIn option place marks minimum) NoStart
+
+-- what was read is what some words say
+pub record UnitStartRight (start : UnitStart) : Type 0 where
+  pub count : ℕ
+  pub option : List ℕ
+  pub place : List ℕ
+  pub marks : List ℕ
+  pub minimum : List ℕ
+  pub is : start ≡ unitStartBy count option place marks minimum
