@@ -7,7 +7,8 @@
  * its code (crates/card, crates/sender); the library itself is what `rt staticlib card` writes,
  * libcard.a, and for Arm what `tools/card-for-arm` does. Words and numbers are those of documents 01
  * and 02. docs/FIRMWARE.md says what to do at a reboot, when the time jumps, in an interrupt and
- * with two cards.
+ * with two cards. The station clock unit of document 02, L13, two cards with one time, is in a library
+ * of its own: "The unit", below.
  *
  *     #include "nurrispane.h"
  *     void clock_follow(uint8_t input);
@@ -18,7 +19,7 @@
  *
  *     int on_start(void)
  *     {
- *         if (!NURRISPANE_BELONGS())
+ *         if (!NURRISPANE_BELONGS() || !nurrispane_self_test())
  *             return 0;
  *         nurrispane_fresh(&card, NURRISPANE_OPTION_1, 0, 0);
  *         nurrispane_fresh_senders(&senders);
@@ -74,9 +75,9 @@
  *   memcpy, memmove and memset: no heap, no floating point, no operating system, and no data that is written.
  *   No call waits.
  *
- * Sizes, in octets: a card 672, aligned to 8; an input 40; an answer 6; the codes 16; the words 32;
- * a frame that was read 9; the senders 1,544, aligned to 8; one sender 96. There is no padding in any
- * of them, so cards and senders can be compared by memcmp() and summed by a checksum.
+ * Sizes, in octets: a card 672, aligned to 8; an input 40; an answer 6; what is known of an input 24,
+ * aligned to 8; the codes 16; the words 32; a frame that was read 9; the senders 1,544, aligned to 8;
+ * one sender 96; a unit 1,352, aligned to 8. There is no padding in any of them, so cards and senders can be compared by memcmp() and summed by a checksum.
  *
  * No call takes more stack than NURRISPANE_STACK; docs/BENCHMARKS.md has what each takes, and
  * tests/card measures it anew.
@@ -103,7 +104,7 @@ extern "C" {
 #endif
 
 /* Raised with each change of a struct, of a number or of what a function answers. */
-#define NURRISPANE_VERSION 2
+#define NURRISPANE_VERSION 3
 
 /* Whether the library that was linked is this header's: to be asked once, at the start. */
 #define NURRISPANE_BELONGS()                                               \
@@ -132,7 +133,7 @@ extern "C" {
 #define NURRISPANE_NEVER UINT64_MAX
 
 /* No call takes more stack than this. */
-#define NURRISPANE_STACK 12288
+#define NURRISPANE_STACK 16384
 
 /*
  * The profile, chosen once, with nurrispane_fresh(). Of option II the place of PROV, 0 for none and
@@ -277,6 +278,23 @@ struct nurrispane_card {
     uint32_t spare;       /* 0: no padding */
 };
 
+/*
+ * What is known of an input. A quality has its number on paper here: in option I invalid is 6 and
+ * failed 7, in option II 11 and 12. A yes is 1, a no is 0.
+ */
+struct nurrispane_status {
+    uint64_t timer;   /* when its hold-off or its wait ends, ms; 0 where that is past */
+    uint64_t frame;   /* when its last frame expires, ms; 0 where that is past, or none was heard */
+    uint8_t number;   /* NURRISPANE_ACCEPTED, or NURRISPANE_REFUSED_INPUT_OUT_OF_RANGE */
+    uint8_t raw;      /* raw quality */
+    uint8_t passed;   /* passed quality */
+    uint8_t eligible; /* may be selected */
+    uint8_t signal;   /* 1 good, 0 failing */
+    uint8_t priority; /* 1 to 16; 0 off */
+    uint8_t locked;   /* lockout */
+    uint8_t floor;    /* the floor in force, also where none was set */
+};
+
 /* The codes that go out of ports 0 to 15, each 0 to 15. */
 struct nurrispane_codes {
     uint8_t codes[NURRISPANE_INPUTS];
@@ -325,6 +343,18 @@ uint32_t nurrispane_card_octets(void);
 uint32_t nurrispane_senders_octets(void);
 
 /*
+ * A test for power-on, on a card of its own: the eleven events of document 01's whole replay; then a
+ * frame of 59 octets, which is refused with 8, one of 60 that tells PRC, which is followed, and one
+ * that tells code 0000, which is invalid. Answers 1 if each was answered as it has to be, otherwise 0.
+ *
+ * It is proved that the code answers 1. So a 0 tells that the machine did not do what the code says:
+ * its processor, its memory or the copy of the library in it is broken, or the compiler that made it.
+ * It does not tell which; and a 1 does not tell that nothing is broken, only that these eighteen steps
+ * went right. It looks at none of the firmware's cards: nurrispane_is_sound() is for those.
+ */
+uint32_t nurrispane_self_test(void);
+
+/*
  * Starts a card with a profile: it is fresh then, whatever it held: time 0, quality mode on, no
  * switch, nothing selected; each input a line with priority 0, hold-off 300 ms, wait 5 minutes,
  * sending on, its signal failing. Its answer is that of an accepted event on such a state: 00 ff 00
@@ -352,6 +382,28 @@ void nurrispane_step(struct nurrispane_card *card, uint8_t kind, uint64_t time, 
  * cannot be reached by a tick.
  */
 uint64_t nurrispane_next_due(const struct nurrispane_card *card);
+
+/*
+ * Whether a card that was kept or sent can be one that nurrispane_fresh() and events lead to, as far
+ * as is looked: 1 where a tick at the card's own time is accepted and leaves every number of it but
+ * `answer.number` and `served`, which may be any; otherwise 0. Every card that a start and events lead
+ * to passes, and the answer in a card that passes is in range: `answer.selected` and
+ * `answer.switch_input` 0 to 15 or 255, `clock_state` and `switch_kind` 0 to 2. It is no checksum: a
+ * time, a setting or a quality that is another number than it was may pass, and so may a place above 8.
+ */
+uint32_t nurrispane_is_sound(const struct nurrispane_card *card);
+
+/*
+ * What is known of an input at the card's time; `*status` is written, whatever it held. The timer is
+ * the hold-off where raw quality is failed and otherwise the wait, from the start of the present run
+ * on, needed or not: so a wait keeps the input from being passed where `raw` is not failed, `passed`
+ * is and `timer` is not 0; and a hold-off still passes the old quality where `raw` is failed and
+ * `passed` is not. An input above 15 is told with NURRISPANE_REFUSED_INPUT_OUT_OF_RANGE in `number`,
+ * and all else is 0. Whatever card came in, `eligible`, `signal` and `locked` are 0 or 1; `raw` and
+ * `passed` are 0 to 7, in option II 0 to 12, on a card that came from a fresh one.
+ */
+void nurrispane_input_status(const struct nurrispane_card *card, uint8_t input,
+                             struct nurrispane_status *status);
 
 /*
  * The codes that go out of the sixteen ports, for lines as well as for frames: 15, do not use, if
@@ -410,6 +462,81 @@ void nurrispane_ask(struct nurrispane_senders *senders, const struct nurrispane_
                     uint8_t port, uint64_t time, const uint8_t *source, uint64_t source_length,
                     uint8_t *buffer, uint64_t buffer_length);
 
+/*
+ * ---- The unit
+ *
+ * The station clock unit: two selectors of one profile, one for the equipment clock and one for the
+ * 2 Mbit/s station output, which squelches; crates/unit and crates/unitcard. Its four functions are
+ * in libunitcard.a, what `rt staticlib unitcard` writes, and for Arm `tools/card-for-arm unitcard`; all
+ * others are in libcard.a: firmware with a unit links both, and neither has a name that the other has.
+ * It needs memcpy and memmove.
+ *
+ * What C owes is what it owes of a card, of the unit as a whole: start from nurrispane_unit_fresh(),
+ * and lend to each call the unit that the last one left, unchanged but for what is the firmware's. Then
+ * it is the unit after those events, and all that is proved of the unit holds of it. The other calls on
+ * a card that only read it may be made on either card of a unit, as on
+ * nurrispane_next_due(&unit.station); no event may be sent to one by nurrispane_step(), which the other
+ * would not get. A unit that was filled in any other way is safe: whatever came in, `source` and the
+ * inputs in both answers are 0 to 15 or 255 after a step, `squelched` 0 or 1.
+ */
+
+/* The halves of a unit, by the number that nurrispane_unit_step() takes. */
+enum nurrispane_half {
+    NURRISPANE_EQUIPMENT = 0,
+    NURRISPANE_STATION = 1
+};
+
+/*
+ * The unit. Only the `answer` of each card, `squelched` and `source` are the firmware's. No due moments
+ * are counted: `served` is 0 in both cards.
+ */
+struct nurrispane_unit {
+    struct nurrispane_card equipment; /* the selector of the equipment clock */
+    struct nurrispane_card station;   /* that of the station output */
+    uint8_t minimum;                  /* the worst quality that the station output carries */
+    uint8_t squelched;                /* 1 where the station output squelches, which is to send AIS */
+    uint8_t source;                   /* its source: the selected input; squelched, NURRISPANE_NO_INPUT */
+    uint8_t spare;                    /* 0, as the one below: no padding */
+    uint32_t spare4;
+};
+
+/* Whether the libraries that were linked are this header's, that of the unit too. */
+#define NURRISPANE_UNIT_BELONGS()                                                  \
+    (NURRISPANE_BELONGS() && nurrispane_unit_version() == NURRISPANE_VERSION &&    \
+     nurrispane_unit_octets() == sizeof(struct nurrispane_unit))
+
+/* No call on a unit takes more stack than this. */
+#define NURRISPANE_UNIT_STACK 20480
+
+/* The version of the unit's library, and how many octets it takes a unit to have. */
+uint32_t nurrispane_unit_version(void);
+uint32_t nurrispane_unit_octets(void);
+
+/*
+ * Starts a unit with a profile, as nurrispane_fresh() does a card, and a minimum of the station output:
+ * 1 to 4, in option II 1 to 8. Both cards are fresh then, whatever they held, and the output squelches.
+ * Another minimum, or option II with a place above 8, is refused and nothing starts: the unit stays as
+ * it was, but for `answer.number` of both cards, which is NURRISPANE_REFUSED_ARGUMENT_OUT_OF_RANGE, and
+ * their `served`, 0.
+ */
+void nurrispane_unit_fresh(struct nurrispane_unit *unit, uint8_t option, uint8_t place,
+                           uint16_t marks, uint8_t minimum);
+
+/*
+ * One event: `*unit` becomes the unit after it, with an answer of each selector. Reports (signal, frame,
+ * line code and, in option II, word), input kinds and ticks go to both, whatever `half` is. Any other
+ * event, an unknown kind too, is a command and goes to the one that `half` says: NURRISPANE_STATION, or
+ * any other number for the equipment's; to the other it is a tick of that time, and answered as one.
+ * The time is held against the unit's; an event whose time passes first ticks both, so a refusal with 2
+ * or 5 to 17 leaves what that tick leaves. The numbers and the frame are as in nurrispane_step().
+ *
+ * The station output squelches where nothing usable is selected by the station's selector and, quality
+ * mode of that selector on, where the selected input's passed quality is worse than the minimum.
+ */
+void nurrispane_unit_step(struct nurrispane_unit *unit, uint8_t half, uint8_t kind, uint64_t time,
+                          uint8_t input, uint16_t argument, const uint8_t *frame,
+                          uint64_t frame_length);
+
 /* The layout that the library was built with. */
 NURRISPANE_HOLDS(sizeof(struct nurrispane_input) == 40);
 NURRISPANE_HOLDS(offsetof(struct nurrispane_input, framed) == 0);
@@ -455,6 +582,18 @@ NURRISPANE_HOLDS(offsetof(struct nurrispane_card, place) == 665);
 NURRISPANE_HOLDS(offsetof(struct nurrispane_card, marks) == 666);
 NURRISPANE_HOLDS(offsetof(struct nurrispane_card, spare) == 668);
 NURRISPANE_ALIGNED(struct nurrispane_card, 8);
+NURRISPANE_HOLDS(sizeof(struct nurrispane_status) == 24);
+NURRISPANE_HOLDS(offsetof(struct nurrispane_status, timer) == 0);
+NURRISPANE_HOLDS(offsetof(struct nurrispane_status, frame) == 8);
+NURRISPANE_HOLDS(offsetof(struct nurrispane_status, number) == 16);
+NURRISPANE_HOLDS(offsetof(struct nurrispane_status, raw) == 17);
+NURRISPANE_HOLDS(offsetof(struct nurrispane_status, passed) == 18);
+NURRISPANE_HOLDS(offsetof(struct nurrispane_status, eligible) == 19);
+NURRISPANE_HOLDS(offsetof(struct nurrispane_status, signal) == 20);
+NURRISPANE_HOLDS(offsetof(struct nurrispane_status, priority) == 21);
+NURRISPANE_HOLDS(offsetof(struct nurrispane_status, locked) == 22);
+NURRISPANE_HOLDS(offsetof(struct nurrispane_status, floor) == 23);
+NURRISPANE_ALIGNED(struct nurrispane_status, 8);
 NURRISPANE_HOLDS(sizeof(struct nurrispane_codes) == 16);
 NURRISPANE_HOLDS(sizeof(struct nurrispane_words) == 32);
 NURRISPANE_HOLDS(sizeof(struct nurrispane_frame) == 9);
@@ -472,6 +611,15 @@ NURRISPANE_HOLDS(offsetof(struct nurrispane_senders, ports) == 0);
 NURRISPANE_HOLDS(offsetof(struct nurrispane_senders, number) == 1536);
 NURRISPANE_HOLDS(offsetof(struct nurrispane_senders, frame) == 1540);
 NURRISPANE_ALIGNED(struct nurrispane_senders, 8);
+NURRISPANE_HOLDS(sizeof(struct nurrispane_unit) == 1352);
+NURRISPANE_HOLDS(offsetof(struct nurrispane_unit, equipment) == 0);
+NURRISPANE_HOLDS(offsetof(struct nurrispane_unit, station) == 672);
+NURRISPANE_HOLDS(offsetof(struct nurrispane_unit, minimum) == 1344);
+NURRISPANE_HOLDS(offsetof(struct nurrispane_unit, squelched) == 1345);
+NURRISPANE_HOLDS(offsetof(struct nurrispane_unit, source) == 1346);
+NURRISPANE_HOLDS(offsetof(struct nurrispane_unit, spare) == 1347);
+NURRISPANE_HOLDS(offsetof(struct nurrispane_unit, spare4) == 1348);
+NURRISPANE_ALIGNED(struct nurrispane_unit, 8);
 
 #undef NURRISPANE_HOLDS
 #undef NURRISPANE_ALIGNED

@@ -1,9 +1,11 @@
 /*
- * Holds the library to include/nurrispane.h: it is the header's, every field lies where the header
+ * Holds the library to include/nurrispane.h: it is the header's and passes its own test, every field lies where the header
  * says, a start has its profile or is refused, words come in and go out, a refusal keeps what it must,
- * any card is safe and answers in range, a frame is looked at for a frame event alone, what is next due is next due, frames are written as they are read and read as
- * they are written, senders answer as document 02 says, and no call takes more stack than the header
- * says. tests/card builds and runs it.
+ * any card is safe and answers in range, a card that events lead to is sound and one with an
+ * impossible number is not, what is told of an input is what its events make of it, a
+ * frame is looked at for a frame event alone, what is next due is next due, frames are written as they
+ * are read and read as they are written, senders answer as document 02 says, and no call takes more
+ * stack than the header says. tests/card builds and runs it.
  */
 #include <stdio.h>
 #include <stdlib.h>
@@ -94,7 +96,7 @@ static void check_fresh(void)
 {
     struct nurrispane_card card, kept;
 
-    CHECK(NURRISPANE_BELONGS());
+    CHECK(NURRISPANE_BELONGS() && nurrispane_self_test() == 1);
     for (unsigned option = 0; option < 256; option++) {
         for (unsigned place = 0; place < 256; place++) {
             uint16_t marks = (uint16_t)random_number();
@@ -233,6 +235,108 @@ static void check_fields(void)
     event(NURRISPANE_EVENT_PRIORITY, 2800, 3, 0);
     event(NURRISPANE_EVENT_PRIORITY, 2900, 9, 0);
     CHECK(card.selection == 0 && card.selected == NURRISPANE_NO_INPUT && card.held == 1);
+}
+
+/* ---- what is known of an input */
+
+static struct nurrispane_status status_of(const struct nurrispane_card *of, uint8_t input)
+{
+    struct nurrispane_status status;
+
+    memset(&status, 0xa5, sizeof status);
+    nurrispane_input_status(of, input, &status);
+    return status;
+}
+
+/* Raw and passed quality, eligible, timer and frame of an input of the card. */
+static int is_known(uint8_t input, uint8_t raw, uint8_t passed, int eligible, uint64_t timer, uint64_t frame)
+{
+    struct nurrispane_status status = status_of(&card, input);
+
+    return status.number == NURRISPANE_ACCEPTED && status.raw == raw && status.passed == passed &&
+           status.eligible == eligible && status.timer == timer && status.frame == frame;
+}
+
+/* An Ethernet input with the default hold-off of 300 ms and wait of 5 minutes, worked out by hand. */
+static void check_known(uint8_t option, uint8_t told, uint8_t invalid, uint8_t failed, uint8_t floor)
+{
+    static const uint8_t source[NURRISPANE_SOURCE_OCTETS] = {0x02, 0, 0, 0, 0, 1};
+    static const struct nurrispane_status none = {.number = NURRISPANE_REFUSED_INPUT_OUT_OF_RANGE};
+    uint8_t frame[NURRISPANE_FRAME_OCTETS];
+    struct nurrispane_status status;
+
+    nurrispane_fresh(&card, option, 0, 0);
+    CHECK(nurrispane_write_frame(&card, 0, 0, source, sizeof source, frame, sizeof frame) ==
+          NURRISPANE_ACCEPTED);
+    for (unsigned input = 0; input < 256; input++) {
+        status = status_of(&card, (uint8_t)input);
+        if (input < NURRISPANE_INPUTS)
+            CHECK(is_known((uint8_t)input, failed, failed, 0, 300, 0) && status.floor == floor);
+        else
+            CHECK(memcmp(&status, &none, sizeof status) == 0);
+    }
+    event(NURRISPANE_EVENT_INPUT_KIND, 2000, 9, NURRISPANE_INPUT_ETHERNET);
+    event(NURRISPANE_EVENT_SIGNAL, 2100, 9, 0);
+    event(NURRISPANE_EVENT_PRIORITY, 2200, 9, 2);
+    CHECK(is_known(9, failed, failed, 0, 0, 0));
+    nurrispane_step(&card, NURRISPANE_EVENT_FRAME, 2345, 9, 0, frame, sizeof frame);
+    CHECK(is_known(9, told, failed, 0, 302345, 7345));
+    event(NURRISPANE_EVENT_CLEAR_WAIT, 2400, 9, 0);
+    CHECK(is_known(9, told, told, 1, 302345, 7345));
+    event(NURRISPANE_EVENT_LOCKOUT, 2500, 9, 1);
+    status = status_of(&card, 9);
+    CHECK(is_known(9, told, told, 0, 302345, 7345) && status.locked == 1 && status.priority == 2);
+    event(NURRISPANE_EVENT_LOCKOUT, 2600, 9, 0);
+    event(NURRISPANE_EVENT_FLOOR, 2700, 9, 1);
+    status = status_of(&card, 9);
+    CHECK(is_known(9, told, told, 0, 302345, 7345) && status.floor == 1 && status.signal == 1);
+    event(NURRISPANE_EVENT_FLOOR, 2800, 9, floor);
+    event(NURRISPANE_EVENT_TICK, 7344, 0, 0);
+    CHECK(is_known(9, told, told, 1, 302345, 7345));
+    event(NURRISPANE_EVENT_TICK, 7345, 0, 0);
+    CHECK(is_known(9, failed, told, 1, 7645, 0));
+    event(NURRISPANE_EVENT_TICK, 7644, 0, 0);
+    CHECK(is_known(9, failed, told, 1, 7645, 0));
+    event(NURRISPANE_EVENT_TICK, 7645, 0, 0);
+    CHECK(is_known(9, failed, failed, 0, 0, 0));
+    frame[27] = 9;
+    nurrispane_step(&card, NURRISPANE_EVENT_FRAME, 8000, 9, 0, frame, sizeof frame);
+    CHECK(is_known(9, invalid, failed, 0, 308000, 13000));
+    event(NURRISPANE_EVENT_TICK, 308000, 0, 0);
+    CHECK(is_known(9, failed, failed, 0, 0, 0));
+}
+
+/* On paper invalid and failed are 6 and 7 in option I. */
+static uint8_t on_paper(uint8_t quality)
+{
+    if (card.option == NURRISPANE_OPTION_1 && quality >= INVALID)
+        return (uint8_t)(quality - INVALID + 6);
+    return quality;
+}
+
+/* What is known of each input of the card, which events led to, is what its numbers say. */
+static void check_statuses(void)
+{
+    int eligible = 0;
+
+    for (uint8_t i = 0; i < NURRISPANE_INPUTS; i++) {
+        const struct nurrispane_input *input = &card.inputs[i];
+        uint64_t timer = input->start + (input->failed ? input->holdoff : (uint64_t)input->wait * 60000);
+        uint64_t frame = input->frame == FAILED ? 0 : input->framed + 5000;
+        struct nurrispane_status status = status_of(&card, i);
+
+        CHECK(is_known(i, on_paper(input->failed ? FAILED : input->good), on_paper(input->up ? input->good : FAILED),
+                       status.eligible, timer > card.time ? timer : 0, frame > card.time ? frame : 0));
+        CHECK(status.signal == input->signal && status.priority == input->priority && status.locked == input->locked);
+        CHECK(status.floor == (input->floor ? input->floor : card.option == NURRISPANE_OPTION_1 ? 4 : 6));
+        CHECK(status.eligible < 2 && (!status.eligible || (status.priority && !status.locked)));
+        CHECK(!status.eligible || status.passed != on_paper(FAILED));
+        eligible |= status.eligible;
+    }
+    if (card.answer.switch_kind == NURRISPANE_SWITCH_NONE) {
+        CHECK(eligible == (card.answer.selected != NURRISPANE_NO_INPUT));
+        CHECK(!eligible || status_of(&card, card.answer.selected).eligible);
+    }
 }
 
 /* ---- option II: qualities, words, marks and the place of PROV, by the words of document 02 */
@@ -496,6 +600,76 @@ static void begin(void)
     CHECK(card.answer.selected == 0 && card.answer.clock_quality == 1);
 }
 
+static int is_sound(struct nurrispane_card kept)
+{
+    struct nurrispane_card lent = kept;
+    uint32_t sound = nurrispane_is_sound(&lent);
+
+    CHECK(sound < 2 && same(&lent, &kept));
+    return sound == 1;
+}
+
+/* A copy of the card with one number in it that no start and no events lead to. */
+#define UNSOUND(field, value)            \
+    do {                                 \
+        struct nurrispane_card k = card; \
+        k.field = value;                 \
+        CHECK(!is_sound(k));             \
+    } while (0)
+
+static unsigned long later[2];
+
+/* The card, which a start and events led to, is sound; what no such card has is not. */
+static void check_sound(void)
+{
+    struct nurrispane_card other = card, there = card;
+    uint64_t due = nurrispane_next_due(&card);
+    unsigned at = below(NURRISPANE_INPUTS);
+
+    CHECK(is_sound(card));
+    other.answer.number = (uint8_t)below(256);
+    other.served = (uint32_t)random_number();
+    CHECK(is_sound(other));
+    /* at a later time: just where what was due till then changes nothing */
+    if (due >> 48 == 0) {
+        nurrispane_step(&there, NURRISPANE_EVENT_TICK, due, 0, 0, NURRISPANE_NO_FRAME, 0);
+        other = card;
+        other.time = due;
+        other.answer.number = there.answer.number;
+        other.served = there.served;
+        later[is_sound(other)]++;
+        CHECK(is_sound(other) == same(&other, &there));
+    }
+    UNSOUND(time, (uint64_t)1 << 48);
+    UNSOUND(time, UINT64_MAX);
+    UNSOUND(mode, 2);
+    UNSOUND(held, 255);
+    UNSOUND(switch_kind, 3);
+    UNSOUND(switch_input, 16);
+    UNSOUND(selection, 2);
+    UNSOUND(selected, 17);
+    UNSOUND(option, 0);
+    UNSOUND(option, 3);
+    UNSOUND(spare, 1);
+    UNSOUND(answer.selected, card.answer.selected ^ 1);
+    UNSOUND(answer.clock_state, 3);
+    UNSOUND(answer.clock_quality, (uint8_t)(card.answer.clock_quality + 1));
+    UNSOUND(answer.switch_kind, 3);
+    UNSOUND(answer.switch_input, 16);
+    UNSOUND(inputs[at].kind, 3);
+    UNSOUND(inputs[at].locked, 2);
+    UNSOUND(inputs[at].sending, 2);
+    UNSOUND(inputs[at].signal, 2);
+    UNSOUND(inputs[at].failed, 2);
+    UNSOUND(inputs[at].up, 2);
+    UNSOUND(inputs[at].spare2, 1);
+    UNSOUND(inputs[at].spare4, 1);
+    if (card.option == NURRISPANE_OPTION_1) {
+        UNSOUND(place, 1);
+        UNSOUND(marks, 0x8000);
+    }
+}
+
 static void check_events(void)
 {
     unsigned long numbers[20] = {0};
@@ -507,7 +681,11 @@ static void check_events(void)
         uint64_t due = nurrispane_next_due(&card);
 
         check_due(due);
+        if (i % 10 == 0)
+            check_sound();
         card = stepped(card, &call);
+        CHECK(is_sound(card));
+        check_statuses();
         CHECK(card.answer.number < 18);
         if (card.answer.number >= 8 && card.answer.number <= 13)
             CHECK(read_frame(call.frame, call.frame_length).number == card.answer.number);
@@ -532,6 +710,7 @@ static void check_events(void)
     }
     for (int number = 2; number < 18; number++)
         CHECK(numbers[number] > 0);
+    CHECK(later[0] > 0 && later[1] > 0);
 }
 
 /* A card of any bytes: nothing is promised of the answers, but all are as if it were a state. */
@@ -548,6 +727,16 @@ static void check_cards(void)
         next = stepped(wild, &call);
         nurrispane_next_due(&wild);
         outgoing_words(&wild);
+        if (is_sound(wild)) {
+            CHECK(wild.answer.selected < 16 || wild.answer.selected == NURRISPANE_NO_INPUT);
+            CHECK(wild.answer.switch_input < 16 || wild.answer.switch_input == NURRISPANE_NO_INPUT);
+            CHECK(wild.answer.clock_state < 3 && wild.answer.switch_kind < 3);
+        }
+        for (int at = 0; at < 2; at++) {
+            struct nurrispane_status status = status_of(&wild, (uint8_t)below(at ? 256 : 16));
+
+            CHECK(status.eligible < 2 && status.signal < 2 && status.locked < 2);
+        }
         outgoing = outgoing_codes(&wild);
         for (int port = 0; port < NURRISPANE_INPUTS; port++) {
             const struct nurrispane_input *input = &next.inputs[port];
@@ -726,15 +915,22 @@ static uint8_t stack[STACK_SIZE] __attribute__((aligned(16)));
 static ucontext_t here, there;
 static struct call stack_call;
 static struct nurrispane_card stack_card;
+static struct nurrispane_status stack_status;
 static struct nurrispane_codes stack_codes;
 static struct nurrispane_words stack_words;
 static struct nurrispane_frame stack_read;
 static struct nurrispane_senders stack_senders;
 static uint64_t stack_due;
+static uint32_t stack_sound;
 static uint8_t stack_frame[NURRISPANE_FRAME_OCTETS];
 
 static void run_nothing(void)
 {
+}
+
+static void run_self_test(void)
+{
+    stack_sound = nurrispane_self_test();
 }
 
 static void run_fresh(void)
@@ -751,6 +947,16 @@ static void run_step(void)
 static void run_due(void)
 {
     stack_due = nurrispane_next_due(&card);
+}
+
+static void run_sound(void)
+{
+    stack_sound = nurrispane_is_sound(&card);
+}
+
+static void run_status(void)
+{
+    nurrispane_input_status(&card, 1, &stack_status);
 }
 
 static void run_codes(void)
@@ -805,9 +1011,12 @@ static void check_stack(void)
     static const struct {
         const char *name;
         void (*run)(void);
-    } runs[] = {{"fresh", run_fresh},
+    } runs[] = {{"self_test", run_self_test},
+                {"fresh", run_fresh},
                 {"step", run_step},
                 {"next_due", run_due},
+                {"is_sound", run_sound},
+                {"input_status", run_status},
                 {"outgoing_codes", run_codes},
                 {"outgoing_words", run_words},
                 {"read_frame", run_read},
@@ -824,9 +1033,9 @@ static void check_stack(void)
             size_t used;
 
             stack_card = card;
-            used = stack_of(runs[r].run) - nothing;
-            if (used > most[r])
-                most[r] = used;
+            used = stack_of(runs[r].run);
+            if (used > nothing + most[r])
+                most[r] = used - nothing;
         }
         card = stepped(card, &stack_call);
     }
@@ -842,6 +1051,8 @@ int main(void)
 {
     check_fresh();
     check_fields();
+    check_known(NURRISPANE_OPTION_1, 4, 6, 7, 4);
+    check_known(NURRISPANE_OPTION_2, 6, 11, 12, 6);
     check_words();
     check_reading();
     check_frames();
@@ -850,10 +1061,10 @@ int main(void)
     check_unread();
     check_senders();
     check_stack();
-    printf("sizes: card %zu, input %zu, answer %zu, codes %zu, words %zu, frame %zu, senders %zu, "
+    printf("sizes: card %zu, input %zu, answer %zu, status %zu, codes %zu, words %zu, frame %zu, senders %zu, "
            "sender %zu bytes\n",
            sizeof(struct nurrispane_card), sizeof(struct nurrispane_input),
-           sizeof(struct nurrispane_answer), sizeof(struct nurrispane_codes),
+           sizeof(struct nurrispane_answer), sizeof(struct nurrispane_status), sizeof(struct nurrispane_codes),
            sizeof(struct nurrispane_words), sizeof(struct nurrispane_frame), sizeof(struct nurrispane_senders),
            sizeof(struct nurrispane_sender));
     printf("%lu checks hold\n", checks);

@@ -1,7 +1,7 @@
 /*
  * Firmware over the library, on a clock of its own: it sleeps until what is next due or the next
  * heartbeat, keeps its card across a restart, and writes a log of every event that it made. What
- * happens around it comes from standard input, as lines of a log (document 01).
+ * happens around it comes from standard input, as lines of a log; its option is that of the first.
  *
  *     firmware LOG ANSWERS <EVENTS
  *
@@ -14,7 +14,8 @@
 #include "nurrispane.h"
 
 #define DIGITS "0123456789abcdef"
-#define MOST_DIGITS 3048
+#define EVENT_DIGITS 22
+#define MOST_DIGITS 3050
 #define DAY 86400000
 #define HEARTBEAT 1000
 #define RESTART 50
@@ -29,7 +30,8 @@ static void make(unsigned kind, uint64_t ms, unsigned input, unsigned argument,
                  const uint8_t *frame, size_t length)
 {
     nurrispane_step(&card, (uint8_t)kind, ms, (uint8_t)input, (uint16_t)argument, frame, length);
-    fprintf(events, "%02x%012llx%02x%04x", kind, (unsigned long long)ms, input, argument);
+    fprintf(events, "%02x%02x%012llx%02x%04x", kind, card.option, (unsigned long long)ms, input,
+            argument);
     for (size_t i = 0; i < length; i++)
         fprintf(events, "%02x", frame[i]);
     fprintf(events, "\n");
@@ -85,15 +87,15 @@ int main(int argc, char **argv)
     static char line[MOST_DIGITS + 2];
     static uint8_t frame[MOST_DIGITS / 2];
     unsigned long long ms;
-    unsigned kind, input, argument, octet;
+    unsigned kind, option, input, argument, octet;
     uint64_t beat = 0;
 
     if (argc != 3 || !(events = fopen(argv[1], "w")) || !(answers = fopen(argv[2], "w"))) {
         fprintf(stderr, "usage: %s LOG ANSWERS <EVENTS\n", argv[0]);
         return 2;
     }
-    if (!NURRISPANE_BELONGS()) {
-        fprintf(stderr, "%s: the library is not the header's\n", argv[0]);
+    if (!NURRISPANE_BELONGS() || !nurrispane_self_test()) {
+        fprintf(stderr, "%s: the library is not the header's, or fails its own test\n", argv[0]);
         return 1;
     }
     nurrispane_fresh(&card, NURRISPANE_OPTION_1, 0, 0);
@@ -101,13 +103,17 @@ int main(int argc, char **argv)
     while (fgets(line, sizeof line, stdin)) {
         size_t length = 0;
 
-        if (strspn(line, DIGITS) < 20 ||
-            sscanf(line, "%2x%12llx%2x%4x", &kind, &ms, &input, &argument) != 4)
+        if (strspn(line, DIGITS) < EVENT_DIGITS ||
+            sscanf(line, "%2x%2x%12llx%2x%4x", &kind, &option, &ms, &input, &argument) != 5)
             continue;
-        while (strspn(line + 20 + 2 * length, DIGITS) >= 2 &&
-               sscanf(line + 20 + 2 * length, "%2x", &octet) == 1)
+        while (strspn(line + EVENT_DIGITS + 2 * length, DIGITS) >= 2 &&
+               sscanf(line + EVENT_DIGITS + 2 * length, "%2x", &octet) == 1)
             frame[length++] = (uint8_t)octet;
         if ((kind == NURRISPANE_EVENT_FRAME) != (length > 0))
+            continue;
+        if (made == 0)
+            nurrispane_fresh(&card, (uint8_t)option, 0, 0);
+        if (option != card.option)
             continue;
         if (ms >= card.time && ms < card.time + DAY)
             sleep_until(ms, &beat);

@@ -285,7 +285,7 @@ demand-3-card sequence =
 module _ (sequence : Sequence) (time : ℕ) (later : stateAfter sequence .time ≤ time) (below : time < timeLimit)
     (before : time < nextDue (stateAfter sequence)) where
   -- before it a tick moves the time alone
-  moved : stateAfter (tickAt time following sequence) ≡ movedTo (stateAfter sequence) (stateAfter sequence .inputs) time
+  pub moved : stateAfter (tickAt time following sequence) ≡ movedTo (stateAfter sequence) (stateAfter sequence .inputs) time
   moved =
       let state = stateAfter sequence in
       let here : state .time + (time - state .time) ≡ time = omega arith in
@@ -294,7 +294,7 @@ module _ (sequence : Sequence) (time : ℕ) (later : stateAfter sequence .time �
       ∙ each-before state (sequence-calm sequence) (time - state .time) (omega (arith, here))
       ∙ ap (movedTo state (state .inputs)) here
 
-  accepts : numberAfter (tickAt time) sequence ≡ accepted
+  pub accepts : numberAfter (tickAt time) sequence ≡ accepted
   unfolding numberAfter
   accepts =
       ap (λ (after : Stepped). after .number)

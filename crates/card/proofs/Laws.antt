@@ -1,9 +1,13 @@
 -- The definitions of `specs/`, a law for each way through the function that meets it. Assumes nothing.
-use Prim.Native.Nat.{ℕ, _≤_, _<_}
-use mathlib.Core.Bool.{Bool}
+use Prim.Native.Nat.{ℕ, _+_, _≤_, _<_}
+use mathlib.Core.Bool.{Bool, true, false, _&&_}
 use mathlib.Core.List.{List, map}
-use mathlib.Core.Path.{_≡_, sym, _∙_, ap}
-use lib.ListN.{getD}
+use mathlib.Core.Path.{_≡_, refl, sym, _∙_, ap}
+use native.Mathlib.Numerals.{add-one}
+use native.Mathlib.Omega.{arith}
+use lib.Dec.{eqb}
+use lib.ListN.{length, getD}
+use mir.Val.{boolByte}
 use borrow.Author.Tests.{eq-eqb, ne-eqb, lt-ltb, le-ltb}
 use Rattle.numbers.specs.declared.Answer.{Answer}
 use Rattle.numbers.specs.declared.InputKind.{InputKind}
@@ -13,7 +17,7 @@ use Rattle.numbers.specs.declared.Profile.{Profile}
 use Rattle.numbers.specs.declared.Profile.the-variants as P
 use Rattle.numbers.specs.Kind.{flag, kindFrame, inputKindOf, kindArgument}
 use Rattle.numbers.specs.Quality.{quality}
-use Rattle.numbers.specs.Profile.{placeOf, marksOf, startNumber}
+use Rattle.numbers.specs.Profile.{placeOf, marksOf, startNumber, paperNumber}
 use Rattle.numbers.specs.Refusal.{accepted, inputOutOfRange}
 use Rattle.frame.specs.declared.FrameRead.{FrameRead}
 use Rattle.frame.specs.declared.FrameRead.the-variants.{Code}
@@ -21,17 +25,24 @@ use Rattle.frame.specs.declared.FrameWrite.{FrameWrite}
 use Rattle.frame.specs.Read.{readCode}
 use Rattle.frame.specs.Write.{WriteFrame}
 use Rattle.input.specs.declared.Input.{Input}
+use Rattle.input.specs.Record.{freshInput}
 use Rattle.choice.specs.declared.Selection.{Selection}
 use Rattle.choice.specs.declared.Selection.the-variants as S
 use Rattle.decision.specs.declared.Switch.the-variants as W
 use Rattle.selector.specs.declared.Selector.{Selector}
 use Rattle.selector.specs.Clock.{switchForced, switchManual}
 use Rattle.selector.specs.Answer.{answerOf, outgoingCodes}
+use Rattle.selector.proofs.Laws.{getD-any}
 use Rattle.numbers.specs.Inputs.{lastInput}
+use Rattle.status.specs.declared.Status.{Status}
+use Rattle.status.specs.Kept.{inputStatus}
 use Rattle.card.specs.declared.Card.{Card}
 use Rattle.card.specs.declared.CardInput.{CardInput}
+use Rattle.card.specs.declared.known.CardStatus.{CardStatus}
 use Rattle.card.specs.Flat.{isSet, inputOf, flatInput, flatAnswer, switchOf, selectionOf, isSelected, optionTwo, profileIn, optionOf, selectorOf, cardOf, withNumber}
-use Rattle.card.specs.Card.{freshCard, startCard, readFor, portCode, numberOfWrite, WritePort}
+use Rattle.card.specs.Card.{freshCard, startCard, steppedCard, readFor, portCode, numberOfWrite, WritePort}
+use Rattle.card.specs.Status.{noStatus, cardStatus}
+use Rattle.card.specs.Sound.{sameInput, sameAmong, sameInputs, sameCard, tickedAgain, cardSound}
 
 -- ---- switchOf
 
@@ -284,3 +295,76 @@ module _ (card : Card) (port : ℕ) (event : Bool) (source before : List ℕ) wh
       (first .answered ∙ sym (second .answered), first .content ∙ sym (second .content))
 
 pub ruleset writePort-laws = (writePort-no-port, writePort-port)
+
+-- ---- cardStatus
+
+-- what is known of an input as numbers, of its qualities'
+abbrev pub statusWith : ℕ → ℕ → Status → CardStatus
+statusWith raw passed status =
+    record {
+      timer = status .timer;
+      frame = status .frame;
+      number = accepted;
+      raw = raw;
+      passed = passed;
+      eligible = flag (status .eligible);
+      signal = flag (status .signal);
+      priority = status .priority .0;
+      locked = flag (status .locked);
+      floor = status .floor;
+    }
+
+module _ (card : Card) (input : ℕ) where
+  pub cardStatus-none : (told : CardStatus) → lastInput < input → told ≡ noStatus → told ≡ cardStatus card input
+  unfolding cardStatus
+  cardStatus-none told above none = rw (lt-ltb _ _ above, none)
+
+  pub cardStatus-known : (state : Selector) (status : Status) (raw passed : ℕ)
+      → input ≤ lastInput → state ≡ selectorOf card → status ≡ inputStatus state input
+      → raw ≡ paperNumber (state .profile) (status .raw) → passed ≡ paperNumber (state .profile) (status .passed)
+      → statusWith raw passed status ≡ cardStatus card input
+  unfolding cardStatus
+  cardStatus-known state status raw passed within s t r p = rw (le-ltb _ _ within, r, p, t, s)
+
+pub ruleset cardStatus-laws = (cardStatus-none, cardStatus-known)
+
+-- ---- sameAmong: the loop of `same_inputs`
+
+pub sameAmong-none : (ones others : List CardInput) → true ≡ sameAmong ones others 0
+unfolding sameAmong
+sameAmong-none ones others = refl
+
+pub sameAmong-more : (ones others : List CardInput) (count : ℕ) (same next : Bool) (zeroed : CardInput)
+    → same ≡ sameAmong ones others count
+    → next ≡ (same && sameInput (getD ones count zeroed) (getD others count zeroed))
+    → length ones ≡ 16 → length others ≡ 16 → count < 16
+    → next ≡ sameAmong ones others (count + 1)
+unfolding sameAmong
+sameAmong-more ones others count same next zeroed s n l m few =
+    let one : getD ones count zeroed ≡ getD ones count (flatInput freshInput) =
+    getD-any ones count zeroed (flatInput freshInput) (omega arith) in
+    let other : getD others count zeroed ≡ getD others count (flatInput freshInput) =
+    getD-any others count zeroed (flatInput freshInput) (omega arith) in
+    rw (add-one count) (n ∙ (rw (s, one, other)))
+
+pub sameAmong-all : (ones others : List CardInput) (count : ℕ) (same : Bool) → same ≡ sameAmong ones others count
+    → count ≤ 16 → 16 ≤ count
+    → same ≡ sameInputs ones others
+sameAmong-all ones others count same s h k = let z : count ≡ 16 = omega arith in s ∙ (rw z)
+
+pub ruleset sameAmong-laws = (sameAmong-none, sameAmong-more, sameAmong-all)
+
+-- ---- cardSound
+
+-- what a yes or no is as a number of C's
+pub boolByte-flag : (yes : Bool) → boolByte yes ≡ flag yes
+boolByte-flag true = refl
+boolByte-flag false = refl
+
+pub cardSound-told : (card ticked : Card) (same : Bool)
+    → ticked ≡ steppedCard (tickedAgain card)
+    → same ≡ sameCard ticked card
+    → boolByte (eqb (ticked .answer .number) accepted && same) ≡ cardSound card
+unfolding cardSound cardOf answerOf
+cardSound-told card ticked same t s =
+    rw (s, t) (boolByte-flag (eqb (tickedAgain card .number) accepted && sameCard (steppedCard (tickedAgain card)) card))

@@ -33,7 +33,7 @@ use Rattle.card.specs.Flat.{profileIn, selectorOf, cardOf, withNumber}
 
 -- the header's version
 abbrev pub version : ℕ
-version = 2
+version = 3
 
 -- how long a card is in C
 abbrev pub cardOctets : ℕ

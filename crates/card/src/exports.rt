@@ -8,15 +8,22 @@ use crate::card_codes;
 use crate::card_due;
 use crate::card_frame;
 use crate::card_words;
+use crate::known::CardStatus;
+use crate::known::card_status;
+use crate::self_test::self_test;
+use crate::sound::is_sound;
 use crate::start_card;
 use crate::step_card;
 use crate::write_port;
 ghost use mathlib.Core.Path.{_≡_};
 ghost use Rattle.card.specs.Flat.{isSet};
+ghost use Rattle.card.specs.Status.{cardStatus};
+ghost use Rattle.card.specs.SelfTest.{selfTest};
+ghost use Rattle.card.specs.Sound.{cardSound};
 ghost use Rattle.card.specs.Card.{version, cardOctets, sendersOctets, startCard, stepCard, cardCodes, cardWords, cardDue, cardFrame, WritePort};
 
 // Raised with each change of a struct, of a number or of what a function answers.
-const VERSION: u32 = 2;
+const VERSION: u32 = 3;
 
 // How long a card is in C.
 const CARD_OCTETS: u32 = 672;
@@ -46,6 +53,15 @@ pub extern "C" fn nurrispane_senders_octets() -> u32
     ensures { λ answer. ⌜ answer ≡ sendersOctets ⌝ }
 {
     SENDERS_OCTETS
+}
+
+// The power-on self-test, on a card of its own: 1 where it is passed, as it is where the machine does
+// what the code says; 0 where not.
+#[no_mangle]
+pub extern "C" fn nurrispane_self_test() -> u32
+    ensures { λ answer. ⌜ answer ≡ selfTest ⌝ }
+{
+    self_test()
 }
 
 // Starts a card with a profile, whatever it held: it is fresh then. Option II with a place above 8 is
@@ -86,6 +102,26 @@ pub extern "C" fn nurrispane_next_due(card: &Card) -> u64
 {
     let held = *card;
     card_due(held)
+}
+
+// 1 where a card can have come from a fresh one by events, as far as is looked; 0 where not.
+#[no_mangle]
+pub extern "C" fn nurrispane_is_sound(card: &Card) -> u32
+    ensures { λ answer. ⌜ answer ≡ cardSound (now (card .entry)) ⌝ }
+{
+    let held = *card;
+    is_sound(held)
+}
+
+// What is known of one input: its qualities, whether it is eligible, when its timer and its frame end.
+// A number above 15 is told as no input, with 5.
+#[no_mangle]
+pub extern "C" fn nurrispane_input_status(card: &Card, input: u8, status: &mut CardStatus)
+    ensures { λ _. ⌜ now (status .exit) ≡ cardStatus (now (card .entry)) input ⌝ }
+{
+    let held = *card;
+    let new = card_status(held, input);
+    *status = new;
 }
 
 // The codes that go out of the sixteen ports.

@@ -1,0 +1,47 @@
+-- The self-test is passed: by computation of the definitions. Assumes nothing.
+use mathlib.Core.Path.{_≡_, refl}
+use Rattle.numbers.specs.Profile.{limitsOf, placeOf, marksOf, floorIn}
+use Rattle.numbers.specs.Codes.{saidBy, qualityOfCode, qualityOfWord, saidIn}
+use Rattle.numbers.specs.Kind.{kindOf, inputKindOf, isArgumentOut, isInputOut}
+use Rattle.frame.specs.Octets.{same}
+use Rattle.frame.specs.Read.{rightLength, rightDestination, rightProtocol, rightOrganisation, rightVersion, rightTlv, frameNumber, readCode}
+use Rattle.frame.specs.Write.{headerOctets, dataOctets, frameOctets, writeAnswer}
+use Rattle.run.specs.Run.{isExpired, rawAt, runStart, isUpAfter, lastGood, atMoment, upBefore, broughtTo, passedQuality}
+use Rattle.input.specs.Record.{countAfter, lineAfter, heardAfter, settingsAfter, qualityNow, canExpire, forecast, settle, tick, afterEvent, takes, recordAfter}
+use Rattle.choice.specs.Candidate.{isUsable, isAdmitted, rankedQuality, candidateOf, isEligible, isBetter, isLower, lowerAmong}
+use Rattle.choice.specs.Rank.{isPlaced, rankOf}
+use Rattle.choice.specs.Choice.{seeded, offered, scanned, choose}
+use Rattle.decision.specs.Choices.{commanded}
+use Rattle.decision.specs.Decision.{manualMayStand, judged, selectedBy, isClockLocked, isHeld, decide}
+use Rattle.selector.specs.State.{freshSelector, candidateFor, decided, ticked}
+use Rattle.selector.specs.Answer.{selectedCandidate, answerOf}
+use Rattle.selector.specs.Clock.{clockState, clockQuality, selectedNumber, switchNumber, switchInput}
+use Rattle.due.specs.Next.{lesser, sumOrNever, ifLater, timerDue, frameDue, nextOf, nextAmong}
+use Rattle.due.specs.Served.{servedFrom, served}
+use Rattle.events.specs.Refusals.{firstThatApplies, isWrongKind, frameRefusal, earlyRefusal, isForcedSwitch, lateRefusal}
+use Rattle.events.specs.Step.{isHeldInByte, heldArgument, inputAfter, inputsAfter, modeAfter, placed, stepRead}
+use Rattle.events.specs.Given.{recordedArgument}
+use Rattle.card.specs.Flat.{inputOf, flatInput, switchOf, selectionOf, isSelected, profileIn, optionOf, selectorOf, cardOf}
+use Rattle.card.specs.Card.{freshCard, readFor, stepCard}
+use Rattle.card.specs.SelfTest.{lentOctets, testFrame, testedCard, isTold, answeredRight, selfTest, SelfTestRight}
+
+passed : selfTest ≡ 1
+unfolding
+    selfTest answeredRight isTold testedCard testFrame lentOctets
+    stepCard readFor freshCard cardOf selectorOf optionOf profileIn isSelected selectionOf switchOf flatInput inputOf
+    writeAnswer frameOctets dataOctets headerOctets
+    readCode frameNumber rightLength rightDestination rightProtocol rightOrganisation rightVersion rightTlv same
+    stepRead placed commanded recordedArgument modeAfter inputsAfter inputAfter heldArgument isHeldInByte
+    lateRefusal isForcedSwitch earlyRefusal frameRefusal isWrongKind firstThatApplies isInputOut isArgumentOut kindOf
+    answerOf switchInput switchNumber selectedNumber clockQuality clockState selectedCandidate
+    served servedFrom nextAmong nextOf frameDue timerDue ifLater sumOrNever lesser
+    ticked decided candidateFor decide isHeld isClockLocked selectedBy judged manualMayStand
+    choose scanned offered seeded lowerAmong isLower isBetter isEligible candidateOf rankedQuality isAdmitted isUsable isPlaced rankOf
+    recordAfter takes afterEvent tick settle forecast canExpire qualityNow settingsAfter heardAfter lineAfter countAfter
+    passedQuality broughtTo upBefore atMoment lastGood isUpAfter runStart rawAt isExpired
+    saidIn qualityOfCode qualityOfWord saidBy limitsOf placeOf marksOf floorIn inputKindOf
+passed = refl
+
+-- THE SELF-TEST is passed.
+pub self-test-right : SelfTestRight
+self-test-right = record { passes = passed }

@@ -1,0 +1,84 @@
+-- The self-test's definitions, a law for each way through the function that meets it. Assumes nothing.
+use Prim.Native.Nat.{ℕ, suc, _+_, _≤_, _<_}
+use mathlib.Core.Bool.{Bool, true, false, _&&_}
+use mathlib.Core.List.{List, [], _∷_}
+use mathlib.Core.Path.{_≡_, refl, sym, _∙_, ap}
+use native.Mathlib.Numerals.{add-one}
+use native.Mathlib.Omega.{arith}
+use lib.Dec.{ltb}
+use lib.ListN.{length, getD, drop, drop-of-length-le}
+use lib.Seq.{drop-cons}
+use mir.Val.{boolByte}
+use borrow.Author.Tests.{lt-ltb, le-ltb, ltb-true}
+use Rattle.numbers.specs.declared.Profile.the-variants as P
+use Rattle.numbers.specs.Kind.{flag}
+use Rattle.frame.specs.Write.{writtenLength}
+use Rattle.run.proofs.Laws.{byBool}
+use Rattle.card.specs.declared.Card.{Card}
+use Rattle.card.specs.declared.self_test.TestLine.{TestLine}
+use Rattle.card.specs.Card.{freshCard}
+use Rattle.card.specs.SelfTest.{testLines, lentOctets, testedCard, isTold, answeredRight, selfTest}
+use Rattle.card.proofs.Laws.{boolByte-flag}
+
+-- ---- lentOctets
+
+module _ (octets : ℕ) where
+  pub lentOctets-short : octets < writtenLength → octets ≡ lentOctets octets
+  unfolding lentOctets
+  lentOctets-short short = rw (lt-ltb _ _ short)
+
+  pub lentOctets-whole : writtenLength ≤ octets → writtenLength ≡ lentOctets octets
+  unfolding lentOctets
+  lentOctets-whole long = rw (le-ltb _ _ long)
+
+  pub lentOctets-most : lentOctets octets ≤ writtenLength
+  unfolding lentOctets
+  lentOctets-most =
+      byBool (ltb octets writtenLength) (λ short. rw short (omega (arith, ltb-true octets writtenLength short))) (λ long. rw long (omega arith))
+
+pub ruleset lentOctets-laws = (lentOctets-short, lentOctets-whole)
+
+-- ---- answeredRight: the loop of `self_test`
+
+-- what is left to answer, with what was answered, is the whole
+abbrev pub Answered : List TestLine → ℕ → Bool → Card → Type 0
+Answered lines at right card =
+    (right && answeredRight (drop at lines) card) ≡ answeredRight lines (freshCard P.OptionOne)
+
+both-assoc : (one two three : Bool) → ((one && two) && three) ≡ (one && (two && three))
+both-assoc true two three = refl
+both-assoc false two three = refl
+
+both-true : (one : Bool) → (one && true) ≡ one
+both-true true = refl
+both-true false = refl
+
+answered-no-line : (card : Card) → answeredRight [] card ≡ true
+unfolding answeredRight
+answered-no-line card = refl
+
+pub answered-none : (lines : List TestLine) (card : Card) → card ≡ freshCard P.OptionOne → Answered lines 0 true card
+answered-none lines card fresh = rw fresh
+
+pub answered-more : (lines : List TestLine) (at : ℕ) (right same : Bool) (card after : Card) (zeroed : TestLine)
+    → Answered lines at right card → at < length lines
+    → after ≡ testedCard card (getD lines at zeroed)
+    → same ≡ isTold (after .answer) (getD lines at zeroed)
+    → Answered lines (at + 1) (right && same) after
+unfolding answeredRight
+answered-more lines at right same card after zeroed before inside a s =
+    rw (add-one at, both-assoc right same (answeredRight (drop (suc at) lines) after), s, a)
+    (ap (λ (left : List TestLine). right && answeredRight left card) (sym (drop-cons lines at zeroed inside)) ∙ before)
+
+pub answered-all : (lines : List TestLine) (at : ℕ) (right : Bool) (card : Card)
+    → Answered lines at right card → length lines ≤ at → lines ≡ testLines
+    → boolByte right ≡ selfTest
+unfolding selfTest
+answered-all lines at right card before past is =
+    boolByte-flag right
+    ∙ ap flag
+    (sym (both-true right)
+    ∙ ap (λ (rest : Bool). right && rest) (sym (answered-no-line card))
+    ∙ ap (λ (left : List TestLine). right && answeredRight left card) (sym (drop-of-length-le lines past))
+    ∙ before
+    ∙ ap (λ (whole : List TestLine). answeredRight whole (freshCard P.OptionOne)) is)
