@@ -210,7 +210,7 @@ pub fn own_place(inputs: [Input; 16], number: u8) -> usize
 }
 
 // Whether a code has come three times that comes again: nothing that was heard changes.
-fn code_again(profile: Profile, heard: Heard, code: u16) -> bool
+pub fn code_again(profile: Profile, heard: Heard, code: u16) -> bool
     ensures { λ answer. ⌜ answer ≡ codeAgain profile heard code ⌝ }
 {
     if heard.good {
@@ -229,7 +229,7 @@ fn code_again(profile: Profile, heard: Heard, code: u16) -> bool
 
 // Whether a frame says what the last one said, in a run that is not failed: of what was heard the
 // time of the last frame alone changes.
-fn frame_again(profile: Profile, heard: Heard, failed: bool, code: u16) -> bool
+pub fn frame_again(profile: Profile, heard: Heard, failed: bool, code: u16) -> bool
     ensures { λ answer. ⌜ answer ≡ frameAgain profile heard failed code ⌝ }
 {
     if failed {
