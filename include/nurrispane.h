@@ -69,15 +69,16 @@
  *   hold-off, of a wait or of a frame's five seconds. Send NURRISPANE_EVENT_TICK when these are to be
  *   noticed without an event, at the time that nurrispane_next_due() says; further ticks change no
  *   later answer. `served` in the card says how many due moments the last event's tick served: never
- *   more than 48, which bounds the time that a call takes.
+ *   more than 48, which bounds the time that a call takes. Before the card's `due` an event that tells
+ *   its input nothing new, or is refused, takes a small part of it.
  * - The machine. libcard.a is for x86-64 with the System V calling convention, its red zone and its
  *   SSE2 registers included; docs/BENCHMARKS.md has its size, and that of those for Arm. It needs
  *   memcpy, memmove and memset: no heap, no floating point, no operating system, and no data that is written.
  *   No call waits.
  *
- * Sizes, in octets: a card 672, aligned to 8; an input 40; an answer 6; what is known of an input 24,
+ * Sizes, in octets: a card 680, aligned to 8; an input 40; an answer 6; what is known of an input 24,
  * aligned to 8; the codes 16; the words 32; a frame that was read 9; the senders 1,544, aligned to 8;
- * one sender 96; a unit 1,352, aligned to 8. There is no padding in any of them, so cards and senders can be compared by memcmp() and summed by a checksum.
+ * one sender 96; a unit 1,368, aligned to 8. There is no padding in any of them, so cards and senders can be compared by memcmp() and summed by a checksum.
  *
  * No call takes more stack than NURRISPANE_STACK; docs/BENCHMARKS.md has what each takes, and
  * tests/card measures it anew.
@@ -104,7 +105,7 @@ extern "C" {
 #endif
 
 /* Raised with each change of a struct, of a number or of what a function answers. */
-#define NURRISPANE_VERSION 3
+#define NURRISPANE_VERSION 4
 
 /* Whether the library that was linked is this header's: to be asked once, at the start. */
 #define NURRISPANE_BELONGS()                                               \
@@ -133,7 +134,7 @@ extern "C" {
 #define NURRISPANE_NEVER UINT64_MAX
 
 /* No call takes more stack than this. */
-#define NURRISPANE_STACK 16384
+#define NURRISPANE_STACK 20480
 
 /*
  * The profile, chosen once, with nurrispane_fresh(). Of option II the place of PROV, 0 for none and
@@ -264,6 +265,7 @@ struct nurrispane_answer {
 struct nurrispane_card {
     struct nurrispane_input inputs[NURRISPANE_INPUTS];
     uint64_t time;        /* of the last event that was not refused with 2 to 13, ms */
+    uint64_t due;         /* nothing is due before this, ms; nurrispane_next_due() says when something is */
     uint8_t mode;         /* quality mode */
     uint8_t held;         /* the clock has been locked after some choice */
     uint8_t switch_kind;  /* enum nurrispane_switch */
@@ -385,8 +387,8 @@ uint64_t nurrispane_next_due(const struct nurrispane_card *card);
 
 /*
  * Whether a card that was kept or sent can be one that nurrispane_fresh() and events lead to, as far
- * as is looked: 1 where a tick at the card's own time is accepted and leaves every number of it but
- * `answer.number` and `served`, which may be any; otherwise 0. Every card that a start and events lead
+ * as is looked: 1 where a tick at the card's own time, with the whole step made for it, is accepted and
+ * leaves every number of it but `answer.number` and `served`, which may be any; otherwise 0. Every card that a start and events lead
  * to passes, and the answer in a card that passes is in range: `answer.selected` and
  * `answer.switch_input` 0 to 15 or 255, `clock_state` and `switch_kind` 0 to 2. It is no checksum: a
  * time, a setting or a quality that is another number than it was may pass, and so may a place above 8.
@@ -488,7 +490,7 @@ enum nurrispane_half {
 
 /*
  * The unit. Only the `answer` of each card, `squelched` and `source` are the firmware's. No due moments
- * are counted: `served` is 0 in both cards.
+ * are counted: `served` is 0 in both cards. `due` in each is what nurrispane_next_due() says of it.
  */
 struct nurrispane_unit {
     struct nurrispane_card equipment; /* the selector of the equipment clock */
@@ -566,21 +568,22 @@ NURRISPANE_HOLDS(offsetof(struct nurrispane_answer, clock_state) == 2);
 NURRISPANE_HOLDS(offsetof(struct nurrispane_answer, clock_quality) == 3);
 NURRISPANE_HOLDS(offsetof(struct nurrispane_answer, switch_kind) == 4);
 NURRISPANE_HOLDS(offsetof(struct nurrispane_answer, switch_input) == 5);
-NURRISPANE_HOLDS(sizeof(struct nurrispane_card) == 672);
+NURRISPANE_HOLDS(sizeof(struct nurrispane_card) == 680);
 NURRISPANE_HOLDS(offsetof(struct nurrispane_card, inputs) == 0);
 NURRISPANE_HOLDS(offsetof(struct nurrispane_card, time) == 640);
-NURRISPANE_HOLDS(offsetof(struct nurrispane_card, mode) == 648);
-NURRISPANE_HOLDS(offsetof(struct nurrispane_card, held) == 649);
-NURRISPANE_HOLDS(offsetof(struct nurrispane_card, switch_kind) == 650);
-NURRISPANE_HOLDS(offsetof(struct nurrispane_card, switch_input) == 651);
-NURRISPANE_HOLDS(offsetof(struct nurrispane_card, selection) == 652);
-NURRISPANE_HOLDS(offsetof(struct nurrispane_card, selected) == 653);
-NURRISPANE_HOLDS(offsetof(struct nurrispane_card, answer) == 654);
-NURRISPANE_HOLDS(offsetof(struct nurrispane_card, served) == 660);
-NURRISPANE_HOLDS(offsetof(struct nurrispane_card, option) == 664);
-NURRISPANE_HOLDS(offsetof(struct nurrispane_card, place) == 665);
-NURRISPANE_HOLDS(offsetof(struct nurrispane_card, marks) == 666);
-NURRISPANE_HOLDS(offsetof(struct nurrispane_card, spare) == 668);
+NURRISPANE_HOLDS(offsetof(struct nurrispane_card, due) == 648);
+NURRISPANE_HOLDS(offsetof(struct nurrispane_card, mode) == 656);
+NURRISPANE_HOLDS(offsetof(struct nurrispane_card, held) == 657);
+NURRISPANE_HOLDS(offsetof(struct nurrispane_card, switch_kind) == 658);
+NURRISPANE_HOLDS(offsetof(struct nurrispane_card, switch_input) == 659);
+NURRISPANE_HOLDS(offsetof(struct nurrispane_card, selection) == 660);
+NURRISPANE_HOLDS(offsetof(struct nurrispane_card, selected) == 661);
+NURRISPANE_HOLDS(offsetof(struct nurrispane_card, answer) == 662);
+NURRISPANE_HOLDS(offsetof(struct nurrispane_card, served) == 668);
+NURRISPANE_HOLDS(offsetof(struct nurrispane_card, option) == 672);
+NURRISPANE_HOLDS(offsetof(struct nurrispane_card, place) == 673);
+NURRISPANE_HOLDS(offsetof(struct nurrispane_card, marks) == 674);
+NURRISPANE_HOLDS(offsetof(struct nurrispane_card, spare) == 676);
 NURRISPANE_ALIGNED(struct nurrispane_card, 8);
 NURRISPANE_HOLDS(sizeof(struct nurrispane_status) == 24);
 NURRISPANE_HOLDS(offsetof(struct nurrispane_status, timer) == 0);
@@ -611,14 +614,14 @@ NURRISPANE_HOLDS(offsetof(struct nurrispane_senders, ports) == 0);
 NURRISPANE_HOLDS(offsetof(struct nurrispane_senders, number) == 1536);
 NURRISPANE_HOLDS(offsetof(struct nurrispane_senders, frame) == 1540);
 NURRISPANE_ALIGNED(struct nurrispane_senders, 8);
-NURRISPANE_HOLDS(sizeof(struct nurrispane_unit) == 1352);
+NURRISPANE_HOLDS(sizeof(struct nurrispane_unit) == 1368);
 NURRISPANE_HOLDS(offsetof(struct nurrispane_unit, equipment) == 0);
-NURRISPANE_HOLDS(offsetof(struct nurrispane_unit, station) == 672);
-NURRISPANE_HOLDS(offsetof(struct nurrispane_unit, minimum) == 1344);
-NURRISPANE_HOLDS(offsetof(struct nurrispane_unit, squelched) == 1345);
-NURRISPANE_HOLDS(offsetof(struct nurrispane_unit, source) == 1346);
-NURRISPANE_HOLDS(offsetof(struct nurrispane_unit, spare) == 1347);
-NURRISPANE_HOLDS(offsetof(struct nurrispane_unit, spare4) == 1348);
+NURRISPANE_HOLDS(offsetof(struct nurrispane_unit, station) == 680);
+NURRISPANE_HOLDS(offsetof(struct nurrispane_unit, minimum) == 1360);
+NURRISPANE_HOLDS(offsetof(struct nurrispane_unit, squelched) == 1361);
+NURRISPANE_HOLDS(offsetof(struct nurrispane_unit, source) == 1362);
+NURRISPANE_HOLDS(offsetof(struct nurrispane_unit, spare) == 1363);
+NURRISPANE_HOLDS(offsetof(struct nurrispane_unit, spare4) == 1364);
 NURRISPANE_ALIGNED(struct nurrispane_unit, 8);
 
 #undef NURRISPANE_HOLDS

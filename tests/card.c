@@ -79,7 +79,7 @@ static void check_fresh_of(uint8_t option, uint8_t place, uint16_t marks)
         CHECK(input->good == FAILED && input->failed == 1 && input->up == 0);
         CHECK(input->floor == 0 && input->spare2 == 0 && input->spare4 == 0);
     }
-    CHECK(card.time == 0 && card.mode == 1 && card.held == 0);
+    CHECK(card.time == 0 && card.due == 300 && card.mode == 1 && card.held == 0);
     CHECK(card.switch_kind == NURRISPANE_SWITCH_NONE);
     CHECK(card.switch_input == NURRISPANE_NO_INPUT);
     CHECK(card.selection == 0 && card.selected == NURRISPANE_NO_INPUT && card.served == 0);
@@ -578,6 +578,7 @@ static void check_due(uint64_t due)
     said = outgoing_words(&early);
     CHECK(memcmp(&codes, &then, sizeof codes) == 0 && memcmp(&words, &said, sizeof words) == 0);
     early.time = card.time;
+    early.due = card.due;
     early.answer = card.answer;
     early.served = card.served;
     CHECK(same(&early, &card));
@@ -635,6 +636,7 @@ static void check_sound(void)
         nurrispane_step(&there, NURRISPANE_EVENT_TICK, due, 0, 0, NURRISPANE_NO_FRAME, 0);
         other = card;
         other.time = due;
+        other.due = there.due;
         other.answer.number = there.answer.number;
         other.served = there.served;
         later[is_sound(other)]++;
@@ -642,6 +644,9 @@ static void check_sound(void)
     }
     UNSOUND(time, (uint64_t)1 << 48);
     UNSOUND(time, UINT64_MAX);
+    UNSOUND(due, card.time);
+    if (due != NURRISPANE_NEVER)
+        UNSOUND(due, due + 1);
     UNSOUND(mode, 2);
     UNSOUND(held, 255);
     UNSOUND(switch_kind, 3);
@@ -679,12 +684,18 @@ static void check_events(void)
         struct call call = any_call(&card);
         struct nurrispane_card before = card;
         uint64_t due = nurrispane_next_due(&card);
+        struct nurrispane_card plain = card;
 
         check_due(due);
         if (i % 10 == 0)
             check_sound();
         card = stepped(card, &call);
-        CHECK(is_sound(card));
+        CHECK(is_sound(card) && card.due > card.time && card.due <= nurrispane_next_due(&card));
+        /* where it is not known when something is due, all of the plain step is made */
+        plain.due = 0;
+        plain = stepped(plain, &call);
+        plain.due = card.due;
+        CHECK(same(&card, &plain));
         check_statuses();
         CHECK(card.answer.number < 18);
         if (card.answer.number >= 8 && card.answer.number <= 13)
@@ -716,6 +727,8 @@ static void check_events(void)
 /* A card of any bytes: nothing is promised of the answers, but all are as if it were a state. */
 static void check_cards(void)
 {
+    int kept = 0;
+
     for (int i = 0; i < RANDOM_CARDS; i++) {
         struct nurrispane_card wild, next;
         struct nurrispane_codes outgoing;
@@ -723,6 +736,12 @@ static void check_cards(void)
 
         for (size_t at = 0; at < sizeof wild; at++)
             ((uint8_t *)&wild)[at] = (uint8_t)(below(3) ? below(20) : below(256));
+        if (below(2)) {
+            wild.answer.selected = (uint8_t)(below(4) ? below(16) : NURRISPANE_NO_INPUT);
+            wild.answer.switch_input = (uint8_t)(below(4) ? below(16) : NURRISPANE_NO_INPUT);
+            wild.answer.clock_state = (uint8_t)below(3);
+            wild.answer.switch_kind = (uint8_t)below(3);
+        }
         call = any_call(&wild);
         next = stepped(wild, &call);
         nurrispane_next_due(&wild);
@@ -738,21 +757,31 @@ static void check_cards(void)
             CHECK(status.eligible < 2 && status.signal < 2 && status.locked < 2);
         }
         outgoing = outgoing_codes(&wild);
+        CHECK(next.answer.switch_kind < 3 && next.answer.clock_state < 3 && next.served <= 48);
+        CHECK(next.answer.selected < 16 || next.answer.selected == NURRISPANE_NO_INPUT);
+        CHECK(next.answer.switch_input < 16 || next.answer.switch_input == NURRISPANE_NO_INPUT);
+        for (int port = 0; port < NURRISPANE_INPUTS; port++)
+            CHECK(outgoing.codes[port] < 16);
+        /* refused at once, or what its own input heard before: the rest of it is as it was */
+        wild.inputs[call.input % 16] = next.inputs[call.input % 16];
+        wild.time = next.time;
+        wild.due = next.due;
+        wild.answer.number = next.answer.number;
+        wild.served = next.served;
+        kept += same(&wild, &next);
+        if (same(&wild, &next))
+            continue;
         for (int port = 0; port < NURRISPANE_INPUTS; port++) {
             const struct nurrispane_input *input = &next.inputs[port];
 
-            CHECK(outgoing.codes[port] < 16);
             CHECK(input->kind < 3 && input->locked < 2 && input->sending < 2);
             CHECK(input->signal < 2 && input->failed < 2 && input->up < 2);
         }
         CHECK(next.option == (wild.option == NURRISPANE_OPTION_2 ? 2 : 1) && next.spare == 0);
-        CHECK(next.mode < 2 && next.held < 2 && next.selection < 2 && next.served <= 48);
-        CHECK(next.switch_kind < 3 && next.answer.switch_kind < 3 && next.answer.clock_state < 3);
-        CHECK(next.answer.selected < 16 || next.answer.selected == NURRISPANE_NO_INPUT);
-        CHECK(next.answer.switch_input < 16 || next.answer.switch_input == NURRISPANE_NO_INPUT);
+        CHECK(next.mode < 2 && next.held < 2 && next.selection < 2 && next.switch_kind < 3);
         CHECK(next.selected == next.answer.selected);
         CHECK(next.switch_input == next.answer.switch_input);
-    }
+    }    CHECK(kept > 100 && kept < RANDOM_CARDS - 100);
 }
 
 /* A frame is looked at for a frame event alone: here it lies where reading faults. */

@@ -1,4 +1,4 @@
--- A selector comes back from its numbers, so calls in a row are steps in a row. Assumes nothing.
+-- Calls in a row are steps in a row. Assumes nothing.
 use Prim.Native.Nat.{ℕ, _+_, _-_, _≤_, _<_}
 use mathlib.Core.Bool.{Bool, true, false}
 use mathlib.Core.List.{List, [], _∷_, _++_, map}
@@ -11,39 +11,35 @@ use Rattle.numbers.specs.declared.Profile.{Profile}
 use Rattle.numbers.specs.declared.Profile.the-variants as P
 use Rattle.numbers.specs.From.{started, _following_, profileOf}
 use Rattle.numbers.specs.Inputs.{lastInput, timeLimit}
-use Rattle.numbers.specs.Kind.{flag}
-use Rattle.numbers.specs.Profile.{placeOf, lastPlace, startNumber, marksOf}
+use Rattle.numbers.specs.Kind.{kindFrame, kindForced, kindManual}
+use Rattle.numbers.specs.Profile.{placeOf, lastPlace, startNumber, limitsOf}
 use Rattle.numbers.specs.Refusal.{accepted, argumentOutOfRange}
 use Rattle.frame.specs.Read.{readCode}
 use Rattle.frame.specs.Write.{writtenLength, frameOctets}
-use Rattle.input.specs.declared.Input.{Input}
-use Rattle.input.proofs.Laws.{kindArgument-back}
 use Rattle.run.proofs.Laws.{byBool}
-use Rattle.choice.specs.declared.Selection.{Selection}
-use Rattle.choice.specs.declared.Selection.the-variants as S
-use Rattle.choice.proofs.Choosing.{Inside}
-use Rattle.decision.specs.declared.Switch.{Switch}
-use Rattle.decision.specs.declared.Switch.the-variants as W
 use Rattle.selector.specs.declared.Selector.{Selector}
+use Rattle.selector.specs.State.{freshSelector}
 use Rattle.selector.specs.Clock.{selectedNumber, switchNumber, switchInput}
 use Rattle.selector.specs.Answer.{answerOf, outgoingCodes, outgoingWords}
 use Rattle.selector.proofs.Ports.{getD-ports}
 use Rattle.due.specs.Next.{nextDue}
 use Rattle.due.proofs.Calm.{movedTo}
-use Rattle.due.proofs.Jump.{each-before}
+use Rattle.due.proofs.Jump.{each-before, nextDue-later}
 use Rattle.due.proofs.Right.{ticked-each}
 use Rattle.events.specs.declared.Stepped.{Stepped}
-use Rattle.events.specs.Step.{stepRead, step}
+use Rattle.events.specs.Step.{kindAt, earlyNumber, stepRead, step}
 use Rattle.events.specs.Given.{Given, Sequence, tickAt}
 use Rattle.events.specs.Sequence.{stateAfter, numberAfter, countAfter}
 use Rattle.events.specs.Due.{mostDue}
+use Rattle.events.specs.Demand1.{FourteenToSeventeen}
 use Rattle.events.specs.NextDue.{NextRight}
 use Rattle.events.specs.Past.{pastOf, recorded}
 use Rattle.events.specs.Told.{answerBy, codeBy, codesBy}
 use Rattle.events.proofs.Happened.{happened}
-use Rattle.events.proofs.Agrees.{step-accepted}
-use Rattle.events.proofs.Calm.{sequence-calm}
-use Rattle.events.proofs.Demand1.{tick-early, tick-state, demand-1-events}
+use Rattle.events.proofs.Agrees.{step-accepted, sequence-early}
+use Rattle.events.proofs.Refused.{accepted-limit}
+use Rattle.events.proofs.Calm.{accepted-or-not, stepRead-refused, stepRead-taken, not-before, sequence-calm}
+use Rattle.events.proofs.Demand1.{tick-early, tick-state, early-exact, demand-1-events}
 use Rattle.events.proofs.Laws.{lateRefusal-other}
 use Rattle.events.proofs.NextDue.{next-right}
 use Rattle.events.proofs.Demand2.{demand-2-answers}
@@ -52,56 +48,11 @@ use Rattle.events.proofs.Demand4.{demand-4}
 use Rattle.card.specs.declared.Card.{Card}
 use Rattle.card.specs.declared.CardAnswer.{CardAnswer}
 use Rattle.card.specs.Flat.{isSet, inputOf, flatInput, flatAnswer, switchOf, selectionOf, isSelected, optionTwo, profileIn, optionOf, selectorOf, cardOf, withNumber}
-use Rattle.card.specs.Card.{freshCard, startCard, steppedCard, readFor, stepCard, cardCodes, cardWords, cardDue}
+use Rattle.card.specs.Card.{freshCard, startCard, dueAfter, steppedCard, eventCard, readFor, stepCard, cardCodes, cardWords, cardDue}
 use Rattle.card.specs.Calls.{called, cardAfter, latestNumber, latestCount, latestBy, StartRight, CardRight, Demand1Card, Demand2Card, Demand3Card, Demand4Card, NextDueCard}
 use Rattle.card.proofs.Ports.{port-written}
-use Rattle.card.proofs.Range.{On, Named, stepRead-readFor, sequence-named}
-
--- ---- back from its numbers
-
-isSet-flag : (yes : Bool) → isSet (flag yes) ≡ yes
-isSet-flag true = refl
-isSet-flag false = refl
-
-inputOf-flatInput : (input : Input) → inputOf (flatInput input) ≡ input
-unfolding inputOf flatInput
-inputOf-flatInput input = rw (sym (kindArgument-back (input .settings .kind))) (simp isSet-flag)
-
-inputs-back : (inputs : List Input) → map inputOf (map flatInput inputs) ≡ inputs
-inputs-back [] = refl
-inputs-back (input ∷ inputs) = rw (inputOf-flatInput input, inputs-back inputs)
-
-switchOf-back : (switch : Switch) → On switch
-    → switchOf (switchNumber switch) (record { 0 = switchInput switch }) ≡ switch
-unfolding switchOf switchNumber switchInput
-switchOf-back W.Nothing on = refl
-switchOf-back (W.Forced number) on = rw (le-ltb lastInput (number .0) (omega arith))
-switchOf-back (W.Manual number) on = rw (le-ltb lastInput (number .0) (omega arith))
-
-selectionOf-back : (selection : Selection) → Inside selection
-    → selectionOf (isSelected selection) (record { 0 = selectedNumber selection }) ≡ selection
-unfolding selectionOf isSelected selectedNumber
-selectionOf-back S.Nothing inside = refl
-selectionOf-back (S.At number) inside = rw (le-ltb lastInput (number .0) (omega arith))
-
-profileIn-back : (profile : Profile) → profileIn (optionOf profile) (placeOf profile) (marksOf profile) ≡ profile
-unfolding profileIn optionOf placeOf marksOf
-profileIn-back P.OptionOne = refl
-profileIn-back (P.OptionTwo place marks) = refl
-
--- A selector as a card and back is that selector, whatever is answered beside it.
-pub selectorOf-cardOf : (number count : ℕ) (state : Selector) → Named state
-    → selectorOf (cardOf number count state) ≡ state
-unfolding selectorOf cardOf
-selectorOf-cardOf number count state named =
-    rw (
-      inputs-back (state .inputs),
-      switchOf-back (state .switch) (named .switch),
-      selectionOf-back (state .selection) (named .selection),
-      profileIn-back (state .profile),
-      isSet-flag (state .mode),
-      isSet-flag (state .held),
-    )
+use Rattle.card.proofs.Range.{stepRead-readFor, sequence-named}
+use Rattle.card.proofs.Called.{selectorOf-cardOf, withNumber-cardOf, called-refused, called-right, called-due, early-readFor}
 
 -- No call reads the answer in a card.
 pub selectorOf-withNumber : (card : Card) (number count : ℕ)
@@ -136,27 +87,35 @@ start-right card option place marks =
 
 -- ---- calls in a row
 
--- a call on the card of a selector is a step of that selector
-called-cardOf : (number count : ℕ) (state : Selector) (given : Given) → Named state
-    → called (cardOf number count state) given ≡ steppedCard (step state (given .event) (given .frame))
-unfolding stepCard
-called-cardOf number count state given named =
-    ap
-    (λ (held : Selector). steppedCard (stepRead held (given .event) (readFor (given .event .kind) (given .frame))))
-    (selectorOf-cardOf number count state named)
-    ∙ ap steppedCard (stepRead-readFor state (given .event) (given .frame))
+-- what C holds after calls is what the selector is, and nothing is due before the time that it keeps
+cardAfter-reached : (sequence : Sequence)
+    → (cardAfter sequence ≡ cardOf (latestNumber sequence) (latestCount sequence) (cardAfter sequence .due) (stateAfter sequence))
+    × (stateAfter sequence .time < cardAfter sequence .due) × (cardAfter sequence .due ≤ nextDue (stateAfter sequence))
+unfolding cardAfter stateAfter numberAfter countAfter latestNumber latestCount freshCard stepCard step cardOf
+cardAfter-reached (started profile) = (refl, nextDue-later (freshSelector profile) (omega arith), omega arith)
+cardAfter-reached (given following earlier) =
+    let before = cardAfter-reached earlier in
+    let right =
+    called-right (latestNumber earlier) (latestCount earlier) (cardAfter earlier .due) (stateAfter earlier) (given .event)
+    (readFor (given .event .kind) (given .frame)) (sequence-named earlier) (sequence-calm earlier) (before .1) (before .2) in
+    let reads = stepRead-readFor (stateAfter earlier) (given .event) (given .frame) in
+    let whole : called (cardAfter earlier) given ≡ steppedCard (right .0) (step (stateAfter earlier) (given .event) (given .frame)) =
+    ap (λ (card : Card). called card given) (before .0) ∙ right .1 ∙ ap (steppedCard (right .0)) reads in
+    let due : called (cardAfter earlier) given .due ≡ right .0 = ap (λ (card : Card). card .due) whole in (
+      whole ∙ ap (λ (kept : ℕ). steppedCard kept (step (stateAfter earlier) (given .event) (given .frame))) (sym due),
+      subst (λ (kept : ℕ). step (stateAfter earlier) (given .event) (given .frame) .state .time < kept) (sym due)
+          (subst (λ (after : Stepped). after .state .time < right .0) reads (right .2)),
+      subst (λ (kept : ℕ). kept ≤ nextDue (step (stateAfter earlier) (given .event) (given .frame) .state)) (sym due)
+          (subst (λ (after : Stepped). right .0 ≤ nextDue (after .state)) reads (right .3)),
+    )
 
 cardAfter-whole : (sequence : Sequence)
-    → cardAfter sequence ≡ cardOf (latestNumber sequence) (latestCount sequence) (stateAfter sequence)
-unfolding cardAfter stateAfter numberAfter countAfter latestNumber latestCount freshCard
-cardAfter-whole (started profile) = refl
-cardAfter-whole (given following earlier) =
-    ap (λ (card : Card). called card given) (cardAfter-whole earlier)
-    ∙ called-cardOf _ _ (stateAfter earlier) given (sequence-named earlier)
+    → cardAfter sequence ≡ cardOf (latestNumber sequence) (latestCount sequence) (cardAfter sequence .due) (stateAfter sequence)
+cardAfter-whole sequence = cardAfter-reached sequence .0
 
 cardAfter-state : (sequence : Sequence) → selectorOf (cardAfter sequence) ≡ stateAfter sequence
 cardAfter-state sequence =
-    ap selectorOf (cardAfter-whole sequence) ∙ selectorOf-cardOf _ _ (stateAfter sequence) (sequence-named sequence)
+    ap selectorOf (cardAfter-whole sequence) ∙ selectorOf-cardOf _ _ _ (stateAfter sequence) (sequence-named sequence)
 
 cardAfter-answer : (sequence : Sequence)
     → cardAfter sequence .answer ≡ flatAnswer (answerOf (latestNumber sequence) (stateAfter sequence))
@@ -170,34 +129,105 @@ card-right sequence =
     record {
       state = cardAfter-state sequence;
       whole = cardAfter-whole sequence;
+      ahead = cardAfter-reached sequence .1;
+      due = cardAfter-reached sequence .2;
       answer = cardAfter-answer sequence;
       codes = ap outgoingCodes (cardAfter-state sequence);
       words = ap outgoingWords (cardAfter-state sequence);
     }
 
--- another number beside the same selector
-withNumber-cardOf : (number other count later : ℕ) (state : Selector)
-    → withNumber (cardOf number count state) other later ≡ cardOf other later state
-unfolding cardOf answerOf
-withNumber-cardOf number other count later state = refl
-
 -- the card after calls, with another number and count, is that of the state after them
 withNumber-after : (sequence : Sequence) (number count : ℕ)
-    → withNumber (cardAfter sequence) number count ≡ cardOf number count (stateAfter sequence)
+    → withNumber (cardAfter sequence) number count ≡ cardOf number count (cardAfter sequence .due) (stateAfter sequence)
 withNumber-after sequence number count =
     ap (λ (card : Card). withNumber card number count) (cardAfter-whole sequence)
-    ∙ withNumber-cardOf _ number _ count (stateAfter sequence)
+    ∙ withNumber-cardOf _ number _ count _ (stateAfter sequence)
 
 module _ (sequence : Sequence) (given : Given) where
   -- one more call
   cardAfter-call : cardAfter (given following sequence)
-      ≡ cardOf (numberAfter given sequence) (countAfter given sequence) (stateAfter (given following sequence))
+      ≡ cardOf (numberAfter given sequence) (countAfter given sequence) (cardAfter (given following sequence) .due)
+      (stateAfter (given following sequence))
   unfolding latestNumber latestCount
   cardAfter-call = cardAfter-whole (given following sequence)
 
   cardAfter-served : cardAfter (given following sequence) .served ≡ countAfter given sequence
   unfolding cardOf
   cardAfter-served = ap (λ (card : Card). card .served) cardAfter-call
+
+  -- an event that is refused at once
+  abbrev early : ℕ
+  early = earlyNumber (stateAfter sequence) (given .event) (readFor (given .event .kind) (given .frame))
+
+  early-reads : early ≡ earlyNumber (stateAfter sequence) (given .event) (readCode (given .frame))
+  early-reads = early-readFor (stateAfter sequence) (given .event) (given .frame)
+
+  cardAfter-refused : (early ≡ accepted → ⊥)
+      → cardAfter (given following sequence) ≡ withNumber (cardAfter sequence) (numberAfter given sequence) 0
+  unfolding cardAfter stepCard numberAfter step
+  cardAfter-refused given-early =
+      let reached = cardAfter-reached sequence in
+      let number : early ≡ numberAfter given sequence =
+      early-reads
+      ∙ sym
+      (ap (λ (after : Stepped). after .number)
+      (stepRead-refused (stateAfter sequence) (given .event) (readCode (given .frame)) (λ e. given-early (early-reads ∙ e)))) in
+      ap (λ (card : Card). called card given) (reached .0)
+      ∙ called-refused (latestNumber sequence) (latestCount sequence) (cardAfter sequence .due) (stateAfter sequence) (given .event)
+      (readFor (given .event .kind) (given .frame)) (sequence-named sequence) (sequence-calm sequence) (reached .1) (reached .2)
+      given-early
+      ∙ ap (λ (card : Card). withNumber card early 0) (sym (reached .0))
+      ∙ ap (λ (other : ℕ). withNumber (cardAfter sequence) other 0) number
+
+  -- the time that is kept after an event that is no frame
+  cardAfter-due : early ≡ accepted → (given .event .kind ≡ kindFrame → ⊥)
+      → cardAfter (given following sequence) .due
+      ≡ dueAfter (cardAfter sequence .due) (given .event .time) (stateAfter (given following sequence))
+  unfolding cardAfter stateAfter stepCard
+  cardAfter-due none other =
+      let reached = cardAfter-reached sequence in
+      ap (λ (card : Card). called card given .due) (reached .0)
+      ∙ called-due (latestNumber sequence) (latestCount sequence) (cardAfter sequence .due) (stateAfter sequence) (given .event)
+      (readFor (given .event .kind) (given .frame)) (sequence-named sequence) (sequence-calm sequence) (reached .1) (reached .2)
+      none other
+      ∙ ap (λ (after : Stepped). dueAfter (cardAfter sequence .due) (given .event .time) (after .state))
+      (stepRead-readFor (stateAfter sequence) (given .event) (given .frame))
+
+-- refused with 14 to 17: what is kept is what a tick keeps
+module _ (sequence : Sequence) (given : Given) (high : FourteenToSeventeen (numberAfter given sequence)) where
+  high-early : early sequence given ≡ accepted
+  high-early =
+      accepted-or-not (early sequence given) (λ none. none)
+      (λ refused. absurd
+      (let low = early-exact sequence given .1 (λ e. refused (early-reads sequence given ∙ sequence-early sequence given ∙ e)) in
+      omega (arith, low .most, high .least)))
+
+  high-frame : given .event .kind ≡ kindFrame → ⊥
+  unfolding numberAfter step
+  high-frame frame =
+      let none : earlyNumber (stateAfter sequence) (given .event) (readCode (given .frame)) ≡ accepted =
+      sym (early-reads sequence given) ∙ high-early in
+      let unbarred =
+      sym
+      (lateRefusal-other _ _ (given .event .kind) (given .event .input) (λ e. omega (arith, frame, e)) (λ e. omega (arith, frame, e))) in
+      let number : numberAfter given sequence ≡ accepted =
+      ap (λ (after : Stepped). after .number) (stepRead-taken (stateAfter sequence) (given .event) (readCode (given .frame)) none unbarred) in
+      omega (arith, number, high .least)
+
+  high-due : stateAfter (given following sequence) ≡ stateAfter (tickAt (given .event .time) following sequence)
+      → cardAfter (given following sequence) .due ≡ cardAfter (tickAt (given .event .time) following sequence) .due
+  high-due same =
+      let none : earlyNumber (stateAfter sequence) (given .event) (readCode (given .frame)) ≡ accepted =
+      sym (early-reads sequence given) ∙ high-early in
+      let later = not-before (stateAfter sequence) (given .event) (readCode (given .frame)) (sequence-calm sequence) none in
+      let below =
+      accepted-limit (limitsOf (stateAfter sequence .profile)) (stateAfter sequence .time) (kindAt (stateAfter sequence .inputs) (given .event .input))
+      (given .event) (readCode (given .frame)) none in
+      cardAfter-due sequence given high-early high-frame
+      ∙ ap (dueAfter (cardAfter sequence .due) (given .event .time)) same
+      ∙ sym
+      (cardAfter-due sequence (tickAt (given .event .time))
+      (tick-early (stateAfter sequence) (given .event .time) _ later below) (λ e. omega (arith, e)))
 
 -- DEMAND 1 in C's hands, after every sequence of calls and any further one.
 pub demand-1-card : (sequence : Sequence) (given : Given) → Demand1Card sequence given
@@ -210,16 +240,16 @@ demand-1-card sequence given =
       number = ap (λ (card : Card). card .answer .number) (cardAfter-call sequence given);
       demand1 = demand1;
       before = λ low.
-          cardAfter-call sequence given
-          ∙ ap (λ (count : ℕ). cardOf (numberAfter given sequence) count (stateAfter (given following sequence))) (demand4 .none low)
-          ∙ ap (cardOf (numberAfter given sequence) 0) (demand1 .before low .0)
-          ∙ sym (withNumber-after sequence (numberAfter given sequence) 0);
+          cardAfter-refused sequence given
+          (λ e. early-exact sequence given .0 low (sym (sequence-early sequence given) ∙ sym (early-reads sequence given) ∙ e));
       after = λ high.
           cardAfter-call sequence given
-          ∙ ap (λ (count : ℕ). cardOf (numberAfter given sequence) count (stateAfter (given following sequence)))
+          ∙ ap (λ (due : ℕ). cardOf (numberAfter given sequence) (countAfter given sequence) due (stateAfter (given following sequence)))
+          (high-due sequence given high (demand1 .after high .0))
+          ∙ ap (λ (count : ℕ). cardOf (numberAfter given sequence) count (cardAfter ticked .due) (stateAfter (given following sequence)))
           (demand4 .ticks (λ low. omega (arith, low .most, high .least))
           ∙ sym (cardAfter-served sequence (tickAt (given .event .time))))
-          ∙ ap (cardOf (numberAfter given sequence) (cardAfter ticked .served)) (demand1 .after high .0)
+          ∙ ap (cardOf (numberAfter given sequence) (cardAfter ticked .served) (cardAfter ticked .due)) (demand1 .after high .0)
           ∙ sym (withNumber-after ticked (numberAfter given sequence) (cardAfter ticked .served));
       taken = λ none.
           ap (λ (card : Card). card .answer) (cardAfter-call sequence given)

@@ -21,6 +21,7 @@ use Rattle.choice.proofs.Choosing.{both-second}
 use Rattle.selector.specs.declared.Selector.{Selector}
 use Rattle.selector.specs.Answer.{answerOf}
 use Rattle.selector.specs.State.{decided}
+use Rattle.due.specs.Next.{nextDue}
 use Rattle.due.specs.Served.{ticked}
 use Rattle.due.proofs.Calm.{Calm}
 use Rattle.due.proofs.Jump.{nextDue-later}
@@ -34,12 +35,14 @@ use Rattle.events.proofs.Extra.{sequence-ever}
 use Rattle.card.specs.declared.Card.{Card}
 use Rattle.card.specs.declared.CardInput.{CardInput}
 use Rattle.card.specs.Flat.{flatInput, selectorOf, cardOf}
-use Rattle.card.specs.Card.{eventOf, readFor, steppedCard}
+use Rattle.card.specs.Card.{eventOf, readFor, dueAfter, steppedCard, plainCard}
 use Rattle.card.specs.Calls.{cardAfter, latestNumber, latestCount}
 use Rattle.card.specs.Range.{IsInput, InRange}
 use Rattle.card.specs.Sound.{sameInput, sameAmong, sameInputs, sameAnswer, sameCard, tickedAgain, cardSound, SoundRight}
 use Rattle.card.proofs.Calls.{card-right, moved, accepts}
-use Rattle.card.proofs.Range.{stepRead-readFor, stepRead-named, selectorOf-named, cardOf-inRange}
+use Rattle.card.proofs.Laws.{dueAfter-kept}
+use Rattle.card.proofs.Called.{selectorOf-cardOf}
+use Rattle.card.proofs.Range.{stepRead-readFor, sequence-named, plainCard-inRange}
 
 -- ---- a card is the same as itself
 
@@ -57,13 +60,17 @@ sameAmong-itself inputs (suc count) =
     rw (sameAmong-itself inputs count, sameInput-itself (getD inputs count (flatInput freshInput)))
 
 -- whatever is answered beside it
-sameCard-cardOf : (number other count later : ℕ) (state : Selector)
-    → sameCard (cardOf number count state) (cardOf other later state) ≡ true
+sameCard-cardOf : (number other count later due : ℕ) (state : Selector)
+    → sameCard (cardOf number count due state) (cardOf other later due state) ≡ true
 unfolding sameCard sameAnswer cardOf answerOf
-sameCard-cardOf number other count later state = rw (sameAmong-itself _ 16) (simp same)
+sameCard-cardOf number other count later due state = rw (sameAmong-itself _ 16) (simp same)
   where
     same : (number : ℕ) → eqb number number ≡ true
     same number = eq-eqb number number refl
+
+number-cardOf : (number count due : ℕ) (state : Selector) → cardOf number count due state .answer .number ≡ number
+unfolding cardOf answerOf
+number-cardOf number count due state = refl
 
 -- ---- a card that events lead to
 
@@ -96,42 +103,68 @@ sequence-below (started profile) = omega arith
 sequence-below (given following earlier) =
     stepRead-below (stateAfter earlier) (given .event) (given .frame) earlier refl (sequence-below earlier)
 
-module _ (sequence : Sequence) where
+module _ (sequence : Sequence) (number count due : ℕ) (ahead : stateAfter sequence .time < due)
+    (within : due ≤ nextDue (stateAfter sequence)) where
   abbrev state : Selector
   state = stateAfter sequence
 
-  -- a tick at its own time is that of the sequence
-  again : tickedAgain (cardAfter sequence) ≡ step state (tickAt (state .time) .event) []
-  unfolding cardOf readFor
-  again =
-      ap (λ (held : Selector). stepRead held (eventOf kindTick (cardAfter sequence .time) 0 0) (Code 0))
-      (card-right sequence .state)
-      ∙ ap (λ (card : Card). stepRead state (eventOf kindTick (card .time) 0 0) (Code 0)) (card-right sequence .whole)
-      ∙ stepRead-readFor state (tickAt (state .time) .event) []
+  abbrev kept : Card
+  kept = cardOf number count due state
 
-  stays : step state (tickAt (state .time) .event) [] .state ≡ state
+  -- what a tick at its own time comes to
+  abbrev ticking : Stepped
+  ticking = step state (tickAt (state .time) .event) []
+
+  -- that of the card is that of the sequence
+  again : tickedAgain kept ≡ steppedCard (dueAfter due (state .time) (ticking .state)) ticking
+  unfolding plainCard readFor cardOf
+  again =
+      ap
+      (λ (held : Selector).
+      let after = stepRead held (eventOf kindTick (state .time) 0 0) (Code 0) in
+      steppedCard (dueAfter due (state .time) (after .state)) after)
+      (selectorOf-cardOf number count due state (sequence-named sequence))
+      ∙ ap (λ (after : Stepped). steppedCard (dueAfter due (state .time) (after .state)) after)
+      (stepRead-readFor state (tickAt (state .time) .event) [])
+
+  stays : ticking .state ≡ state
   unfolding stateAfter
   stays =
       moved sequence (state .time) (omega arith) (sequence-below sequence)
       (nextDue-later state (sequence-ever sequence))
 
-  passes : step state (tickAt (state .time) .event) [] .number ≡ accepted
+  passes : ticking .number ≡ accepted
   unfolding numberAfter
   passes =
       accepts sequence (state .time) (omega arith) (sequence-below sequence)
       (nextDue-later state (sequence-ever sequence))
 
-  sound-reached : cardSound (cardAfter sequence) ≡ 1
+  due-same : dueAfter due (state .time) (ticking .state) ≡ due
+  due-same =
+      ap (dueAfter due (state .time)) stays
+      ∙ sym (dueAfter-kept due (state .time) state (nextDue state) refl ahead within)
+
+  again-whole : tickedAgain kept ≡ cardOf accepted (ticking .count) due state
+  again-whole =
+      again
+      ∙ ap (λ (kept : ℕ). steppedCard kept ticking) due-same
+      ∙ (λ j. cardOf (passes j) (ticking .count) due (stays j))
+
+  -- a card of it passes, whatever is answered beside it
+  pub sound-cardOf : cardSound kept ≡ 1
   unfolding cardSound
-  sound-reached =
-      let after = step state (tickAt (state .time) .event) [] in
-      rw (
-        again,
-        passes,
-        stays,
-        card-right sequence .whole,
-        sameCard-cardOf accepted (latestNumber sequence) (after .count) (latestCount sequence) state,
-      )
+  sound-cardOf =
+      ap (λ (after : Card). flag (eqb (after .answer .number) accepted && sameCard after kept)) again-whole
+      ∙ ap
+      (λ (told : ℕ). flag (eqb told accepted && sameCard (cardOf accepted (ticking .count) due state) kept))
+      (number-cardOf accepted (ticking .count) due state)
+      ∙ ap flag (sameCard-cardOf accepted number (ticking .count) count due state)
+
+sound-reached : (sequence : Sequence) → cardSound (cardAfter sequence) ≡ 1
+sound-reached sequence =
+    ap cardSound (card-right sequence .whole)
+    ∙ sound-cardOf sequence (latestNumber sequence) (latestCount sequence) (cardAfter sequence .due)
+    (card-right sequence .ahead) (card-right sequence .due)
 
 -- ---- a card that passes
 
@@ -147,29 +180,28 @@ each-alike true true false d e is = absurd (true≢false (sym is))
 each-alike true true true false e is = absurd (true≢false (sym is))
 each-alike true true true true e is = (refl, refl, refl, is)
 
-answer-alike : (a b c d e f g h i j k l m : Bool)
-    → (a && b && c && d && e && f && g && h && i && j && k && l && m) ≡ true
+answer-alike : (a b c d e f g h i j k l m n : Bool)
+    → (a && b && c && d && e && f && g && h && i && j && k && l && m && n) ≡ true
     → b ≡ true
-answer-alike false b c d e f g h i j k l m is = absurd (true≢false (sym is))
-answer-alike true false c d e f g h i j k l m is = absurd (true≢false (sym is))
-answer-alike true true c d e f g h i j k l m is = refl
+answer-alike false b c d e f g h i j k l m n is = absurd (true≢false (sym is))
+answer-alike true false c d e f g h i j k l m n is = absurd (true≢false (sym is))
+answer-alike true true c d e f g h i j k l m n is = refl
 
 module _ (card : Card) (sound : cardSound card ≡ 1) where
   -- the card after that tick
   abbrev after : Card
-  after = steppedCard (tickedAgain card)
+  after = tickedAgain card
 
   alike : sameCard after card ≡ true
   unfolding cardSound
-  alike = both-second (eqb (tickedAgain card .number) accepted) (sameCard after card) (flag-one _ sound)
+  alike = both-second (eqb (tickedAgain card .answer .number) accepted) (sameCard after card) (flag-one _ sound)
 
   sound-inRange : InRange card
   unfolding sameCard sameAnswer
   sound-inRange =
-      let range = cardOf-inRange (tickedAgain card .number) (tickedAgain card .count) (tickedAgain card .state)
-      (stepRead-named (selectorOf card) (eventOf kindTick (card .time) 0 0) (Code 0) (selectorOf-named card)) in
+      let range = plainCard-inRange card (eventOf kindTick (card .time) 0 0) (Code 0) in
       let same = answer-alike (sameInputs (after .inputs) (card .inputs)) (sameAnswer (after .answer) (card .answer))
-      (eqb (after .time) (card .time)) (eqb (after .mode) (card .mode)) (eqb (after .held) (card .held)) (eqb (after .switch) (card .switch)) (eqb (after .on) (card .on)) (eqb (after .selection) (card .selection)) (eqb (after .selected) (card .selected)) (eqb (after .option) (card .option)) (eqb (after .place) (card .place)) (eqb (after .marks) (card .marks)) (eqb (after .spare) (card .spare)) alike in
+      (eqb (after .time) (card .time)) (eqb (after .due) (card .due)) (eqb (after .mode) (card .mode)) (eqb (after .held) (card .held)) (eqb (after .switch) (card .switch)) (eqb (after .on) (card .on)) (eqb (after .selection) (card .selection)) (eqb (after .selected) (card .selected)) (eqb (after .option) (card .option)) (eqb (after .place) (card .place)) (eqb (after .marks) (card .marks)) (eqb (after .spare) (card .spare)) alike in
       let each = each-alike (eqb (after .answer .quality) (card .answer .quality))
       (eqb (after .answer .selected) (card .answer .selected)) (eqb (after .answer .state) (card .answer .state))
       (eqb (after .answer .switch) (card .answer .switch)) (eqb (after .answer .on) (card .answer .on)) same in

@@ -1,6 +1,6 @@
 -- The definitions of `specs/`, a law for each way through the function that meets it. Assumes nothing.
 use Prim.Native.Nat.{ℕ, _+_, _≤_, _<_}
-use mathlib.Core.Bool.{Bool, true, false, _&&_}
+use mathlib.Core.Bool.{Bool, true, false, not, _&&_, true≢false}
 use mathlib.Core.List.{List, map}
 use mathlib.Core.Path.{_≡_, refl, sym, _∙_, ap}
 use native.Mathlib.Numerals.{add-one}
@@ -8,8 +8,9 @@ use native.Mathlib.Omega.{arith}
 use lib.Dec.{eqb}
 use lib.ListN.{length, getD}
 use mir.Val.{boolByte}
-use borrow.Author.Tests.{eq-eqb, ne-eqb, lt-ltb, le-ltb}
+use borrow.Author.Tests.{eq-eqb, ne-eqb, lt-ltb, le-ltb, le-leb, lt-leb}
 use Rattle.numbers.specs.declared.Answer.{Answer}
+use Rattle.numbers.specs.declared.Event.{Event}
 use Rattle.numbers.specs.declared.InputKind.{InputKind}
 use Rattle.numbers.specs.declared.InputKind.the-variants as N
 use Rattle.numbers.specs.declared.InputNumber.{InputNumber}
@@ -17,7 +18,7 @@ use Rattle.numbers.specs.declared.Profile.{Profile}
 use Rattle.numbers.specs.declared.Profile.the-variants as P
 use Rattle.numbers.specs.Kind.{flag, kindFrame, inputKindOf, kindArgument}
 use Rattle.numbers.specs.Quality.{quality}
-use Rattle.numbers.specs.Profile.{placeOf, marksOf, startNumber, paperNumber}
+use Rattle.numbers.specs.Profile.{placeOf, marksOf, startNumber, paperNumber, limitsOf}
 use Rattle.numbers.specs.Refusal.{accepted, inputOutOfRange}
 use Rattle.frame.specs.declared.FrameRead.{FrameRead}
 use Rattle.frame.specs.declared.FrameRead.the-variants.{Code}
@@ -33,6 +34,12 @@ use Rattle.selector.specs.declared.Selector.{Selector}
 use Rattle.selector.specs.Clock.{switchForced, switchManual}
 use Rattle.selector.specs.Answer.{answerOf, outgoingCodes}
 use Rattle.selector.proofs.Laws.{getD-any}
+use Rattle.due.specs.Next.{lesser, nextDue}
+use Rattle.events.specs.Given.{recordedArgument}
+use Rattle.events.specs.Refusals.{earlyRefusal}
+use Rattle.watch.specs.declared.Own.{Own}
+use Rattle.watch.specs.Watch.{isAgain}
+use Rattle.watch.specs.Own.{againOwn}
 use Rattle.numbers.specs.Inputs.{lastInput}
 use Rattle.status.specs.declared.Status.{Status}
 use Rattle.status.specs.Kept.{inputStatus}
@@ -40,7 +47,7 @@ use Rattle.card.specs.declared.Card.{Card}
 use Rattle.card.specs.declared.CardInput.{CardInput}
 use Rattle.card.specs.declared.known.CardStatus.{CardStatus}
 use Rattle.card.specs.Flat.{isSet, inputOf, flatInput, flatAnswer, switchOf, selectionOf, isSelected, optionTwo, profileIn, optionOf, selectorOf, cardOf, withNumber}
-use Rattle.card.specs.Card.{freshCard, startCard, steppedCard, readFor, portCode, numberOfWrite, WritePort}
+use Rattle.card.specs.Card.{freshCard, startCard, dueAfter, plainCard, isRanged, profileHeld, ownPlace, StandsAt, ownInput, refusedWith, isQuick, againCard, eventCard, readFor, portCode, numberOfWrite, WritePort}
 use Rattle.card.specs.Status.{noStatus, cardStatus}
 use Rattle.card.specs.Sound.{sameInput, sameAmong, sameInputs, sameCard, tickedAgain, cardSound}
 
@@ -207,11 +214,12 @@ pub ruleset optionOf-laws = (optionOf-one, optionOf-two)
 -- ---- cardOf
 
 -- the card of a selector, of its inputs' numbers, its answer and its profile's numbers
-abbrev pub cardWith : List CardInput → ℕ → Answer → ℕ → ℕ → ℕ → ℕ → Selector → Card
-cardWith flat selection answer count option place marks state =
+abbrev pub cardWith : List CardInput → ℕ → Answer → ℕ → ℕ → ℕ → ℕ → ℕ → Selector → Card
+cardWith flat selection answer count due option place marks state =
     record {
       inputs = flat;
       time = state .time;
+      due = due;
       mode = flag (state .mode);
       held = flag (state .held);
       switch = answer .switch;
@@ -226,13 +234,13 @@ cardWith flat selection answer count option place marks state =
       spare = 0;
     }
 
-pub cardOf-answered : (number count : ℕ) (state : Selector) (flat : List CardInput) (selection : ℕ) (answer : Answer)
+pub cardOf-answered : (number count due : ℕ) (state : Selector) (flat : List CardInput) (selection : ℕ) (answer : Answer)
     (option place marks : ℕ)
     → flat ≡ map flatInput (state .inputs) → selection ≡ isSelected (state .selection) → answer ≡ answerOf number state
     → option ≡ optionOf (state .profile) → place ≡ placeOf (state .profile) → marks ≡ marksOf (state .profile)
-    → cardWith flat selection answer count option place marks state ≡ cardOf number count state
+    → cardWith flat selection answer count due option place marks state ≡ cardOf number count due state
 unfolding cardOf answerOf
-cardOf-answered number count state flat selection answer option place marks f s a o p m = rw (f, s, a, o, p, m)
+cardOf-answered number count due state flat selection answer option place marks f s a o p m = rw (f, s, a, o, p, m)
 
 -- ---- startCard
 
@@ -362,9 +370,99 @@ boolByte-flag true = refl
 boolByte-flag false = refl
 
 pub cardSound-told : (card ticked : Card) (same : Bool)
-    → ticked ≡ steppedCard (tickedAgain card)
+    → ticked ≡ tickedAgain card
     → same ≡ sameCard ticked card
     → boolByte (eqb (ticked .answer .number) accepted && same) ≡ cardSound card
-unfolding cardSound cardOf answerOf
+unfolding cardSound
 cardSound-told card ticked same t s =
-    rw (s, t) (boolByte-flag (eqb (tickedAgain card .number) accepted && sameCard (steppedCard (tickedAgain card)) card))
+    rw (s, t) (boolByte-flag (eqb (tickedAgain card .answer .number) accepted && sameCard (tickedAgain card) card))
+
+-- ---- dueAfter
+
+module _ (due time : ℕ) (state : Selector) (next : ℕ) (n : next ≡ nextDue state) where
+  pub dueAfter-kept : time < due → due ≤ next → due ≡ dueAfter due time state
+  unfolding dueAfter lesser
+  dueAfter-kept before kept = rw (lt-ltb _ _ before, ← n, le-leb _ _ kept)
+
+  pub dueAfter-sooner : time < due → next < due → next ≡ dueAfter due time state
+  unfolding dueAfter lesser
+  dueAfter-sooner before sooner = rw (lt-ltb _ _ before, ← n, lt-leb _ _ sooner)
+
+  pub dueAfter-anew : due ≤ time → next ≡ dueAfter due time state
+  unfolding dueAfter
+  dueAfter-anew come = rw (le-ltb _ _ come, n)
+
+pub ruleset dueAfter-laws = (dueAfter-kept, dueAfter-sooner, dueAfter-anew)
+
+-- ---- eventCard
+
+module _ (card : Card) (event : Event) (read : FrameRead) (ranged : Bool) (r : ranged ≡ isRanged (card .answer)) where
+  pub eventCard-unranged : ranged ≡ false → (after : Card) → after ≡ plainCard card event read
+      → after ≡ eventCard card event read
+  unfolding eventCard
+  eventCard-unranged n after a = a ∙ (rw (← r, n))
+
+  module _ (y : ranged ≡ true) (place : ℕ) (zeroed : CardInput) (before : Input) (profile : Profile) (early : ℕ)
+      (at : StandsAt (card .inputs) (event .input) place)
+      (b : before ≡ inputOf (getD (card .inputs) place zeroed)) (f : profile ≡ profileHeld card)
+      (e : early ≡ earlyRefusal (limitsOf profile) (card .time) (before .settings .kind) event read) where
+    own-here : before ≡ ownInput card event
+    own-here =
+        b ∙ ap inputOf
+        (getD-any (card .inputs) place zeroed (flatInput freshInput) (at .inside)
+        ∙ ap (λ (n : ℕ). getD (card .inputs) n (flatInput freshInput)) (at .own))
+
+    early-here : early ≡ refusedWith card event read
+    early-here = e ∙ (rw (f, own-here))
+
+    pub eventCard-refused : (early ≡ accepted → ⊥) → (after : Card) → after ≡ withNumber card early 0
+        → after ≡ eventCard card event read
+    unfolding eventCard
+    eventCard-refused given after a =
+        a ∙ ap (λ (number : ℕ). withNumber card number 0) early-here
+        ∙ (rw (← r, y, ne-eqb (refusedWith card event read) accepted (λ none. given (early-here ∙ none))))
+
+    module _ (none : early ≡ accepted) (quick : Bool) (q : quick ≡ isQuick before profile (card .due) event read) where
+      quick-here : quick ≡ isQuick (ownInput card event) (profileHeld card) (card .due) event read
+      quick-here = q ∙ (rw (own-here, f))
+
+      pub eventCard-plain : quick ≡ false → (after : Card) → after ≡ plainCard card event read
+          → after ≡ eventCard card event read
+      unfolding eventCard
+      eventCard-plain new after a =
+          a ∙ (rw (← r, y, eq-eqb (refusedWith card event read) accepted (sym early-here ∙ none), ← quick-here, new))
+
+      pub eventCard-again : quick ≡ true → (own : Own) → own ≡ againOwn before (card .due) event → (after : Card)
+          → after ≡ againCard card place own
+          → after ≡ eventCard card event read
+      unfolding eventCard
+      eventCard-again again own o after a =
+          let same : againCard card place own ≡ againCard card (ownPlace event) (againOwn (ownInput card event) (card .due) event) =
+          rw (at .own, o, own-here) in
+          a ∙ same
+          ∙ (rw (← r, y, eq-eqb (refusedWith card event read) accepted (sym early-here ∙ none), ← quick-here, again))
+
+-- ---- isQuick
+
+module _ (before : Input) (profile : Profile) (due : ℕ) (event : Event) (read : FrameRead) where
+  pub isQuick-late : due ≤ event .time → false ≡ isQuick before profile due event read
+  unfolding isQuick
+  isQuick-late come = rw (le-ltb _ _ come)
+
+  pub isQuick-again : (argument : ℕ) (again : Bool) → event .time < due
+      → argument ≡ recordedArgument (event .kind) (event .argument) read
+      → again ≡ isAgain before profile (event .kind) argument
+      → again ≡ isQuick before profile due event read
+  unfolding isQuick
+  isQuick-again argument again sooner g h = h ∙ (rw (lt-ltb _ _ sooner, g))
+
+pub ruleset isQuick-laws = (isQuick-late, isQuick-again)
+
+-- a test and its contrary
+pub not-true : (test : Bool) → not test ≡ true → test ≡ false
+not-true true is = absurd (true≢false (sym is))
+not-true false is = refl
+
+pub not-false : (test : Bool) → not test ≡ false → test ≡ true
+not-false true is = refl
+not-false false is = absurd (true≢false is)

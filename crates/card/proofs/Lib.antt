@@ -2,6 +2,8 @@
 -- a port. `Status`: what is known of one input. `Asking`: the senders beside the card. `Kept`: a kept card.
 pub mod Laws
 pub mod Range
+pub mod Again
+pub mod Called
 pub mod Calls
 pub mod Ports
 pub mod Status

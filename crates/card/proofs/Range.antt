@@ -1,12 +1,12 @@
 -- The inputs that a selector names stay among the sixteen, so that C may index by what it reads. Assumes nothing.
 use Prim.Native.Nat.{ℕ, zero, suc, _≤_, _<_, _+_}
-use mathlib.Core.Bool.{Bool, true, false, cond}
+use mathlib.Core.Bool.{Bool, true, false, _&&_, cond, true≢false}
 use mathlib.Core.List.{List}
 use mathlib.Core.Logic.{_⊎_, inl, inr, _≢_}
 use mathlib.Core.Path.{_≡_, refl, sym, _∙_, ap, subst}
 use native.Mathlib.Omega.{arith}
 use lib.Dec.{eqb, leb, ltb}
-use borrow.Author.Tests.{ltb-false, ne-eqb}
+use borrow.Author.Tests.{ltb-false, ne-eqb, leb-true, eqb-true}
 use Rattle.numbers.specs.declared.Event.{Event}
 use Rattle.numbers.specs.declared.InputNumber.{InputNumber}
 use Rattle.numbers.specs.Recorded.{Recorded}
@@ -43,7 +43,7 @@ use Rattle.events.proofs.Refused.{accepted-input}
 use Rattle.events.proofs.Calm.{accepted-or-not, stepRead-refused, stepRead-barred, stepRead-taken}
 use Rattle.card.specs.declared.Card.{Card}
 use Rattle.card.specs.Flat.{switchOf, selectionOf, selectorOf, cardOf}
-use Rattle.card.specs.Card.{eventOf, readFor, stepCard}
+use Rattle.card.specs.Card.{eventOf, plainCard, namesInput, isRanged, profileHeld, ownInput, refusedWith, isQuick, eventCard, readFor, stepCard}
 use Rattle.card.specs.Range.{IsInput, InRange, AnyCard}
 
 -- ---- a frame is looked at for a frame event alone
@@ -212,9 +212,9 @@ clockState-most true held = omega arith
 clockState-most false true = omega arith
 clockState-most false false = omega arith
 
-pub cardOf-inRange : (number count : ℕ) (state : Selector) → Named state → InRange (cardOf number count state)
+pub cardOf-inRange : (number count due : ℕ) (state : Selector) → Named state → InRange (cardOf number count due state)
 unfolding cardOf answerOf
-cardOf-inRange number count state named =
+cardOf-inRange number count due state named =
     record {
       selected = selected-input (state .selection) (named .selection);
       on = switch-input (state .switch) (named .switch);
@@ -222,15 +222,57 @@ cardOf-inRange number count state named =
       switch = switch-kind (state .switch);
     }
 
+-- a card whose answer names what is there
+ranged-input : (number : ℕ) → namesInput number ≡ true → IsInput number
+ranged-input number is =
+    byBool (leb number lastInput) (λ y. inl (leb-true number lastInput y))
+    (λ n. inr (eqb-true number noInput (rw n at is)))
+
+isRanged-range : (card : Card) → isRanged (card .answer) ≡ true → InRange card
+unfolding isRanged
+isRanged-range card is =
+    let told = card .answer in
+    let all = four (namesInput (told .selected)) (namesInput (told .on)) (leb (told .state) locked) (leb (told .switch) switchManual) is in
+    record {
+      selected = ranged-input (told .selected) (all .0);
+      on = ranged-input (told .on) (all .1);
+      state = leb-true (told .state) locked (all .2);
+      switch = leb-true (told .switch) switchManual (all .3);
+    }
+  where
+    four : (a b c d : Bool) → (a && b && c && d) ≡ true → (a ≡ true) × (b ≡ true) × (c ≡ true) × (d ≡ true)
+    four true true true true e = (refl, refl, refl, refl)
+    four true true true false e = absurd (true≢false (sym e))
+    four true true false d e = absurd (true≢false (sym e))
+    four true false c d e = absurd (true≢false (sym e))
+    four false b c d e = absurd (true≢false (sym e))
+
+-- the plain step, on any card
+pub plainCard-inRange : (card : Card) (event : Event) (read : FrameRead) → InRange (plainCard card event read)
+unfolding plainCard
+plainCard-inRange card event read =
+    let after = stepRead (selectorOf card) event read in
+    cardOf-inRange (after .number) (after .count) _ (after .state)
+    (stepRead-named (selectorOf card) event read (selectorOf-named card))
+
+-- any step
+eventCard-inRange : (card : Card) (event : Event) (read : FrameRead) → InRange (eventCard card event read)
+unfolding eventCard
+eventCard-inRange card event read =
+    byBool (isRanged (card .answer))
+    (λ y. let range = isRanged-range card y in
+    byBool (eqb (refusedWith card event read) accepted)
+    (λ none. byBool (isQuick (ownInput card event) (profileHeld card) (card .due) event read)
+    (λ quick. rw (y, none, quick) (record { selected = range .selected; on = range .on; state = range .state; switch = range .switch }))
+    (λ new. rw (y, none, new) (plainCard-inRange card event read)))
+    (λ given. rw (y, given) (record { selected = range .selected; on = range .on; state = range .state; switch = range .switch })))
+    (λ n. rw n (plainCard-inRange card event read))
+
 -- Whatever card came in, C may index by what it reads; and what is lent beside another event than a frame changes nothing.
 pub any-card : (card : Card) (kind time input argument : ℕ) (frame : List ℕ) → AnyCard card kind time input argument frame
 unfolding stepCard
 any-card card kind time input argument frame =
-    let event = eventOf kind time input argument in
-    let after = stepRead (selectorOf card) event (readFor kind frame) in
     record {
-      inRange =
-          cardOf-inRange (after .number) (after .count) (after .state)
-          (stepRead-named (selectorOf card) event (readFor kind frame) (selectorOf-named card));
+      inRange = eventCard-inRange card (eventOf kind time input argument) (readFor kind frame);
       unread = λ other lent. rw (readFor-unread kind frame lent other);
     }

@@ -22,13 +22,16 @@ use Rattle.events.specs.Refusals.{firstThatApplies, isWrongKind, frameRefusal, 
 use Rattle.events.specs.Step.{isHeldInByte, heldArgument, inputAfter, inputsAfter, modeAfter, placed, stepRead}
 use Rattle.events.specs.Given.{recordedArgument}
 use Rattle.card.specs.Flat.{inputOf, flatInput, switchOf, selectionOf, isSelected, profileIn, optionOf, selectorOf, cardOf}
-use Rattle.card.specs.Card.{freshCard, readFor, stepCard}
+use Rattle.watch.specs.Watch.{codeAgain, frameAgain, isAgain, againInput, againDue}
+use Rattle.watch.specs.Own.{againOwn}
+use Rattle.card.specs.Card.{freshCard, dueAfter, plainCard, isRanged, isQuick, eventCard, readFor, stepCard}
 use Rattle.card.specs.SelfTest.{lentOctets, testFrame, testedCard, isTold, answeredRight, selfTest, SelfTestRight}
 
 passed : selfTest ≡ 1
 unfolding
     selfTest answeredRight isTold testedCard testFrame lentOctets
-    stepCard readFor freshCard cardOf selectorOf optionOf profileIn isSelected selectionOf switchOf flatInput inputOf
+    stepCard eventCard isRanged isQuick plainCard dueAfter isAgain codeAgain frameAgain againOwn againInput againDue
+    readFor freshCard cardOf selectorOf optionOf profileIn isSelected selectionOf switchOf flatInput inputOf
     writeAnswer frameOctets dataOctets headerOctets
     readCode frameNumber rightLength rightDestination rightProtocol rightOrganisation rightVersion rightTlv same
     stepRead placed commanded recordedArgument modeAfter inputsAfter inputAfter heldArgument isHeldInByte

@@ -148,12 +148,14 @@ flatAnswer answer =
       on = answer .on;
     }
 
--- the card that holds a selector, with what is answered behind a number, and a count of due moments
-unfoldable pub cardOf : ℕ → ℕ → Selector → Card
-cardOf number count state =
+-- the card that holds a selector, with what is answered behind a number, a count of due moments, and a time before which
+-- nothing is due
+unfoldable pub cardOf : ℕ → ℕ → ℕ → Selector → Card
+cardOf number count due state =
     record {
       inputs = map flatInput (state .inputs);
       time = state .time;
+      due = due;
       mode = flag (state .mode);
       held = flag (state .held);
       switch = switchNumber (state .switch);
@@ -174,6 +176,7 @@ withNumber card number count =
     record {
       inputs = card .inputs;
       time = card .time;
+      due = card .due;
       mode = card .mode;
       held = card .held;
       switch = card .switch;

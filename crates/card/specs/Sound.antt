@@ -11,14 +11,12 @@ use Rattle.numbers.specs.Kind.{flag, kindTick}
 use Rattle.numbers.specs.Refusal.{accepted}
 use Rattle.frame.specs.declared.FrameRead.the-variants.{Code}
 use Rattle.input.specs.Record.{freshInput}
-use Rattle.events.specs.declared.Stepped.{Stepped}
 use Rattle.events.specs.Given.{Sequence}
-use Rattle.events.specs.Step.{stepRead}
 use Rattle.card.specs.declared.Card.{Card}
 use Rattle.card.specs.declared.CardAnswer.{CardAnswer}
 use Rattle.card.specs.declared.CardInput.{CardInput}
-use Rattle.card.specs.Flat.{flatInput, selectorOf}
-use Rattle.card.specs.Card.{eventOf, steppedCard}
+use Rattle.card.specs.Flat.{flatInput}
+use Rattle.card.specs.Card.{eventOf, plainCard}
 use Rattle.card.specs.Range.{InRange}
 use Rattle.card.specs.Calls.{cardAfter}
 
@@ -72,6 +70,7 @@ sameCard one other =
     sameInputs (one .inputs) (other .inputs) &&
     sameAnswer (one .answer) (other .answer) &&
     eqb (one .time) (other .time) &&
+    eqb (one .due) (other .due) &&
     eqb (one .mode) (other .mode) &&
     eqb (one .held) (other .held) &&
     eqb (one .switch) (other .switch) &&
@@ -83,14 +82,14 @@ sameCard one other =
     eqb (one .marks) (other .marks) &&
     eqb (one .spare) (other .spare)
 
--- what a tick at the card's own time comes to
-abbrev pub tickedAgain : Card → Stepped
-tickedAgain card = stepRead (selectorOf card) (eventOf kindTick (card .time) 0 0) (Code 0)
+-- what a tick at the card's own time comes to, by the plain step
+abbrev pub tickedAgain : Card → Card
+tickedAgain card = plainCard card (eventOf kindTick (card .time) 0 0) (Code 0)
 
 -- that tick is accepted, and leaves every number but for the answer's number and the count
 unfoldable pub cardSound : Card → ℕ
 cardSound card =
-    flag (eqb (tickedAgain card .number) accepted && sameCard (steppedCard (tickedAgain card)) card)
+    flag (eqb (tickedAgain card .answer .number) accepted && sameCard (tickedAgain card) card)
 
 -- what the test is worth: every card that events lead to passes, and one that passes answers in range
 pub record SoundRight : Type 0 where

@@ -23,10 +23,10 @@ ghost use Rattle.card.specs.Sound.{cardSound};
 ghost use Rattle.card.specs.Card.{version, cardOctets, sendersOctets, startCard, stepCard, cardCodes, cardWords, cardDue, cardFrame, WritePort};
 
 // Raised with each change of a struct, of a number or of what a function answers.
-const VERSION: u32 = 3;
+const VERSION: u32 = 4;
 
 // How long a card is in C.
-const CARD_OCTETS: u32 = 672;
+const CARD_OCTETS: u32 = 680;
 
 // How long the senders are in C.
 const SENDERS_OCTETS: u32 = 1_544;

@@ -7,7 +7,7 @@
 use crate::Card;
 use crate::CardAnswer;
 use crate::CardInput;
-use crate::card_after;
+use crate::quick::plain_card;
 use frame::FrameRead;
 use numbers::ACCEPTED;
 use numbers::Event;
@@ -108,6 +108,7 @@ fn same_card(one: Card, other: Card) -> bool
     let theirs = other.answer;
     let told = same_answer(ours, theirs);
     let time = one.time == other.time;
+    let due = one.due == other.due;
     let mode = one.mode == other.mode;
     let held = one.held == other.held;
     let switch = one.switch == other.switch;
@@ -121,6 +122,7 @@ fn same_card(one: Card, other: Card) -> bool
     inputs
         & told
         & time
+        & due
         & mode
         & held
         & switch
@@ -144,7 +146,7 @@ pub fn is_sound(card: Card) -> u32
         argument: 0,
     };
     let read = FrameRead::Code(0);
-    let ticked = card_after(card, event, read);
+    let ticked = plain_card(card, event, read);
     let same = same_card(ticked, card);
     let told = ticked.answer;
     let accepted = told.number == ACCEPTED;

@@ -6,6 +6,7 @@ use mathlib.Core.Bool.{Bool, true, false, not, cond}
 use mathlib.Core.List.{List, [], _∷_}
 use mathlib.Core.Logic.{_≢_}
 use mathlib.Core.Path.{_≡_, refl, sym, _∙_, ap, subst}
+use native.Mathlib.Omega.{arith}
 use lib.Dec.{ltb}
 use borrow.Author.Tests.{eq-eqb, ne-eqb}
 use Rattle.numbers.specs.declared.Event.{Event}
@@ -19,6 +20,7 @@ use Rattle.numbers.specs.Refusal.{accepted, argumentOutOfRange}
 use Rattle.selector.specs.declared.Selector.{Selector}
 use Rattle.selector.specs.Answer.{answerOf, outgoingCodes, outgoingWords}
 use Rattle.due.specs.Next.{nextDue}
+use Rattle.due.proofs.Jump.{nextDue-later}
 use Rattle.frame.specs.Read.{readCode}
 use Rattle.events.specs.Step.{step}
 use Rattle.events.specs.Sequence.{stateAfter}
@@ -26,6 +28,7 @@ use Rattle.events.specs.Past.{pastOf, recorded}
 use Rattle.events.specs.Told.{answerBy}
 use Rattle.events.specs.NextDue.{NextRight}
 use Rattle.events.proofs.Demand2.{demand-2-answers}
+use Rattle.events.proofs.Extra.{sequence-ever}
 use Rattle.events.proofs.NextDue.{next-right}
 use Rattle.unit.specs.declared.Half.{Half}
 use Rattle.unit.specs.declared.Half.the-variants as H
@@ -43,10 +46,9 @@ use Rattle.card.specs.declared.Card.{Card}
 use Rattle.card.specs.Flat.{flatAnswer, profileIn, selectorOf, cardOf}
 use Rattle.card.specs.Card.{readFor, cardCodes, cardWords, cardDue}
 use Rattle.card.proofs.Range.{Named, stepRead-readFor, sequence-named}
-use Rattle.card.specs.Calls as C
-use Rattle.card.specs.Sound.{sameAnswer, sameCard, cardSound}
-use Rattle.card.proofs.Calls.{selectorOf-cardOf, card-right}
-use Rattle.card.proofs.Kept.{sound-right}
+use Rattle.card.specs.Sound.{cardSound}
+use Rattle.card.proofs.Called.{selectorOf-cardOf}
+use Rattle.card.proofs.Kept.{sound-cardOf}
 use Rattle.unitcard.specs.declared.UnitCard.{UnitCard}
 use Rattle.unitcard.specs.Flat.{halfIn, numberOfTo, halfCard, cardIn, unitOf, unitCardOf, withNumbers}
 use Rattle.unitcard.specs.UnitCard.{freshUnitCard, startUnitCard, steppedUnitCard, stepUnitCard}
@@ -61,8 +63,8 @@ pub unitOf-unitCardOf : (equipment station : ℕ) (unit : Unit) → NamedUnit un
 unfolding unitOf unitCardOf
 unitOf-unitCardOf equipment station unit named = λ j.
     record {
-      equipment = selectorOf-cardOf equipment 0 (unit .equipment) (named .equipment) j;
-      station = selectorOf-cardOf station 0 (unit .station) (named .station) j;
+      equipment = selectorOf-cardOf equipment 0 (nextDue (unit .equipment)) (unit .equipment) (named .equipment) j;
+      station = selectorOf-cardOf station 0 (nextDue (unit .station)) (unit .station) (named .station) j;
       minimum = unit .minimum;
     }
 
@@ -186,7 +188,7 @@ module _ (minimum : Quality) (half : Half) (sequence : UnitSequence) where
       go H.Station = refl
 
   half-state : selectorOf (cardIn half (unitCardAfter minimum sequence)) ≡ own
-  half-state = ap selectorOf half-card ∙ selectorOf-cardOf _ _ own (sequence-named (ownEvents half sequence))
+  half-state = ap selectorOf half-card ∙ selectorOf-cardOf _ _ (nextDue own) own (sequence-named (ownEvents half sequence))
 
 latest-by : (minimum : Quality) (half : Half) (sequence : UnitSequence)
     → latestNumber minimum half sequence ≡ latestBy half sequence
@@ -194,20 +196,13 @@ unfolding latestNumber latestBy
 latest-by minimum half (started profile) = refl
 latest-by minimum half (addressed following earlier) = half-number-own minimum half addressed earlier
 
--- whether a card is sound is not said by its number, nor by its count
-sound-of : (number other count later : ℕ) (state : Selector)
-    → cardSound (cardOf number count state) ≡ cardSound (cardOf other later state)
-unfolding cardSound sameCard sameAnswer cardOf answerOf selectorOf
-sound-of number other count later state = refl
-
 half-sound : (minimum : Quality) (half : Half) (sequence : UnitSequence)
     → cardSound (cardIn half (unitCardAfter minimum sequence)) ≡ 1
 half-sound minimum half sequence =
     let own = ownEvents half sequence in
     ap cardSound (half-card minimum half sequence) ∙
-    sound-of (latestNumber minimum half sequence) (C.latestNumber own) 0 (C.latestCount own) (stateAfter own) ∙
-    sym (ap cardSound (card-right own .whole)) ∙
-    sound-right .reached own
+    sound-cardOf own (latestNumber minimum half sequence) 0 (nextDue (stateAfter own))
+    (nextDue-later (stateAfter own) (sequence-ever own)) (omega arith)
 
 -- EACH HALF IN C'S HANDS IS A SELECTOR AFTER ITS OWN EVENTS, and all that holds of a half holds of it.
 pub half-card-right : (minimum : Quality) (half : Half) (sequence : UnitSequence) → HalfCardRight minimum half sequence

@@ -71,7 +71,7 @@ source-input : (unit : Unit) → Named (unit .station) → IsInput (sourceOf uni
 unfolding sourceOf cardOf
 source-input unit named =
     told-or-none (isSquelched unit) (answerOf accepted (unit .station) .selected)
-    (cardOf-inRange accepted 0 (unit .station) named .selected)
+    (cardOf-inRange accepted 0 0 (unit .station) named .selected)
 
 halfIn-other : (half : ℕ) → half ≢ stationHalf → halfIn half ≡ halfIn equipmentHalf
 unfolding halfIn
@@ -87,8 +87,8 @@ any-unit flat half kind time input argument frame =
     let after = stepUnitRead (unitOf flat) (halfIn half) event (readFor kind frame) in
     let named = stepUnitRead-named (unitOf flat) (halfIn half) event (readFor kind frame) (unitOf-named flat) in
     record {
-      equipment = cardOf-inRange (after .equipment) 0 (after .unit .equipment) (named .equipment);
-      station = cardOf-inRange (after .station) 0 (after .unit .station) (named .station);
+      equipment = cardOf-inRange (after .equipment) 0 _ (after .unit .equipment) (named .equipment);
+      station = cardOf-inRange (after .station) 0 _ (after .unit .station) (named .station);
       source = source-input (after .unit) (named .station);
       squelched = flag-most (isSquelched (after .unit));
       other = λ other. rw (halfIn-other half other);

@@ -5,6 +5,7 @@ use lib.Dec.{eqb}
 use Rattle.numbers.specs.Kind.{flag}
 use Rattle.numbers.specs.Quality.{quality}
 use Rattle.selector.specs.declared.Selector.{Selector}
+use Rattle.due.specs.Next.{nextDue}
 use Rattle.unit.specs.declared.Half.{Half}
 use Rattle.unit.specs.declared.Half.the-variants as H
 use Rattle.unit.specs.declared.Unit.{Unit}
@@ -29,9 +30,10 @@ abbrev pub numberOfTo : Half → ℕ
 numberOfTo H.Equipment = equipmentHalf
 numberOfTo H.Station = stationHalf
 
--- the card that holds a half's selector, with what is answered behind a number; it counts no due moments
+-- the card that holds a half's selector, with what is answered behind a number and when something is next due of it; it
+-- counts no due moments
 abbrev pub halfCard : ℕ → Selector → Card
-halfCard number state = cardOf number 0 state
+halfCard number state = cardOf number 0 (nextDue state) state
 
 -- the card of a half
 abbrev pub cardIn : Half → UnitCard → Card

@@ -18,7 +18,7 @@ use Rattle.unitcard.specs.Flat.{halfIn, unitOf, unitCardOf, withNumbers}
 
 -- how long a unit is in C
 abbrev pub unitOctets : ℕ
-unitOctets = 1352
+unitOctets = 1368
 
 -- "It holds two selectors of one profile", and the minimum
 unfoldable pub freshUnitCard : Profile → Quality → UnitCard

@@ -8,10 +8,10 @@ ghost use Rattle.card.specs.Card.{version};
 ghost use Rattle.unitcard.specs.UnitCard.{unitOctets, startUnitCard, stepUnitCard};
 
 // That of the header, as the card's library has it.
-const VERSION: u32 = 3;
+const VERSION: u32 = 4;
 
 // How long a unit is in C.
-const UNIT_OCTETS: u32 = 1_352;
+const UNIT_OCTETS: u32 = 1_368;
 
 // The version of the unit's library: that of its header.
 #[no_mangle]

@@ -14,6 +14,7 @@ use card::profile_in;
 use card::read_for;
 use card::selector_of;
 use card::with_number;
+use due::next_due;
 use numbers::ACCEPTED;
 use numbers::Event;
 use numbers::Profile;
@@ -54,11 +55,13 @@ fn half_in(half: u8) -> Half
     Half::Equipment
 }
 
-// The card that holds a half's selector, with what is answered behind a number.
+// The card that holds a half's selector, with what is answered behind a number and when something is
+// next due of it.
 fn half_card(number: u8, state: Selector) -> Card
     ensures { λ answer. ⌜ answer ≡ halfCard number state ⌝ }
 {
-    card_of(number, 0, state)
+    let due = next_due(state);
+    card_of(number, 0, due, state)
 }
 
 // The unit that its numbers hold. What its output sent is not looked at.

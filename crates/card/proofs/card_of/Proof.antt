@@ -11,11 +11,11 @@ flat-inputs-requires c κs = search needs
 answer-requires : tie.Need-answer-requires
 answer-requires c κs = search needs
 
-cast-t9 : tie.Need-cast-t9
-cast-t9 c = search needs
-
 cast-t10 : tie.Need-cast-t10
 cast-t10 c = search needs
+
+cast-t11 : tie.Need-cast-t11
+cast-t11 c = search needs
 
 is-selected-requires : tie.Need-is-selected-requires
 is-selected-requires c κs = search needs
@@ -35,4 +35,4 @@ returns c = search cardOf-answered
 pub card-of-spec : {M : Type 1} → statement M
 card-of-spec =
     tie.close
-    (tie.spec flat-inputs-requires answer-requires cast-t9 cast-t10 is-selected-requires option-of-requires place-of-requires marks-of-requires returns)
+    (tie.spec flat-inputs-requires answer-requires cast-t10 cast-t11 is-selected-requires option-of-requires place-of-requires marks-of-requires returns)

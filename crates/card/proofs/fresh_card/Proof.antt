@@ -8,12 +8,15 @@ use Rattle.card.proofs.fresh_card.Tie as tie
 fresh-requires : tie.Need-fresh-requires
 fresh-requires c κs = search needs
 
+next-due-requires : tie.Need-next-due-requires
+next-due-requires c κs = search needs
+
 card-of-requires : tie.Need-card-of-requires
 card-of-requires c κs = search needs
 
 returns : tie.Need-returns
 unfolding freshCard
-returns c = rw (c .card-of .ensures, c .before .fresh .ensures)
+returns c = rw (c .card-of .ensures, c .before .next-due .ensures, c .before .before .fresh .ensures)
 
 pub fresh-card-spec : {M : Type 1} → statement M
-fresh-card-spec = tie.close (tie.spec fresh-requires card-of-requires returns)
+fresh-card-spec = tie.close (tie.spec fresh-requires next-due-requires card-of-requires returns)

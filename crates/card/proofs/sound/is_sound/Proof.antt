@@ -5,8 +5,8 @@ use borrow.Author.Needs.{needs}
 use Rattle.card.proofs.sound.is_sound.Statement.{statement}
 use Rattle.card.proofs.sound.is_sound.Tie as tie
 
-card-after-requires : tie.Need-card-after-requires
-card-after-requires c κs = search needs
+plain-card-requires : tie.Need-plain-card-requires
+plain-card-requires c κs = search needs
 
 same-card-requires : tie.Need-same-card-requires
 same-card-requires c κs = search needs
@@ -15,7 +15,7 @@ cast-result : tie.Need-cast-result
 cast-result c = search needs
 
 returns : tie.Need-returns
-returns c = cardSound-told _ _ _ (c .before .before .before .card-after .ensures) (c .before .before .same-card .ensures)
+returns c = cardSound-told _ _ _ (c .before .before .before .plain-card .ensures) (c .before .before .same-card .ensures)
 
 pub is-sound-spec : {M : Type 1} → statement M
-is-sound-spec = tie.close (tie.spec card-after-requires same-card-requires cast-result returns)
+is-sound-spec = tie.close (tie.spec plain-card-requires same-card-requires cast-result returns)
