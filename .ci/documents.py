@@ -1,0 +1,53 @@
+"""What the checks of .ci/more that read the documents and the sources share. They run at the repository's root."""
+import glob
+import os
+import re
+import sys
+
+os.chdir(os.path.join(os.path.dirname(os.path.abspath(__file__)), ".."))
+CRATES = sorted(os.path.basename(os.path.dirname(path)) for path in glob.glob("crates/*/src"))
+MUST_FAIL, FURTHER, WRONG_ANSWERS = "crates/{}/must-fail", "tests/further-edits/{}", "tests/wrong-answers/{}"
+
+
+def read(path):
+    with open(path, encoding="utf-8") as file:
+        return file.read()
+
+
+def edits(folder):
+    """The edits in a folder of each crate: their paths, with the crate of each."""
+    return {path: crate for crate in CRATES for path in glob.glob(folder.format(crate) + "/*.edit")}
+
+
+def name_of(path):
+    """An edit's name, by its path."""
+    return os.path.basename(path).removesuffix(".edit")
+
+
+def declared(paths):
+    """The names that files of antt declare: definitions, records, fields and laws."""
+    names = set()
+    for path in paths:
+        for line in read(path).splitlines():
+            match = re.match(r"\s*(?:abbrev |unfoldable )?(?:pub )?([^\s:(){}]+)(?: [^:]*)? :", line)
+            if match:
+                names.add(match.group(1))
+            names.update(re.findall(r"^\s*(?:pub )?(?:record|data) (\w+)", line))
+    return names
+
+
+def cells(line):
+    """The cells of a table's row."""
+    return [cell.strip() for cell in line.strip().strip("|").split(" | ")]
+
+
+def sections(path):
+    """A document's sections: the title of each, and its lines."""
+    parts = re.split(r"^## (.*)$", read(path), flags=re.M)[1:]
+    return {title: text.splitlines() for title, text in zip(parts[::2], parts[1::2])}
+
+
+def end(wrong, said):
+    """Prints what is wrong, and what was looked at; the command fails where something is wrong."""
+    print("\n".join([*wrong, said]))
+    sys.exit(1 if wrong else 0)
