@@ -26,9 +26,10 @@ use Rattle.selector.specs.State.{candidateFor}
 use Rattle.due.proofs.Millisecond.{SettledAt}
 use Rattle.events.specs.Step.{isHeldInByte, heldArgument, inputAfter}
 use Rattle.events.proofs.Calm.{inputAfter-tick}
-use Rattle.watch.specs.Due.{never, lesser, sumOrNever, waitDue, expiryDue, runDue, dueOf}
+use Rattle.due.specs.Next.{never, lesser, sumOrNever}
+use Rattle.due.proofs.Millisecond.{lesser-one, lesser-other}
+use Rattle.watch.specs.Due.{waitDue, expiryDue, runDue, dueOf}
 use Rattle.watch.specs.Watch.{codeAgain, frameAgain, isAgain, framedInput, againInput, againDue}
-use Rattle.watch.proofs.Quiet.{lesser-one, lesser-other}
 
 -- ---- what was heard
 

@@ -41,31 +41,10 @@ use Rattle.watch.specs.declared.Left.{Left}
 use Rattle.watch.specs.declared.Left.the-variants.{Nothing, Choice, Service}
 use Rattle.watch.specs.declared.Own.{Own}
 use Rattle.watch.specs.declared.Watch.{Watch}
-use Rattle.watch.specs.Due.{never, lesser, sumOrNever, waitDue, expiryDue, runDue, dueOf, dueAmong, dueOfAll, dueAnew}
+use Rattle.due.specs.Next.{never, lesser, sumOrNever}
+use Rattle.watch.specs.Due.{waitDue, expiryDue, runDue, dueOf, dueAmong, dueOfAll, dueAnew}
 use Rattle.watch.specs.Watch.{watchOf, numbered, commands, isServed, codeAgain, frameAgain, isAgain, framedInput, againInput, againDue, seenAlike, movedTo, ownBefore, ownAfter, ownAgain, quickState, quickDue, quickAnswer, servedWatch, dueStep, renewed, watchStep}
 use Rattle.watch.specs.Own.{OwnPlace, ownOf, againOwn, ownTake, ownStep, completed}
-
--- ---- lesser, sumOrNever
-
-module _ (one other : ℕ) where
-  pub lesser-first : one ≤ other → one ≡ lesser one other
-  unfolding lesser
-  lesser-first h = rw (le-leb _ _ h)
-
-  pub lesser-second : other < one → other ≡ lesser one other
-  unfolding lesser
-  lesser-second h = rw (lt-leb _ _ h)
-
-pub ruleset lesser-laws = (lesser-first, lesser-second)
-
-module _ (start length : ℕ) where
-  pub sumOrNever-sum : start + length ≤ never → start + length ≡ sumOrNever start length
-  unfolding sumOrNever
-  sumOrNever-sum h = lesser-first (start + length) never h
-
-  pub sumOrNever-never : never < start + length → never ≡ sumOrNever start length
-  unfolding sumOrNever
-  sumOrNever-never h = lesser-second (start + length) never h
 
 -- ---- waitDue, expiryDue, runDue
 

@@ -24,7 +24,8 @@ use Rattle.selector.specs.Answer.{answerOf}
 use Rattle.events.specs.Step.{inputAfter, earlyNumber, stepRead}
 use Rattle.events.specs.Given.{recordedArgument, recordedEvent}
 use Rattle.watch.specs.declared.Watch.{Watch}
-use Rattle.watch.specs.Due.{never, lesser, sumOrNever, dueOf, dueOfAll, dueAnew}
+use Rattle.due.specs.Next.{never, lesser, sumOrNever}
+use Rattle.watch.specs.Due.{dueOf, dueOfAll, dueAnew}
 
 -- a watch by its parts
 abbrev pub watchOf : Selector → ℕ → Answer → Watch
