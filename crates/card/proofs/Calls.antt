@@ -18,7 +18,7 @@ use Rattle.frame.specs.Read.{readCode}
 use Rattle.frame.specs.Write.{writtenLength, frameOctets}
 use Rattle.input.specs.declared.Input.{Input}
 use Rattle.input.proofs.Laws.{kindArgument-back}
-use Rattle.run.proofs.Laws.{byBool}
+use Rattle.numbers.proofs.Truth.{byBool}
 use Rattle.choice.specs.declared.Selection.{Selection}
 use Rattle.choice.specs.declared.Selection.the-variants as S
 use Rattle.choice.proofs.Choosing.{Inside}

@@ -13,7 +13,7 @@ use lib.ListN.{length, getD, take, drop, length-drop, drop-of-length-le}
 use lib.Seq.{drop-cons, drop-drop}
 use borrow.Author.Tests.{eq-eqb, ne-eqb, lt-ltb, le-ltb, le-leb, lt-leb}
 use Rattle.digits.specs.Digits.{numeral0, numeral9, isBetween, isNumeral, allDigits}
-use Rattle.run.proofs.Laws.{byBool}
+use Rattle.numbers.proofs.Truth.{byBool}
 use Rattle.questions.specs.declared.NumberRead.{NumberRead}
 use Rattle.questions.specs.declared.NumberRead.the-variants as N
 use Rattle.questions.specs.declared.PartRead.the-variants as P

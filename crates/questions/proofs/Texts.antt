@@ -11,11 +11,11 @@ use lib.ListN.{length, getD, set, take, drop, replicate, length-append, length-r
 use lib.Seq.{set-at, take-suc, length-take-le, take-all, take-length, append-snoc}
 use borrow.Author.Tests.{lt-ltb, le-ltb, ltb-true, leb-true, eqb-true}
 use Rattle.digits.specs.Digits.{isDigit, allDigits, digitValue, octetsOf, upperDigit, lowerDigit, digitsOf}
-use Rattle.digits.proofs.Runs.{and-both, allDigits-at}
+use Rattle.digits.proofs.Runs.{and-parts, allDigits-at}
 use Rattle.digits.proofs.Values.{octetsOf-length}
 use Rattle.reader.specs.Lines.{lineFeed}
 use Rattle.frame.specs.Write.{writtenLength}
-use Rattle.run.proofs.Laws.{byBool}
+use Rattle.numbers.proofs.Truth.{byBool}
 use Rattle.questions.specs.Line.{mark, isAsked, isSource}
 use Rattle.questions.specs.Answer.{frameText, lentRoom}
 use Rattle.questions.specs.Asked.{padded, textOctets, lineText}
@@ -158,12 +158,12 @@ isSource-address text is =
     let parts : (leb 2 (length text) && leb (length text) 64 && eqb (length text % 2) 0 && allDigits text) ≡ true =
     rw other at is in
     let whole =
-    and-both (leb 2 (length text) && leb (length text) 64 && eqb (length text % 2) 0) (allDigits text) parts in
+    and-parts (leb 2 (length text) && leb (length text) 64 && eqb (length text % 2) 0) (allDigits text) parts in
     record {
       fits =
           leb-true (length text) 64
-          (and-both (leb 2 (length text)) (leb (length text) 64)
-          (and-both (leb 2 (length text) && leb (length text) 64) (eqb (length text % 2) 0) (whole .0) .0)
+          (and-parts (leb 2 (length text)) (leb (length text) 64)
+          (and-parts (leb 2 (length text) && leb (length text) 64) (eqb (length text % 2) 0) (whole .0) .0)
           .1);
       all = λ _. whole .1;
     })

@@ -24,7 +24,7 @@ use Rattle.due.specs.Each.{isDue, oneMore, each}
 use Rattle.due.proofs.Calm.{movedTo, Calm}
 use Rattle.due.proofs.Each.{oneMore-due, oneMore-brought, oneMore-inputs, calm-oneMore, calm-each}
 use Rattle.due.proofs.Right.{ticked-each}
-use Rattle.run.proofs.Laws.{byBool}
+use Rattle.numbers.proofs.Truth.{byBool}
 use Rattle.undertest.proofs.Candidates.{Barred, SameAdmitted, decide-same}
 
 -- ---- lists

@@ -17,7 +17,7 @@ use Rattle.numbers.specs.Inputs.{inputCount}
 use Rattle.numbers.specs.Refusal.{accepted}
 use Rattle.frame.specs.declared.FrameRead.{FrameRead}
 use Rattle.frame.specs.Read.{readCode}
-use Rattle.run.proofs.Laws.{byBool}
+use Rattle.numbers.proofs.Truth.{byBool}
 use Rattle.input.specs.declared.Input.{Input}
 use Rattle.input.specs.declared.Settings.{Settings}
 use Rattle.input.specs.Recorded.{lastArgument, priorityOf}

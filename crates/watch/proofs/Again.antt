@@ -16,7 +16,7 @@ use Rattle.numbers.specs.declared.Profile.{Profile}
 use Rattle.run.specs.declared.Forecast.{Forecast}
 use Rattle.run.specs.declared.Run.{Run}
 use Rattle.run.specs.Run.{isExpired, rawAt}
-use Rattle.run.proofs.Laws.{byBool}
+use Rattle.numbers.proofs.Truth.{byBool}
 use Rattle.run.proofs.Kept.{Settled, atMoment-settled}
 use Rattle.input.specs.declared.Heard.{Heard}
 use Rattle.input.specs.declared.Input.{Input}
