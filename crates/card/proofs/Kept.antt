@@ -26,7 +26,7 @@ use Rattle.due.proofs.Calm.{Calm}
 use Rattle.due.proofs.Jump.{nextDue-later}
 use Rattle.events.specs.declared.Stepped.{Stepped}
 use Rattle.events.specs.Given.{Sequence, tickAt}
-use Rattle.events.specs.Step.{placed, kindAt, earlyNumber, lateNumber, stepRead, step}
+use Rattle.events.specs.Step.{atItsMoment, kindAt, earlyNumber, lateNumber, stepRead, step}
 use Rattle.events.specs.Sequence.{stateAfter, numberAfter}
 use Rattle.events.proofs.Refused.{accepted-limit}
 use Rattle.events.proofs.Calm.{accepted-or-not, stepRead-refused, stepRead-barred, stepRead-taken, brought-time, sequence-calm}
@@ -71,7 +71,7 @@ sameCard-cardOf number other count later state = rw (sameAmong-itself _ 16) (sim
 stepRead-below : (state : Selector) (event : Event) (frame : List ℕ) → (sequence : Sequence) → state ≡ stateAfter sequence
     → state .time < timeLimit
     → stepRead state event (readCode frame) .state .time < timeLimit
-unfolding placed decided
+unfolding atItsMoment decided
 stepRead-below state event frame sequence is below =
     accepted-or-not (earlyNumber state event (readCode frame))
     (λ none.

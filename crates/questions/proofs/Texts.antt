@@ -18,7 +18,7 @@ use Rattle.frame.specs.Write.{writtenLength}
 use Rattle.numbers.proofs.Truth.{byBool}
 use Rattle.questions.specs.Line.{mark, isAsked, isSource}
 use Rattle.questions.specs.Answer.{frameText, lentRoom}
-use Rattle.questions.specs.Asked.{padded, textOctets, lineText}
+use Rattle.questions.specs.Asked.{padded, textOctets, heldLine}
 
 -- ---- padded
 
@@ -48,15 +48,15 @@ drop-zeros (suc count) (suc total) =
 
 pub line-copied : (text octets : List ℕ) (count : ℕ) → count ≡ length text
     → octets ≡ take (length text) text ++ drop (length text) (replicate textOctets 0)
-    → record { octets = octets; count = count } ≡ lineText text
-unfolding lineText
+    → record { octets = octets; count = count } ≡ heldLine text
+unfolding heldLine
 line-copied text octets count size copied =
     let whole : octets ≡ padded textOctets text =
     copied ∙ (rw (take-length text, drop-zeros (length text) textOctets)) in
     λ j. record { octets = whole j; count = size j }
 
 pub number-digits : (number upper lower : ℕ) → upper ≡ upperDigit number → lower ≡ lowerDigit number
-    → lineText (upper ∷ lower ∷ lineFeed ∷ []) ≡ lineText (frameText (number ∷ []))
+    → heldLine (upper ∷ lower ∷ lineFeed ∷ []) ≡ heldLine (frameText (number ∷ []))
 unfolding digitsOf
 number-digits number upper lower isUpper isLower = rw (isUpper, isLower)
 
@@ -117,8 +117,8 @@ module _ (frame : List ℕ) (passed : ℕ) (sixty : length frame ≡ 60) where
       ∙ ap (padded 121) (sym pair)
 
   pub frame-done : (text : List ℕ) → text ≡ padded 121 (digitsOf (take passed frame)) → 60 ≤ passed → passed ≤ 60
-      → record { octets = set text 120 lineFeed; count = 121 } ≡ lineText (frameText frame)
-  unfolding lineText
+      → record { octets = set text 120 lineFeed; count = 121 } ≡ heldLine (frameText frame)
+  unfolding heldLine
   frame-done text holds over fits =
       let all : take passed frame ≡ frame = take-all passed frame (omega arith) in
       let size : length (digitsOf frame) ≡ 120 = digitsOf-length frame ∙ (omega arith) in

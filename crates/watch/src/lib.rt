@@ -34,7 +34,7 @@ use selector::Selector;
 use selector::seen_of;
 ghost use mathlib.Core.Path.{_≡_};
 ghost use Rattle.watch.specs.Due.{waitDue, expiryDue, runDue, dueOf, dueOfAll, dueAnew};
-ghost use Rattle.watch.specs.Watch.{freshWatch, commands, isServed, codeAgain, frameAgain, isAgain, seenAlike, servedWatch, watchStep};
+ghost use Rattle.watch.specs.Watch.{freshWatch, isCommand, isServed, codeAgain, frameAgain, isAgain, seenAlike, servedWatch, watchStep};
 ghost use Rattle.watch.specs.Own.{OwnPlace, againOwn, ownTake, ownStep, completed};
 
 // How many equal codes in a row settle a line's quality.
@@ -136,8 +136,8 @@ pub fn due_anew(inputs: [Input; 16], mode: bool, due: u64, time: u64) -> u64
 }
 
 // Whether an event of a kind touches more than its own input: the switch or the quality mode.
-fn commands(kind: u8) -> bool
-    ensures { λ answer. ⌜ answer ≡ commands kind ⌝ }
+fn is_command(kind: u8) -> bool
+    ensures { λ answer. ⌜ answer ≡ isCommand kind ⌝ }
 {
     match kind {
         KIND_FORCED => true,
@@ -155,7 +155,7 @@ fn is_served(due: u64, kind: u8, time: u64) -> bool
     if due <= time {
         return true;
     }
-    commands(kind)
+    is_command(kind)
 }
 
 // Whether a choice sees two records of an input alike.
