@@ -19,7 +19,7 @@ use Rattle.numbers.specs.Profile.{limitsOf}
 use Rattle.numbers.specs.Quality.{isFailed}
 use Rattle.numbers.specs.Refusal.{accepted}
 use Rattle.frame.specs.declared.FrameRead.{FrameRead}
-use Rattle.run.proofs.Laws.{byBool}
+use Rattle.numbers.proofs.Truth.{byBool}
 use Rattle.input.specs.declared.Input.{Input}
 use Rattle.input.specs.Record.{freshInput, forecast}
 use Rattle.choice.specs.declared.Candidate.{Candidate}
@@ -38,7 +38,7 @@ use Rattle.due.proofs.Jump.{each-before, dueIn-before, nextDue-later}
 use Rattle.due.proofs.Right.{ticked-each, served-count}
 use Rattle.events.specs.declared.Stepped.{Stepped}
 use Rattle.events.specs.Given.{recordedArgument, recordedEvent}
-use Rattle.events.specs.Step.{inputsAfter, modeAfter, placed, stepped, earlyNumber, lateNumber, stepRead}
+use Rattle.events.specs.Step.{inputsAfter, modeAfter, atItsMoment, stepped, earlyNumber, lateNumber, stepRead}
 use Rattle.events.proofs.Laws.{lateRefusal-other}
 use Rattle.events.proofs.Refused.{accepted-input}
 use Rattle.events.proofs.Calm.{accepted-or-not, stepRead-refused, stepRead-barred, stepRead-taken, not-before, not-never, calm-brought, brought-time}
@@ -269,10 +269,10 @@ module _ (state : Selector) (event : Event) (read : FrameRead) (due : ℕ) (calm
       (lateRefusal-other _ _ (event .kind) (event .input) (eqb-false (event .kind) kindForced (free .0))
       (eqb-false (event .kind) kindManual (free .1)))
 
-  placed-own : placed (movedTo state (state .inputs) (event .time)) (recordedEvent (state .profile) event read)
+  atItsMoment-own : atItsMoment (movedTo state (state .inputs) (event .time)) (recordedEvent (state .profile) event read)
       ≡ decided (ownTaken state event read)
-  unfolding placed inputsAfter modeAfter commanded
-  placed-own = rw (free .0, free .1, free .2, free .3)
+  unfolding atItsMoment inputsAfter modeAfter commanded
+  atItsMoment-own = rw (free .0, free .1, free .2, free .3)
 
   inside : event .input < length (state .inputs)
   inside = omega (arith, accepted-input (limitsOf (state .profile)) (state .time) _ event read none, calm .count)
@@ -302,10 +302,10 @@ module _ (state : Selector) (event : Event) (read : FrameRead) (due : ℕ) (calm
       stepRead-taken state event read none unbarred
       ∙ ap
       (λ (count : ℕ). stepped accepted count
-      (placed (ticked state (event .time)) (recordedEvent (ticked state (event .time) .profile) event read)))
+      (atItsMoment (ticked state (event .time)) (recordedEvent (ticked state (event .time) .profile) event read)))
       none-served
-      ∙ ap (λ (then : Selector). stepped accepted 0 (placed then (recordedEvent (then .profile) event read))) brought
-      ∙ ap (stepped accepted 0) (placed-own ∙ decided-again)
+      ∙ ap (λ (then : Selector). stepped accepted 0 (atItsMoment then (recordedEvent (then .profile) event read))) brought
+      ∙ ap (stepped accepted 0) (atItsMoment-own ∙ decided-again)
 
   pub again-ends : (event .input < length (state .inputs)) × (state .time ≤ event .time) × (event .time < never)
   again-ends = (inside, later, ever)
@@ -346,7 +346,7 @@ answer-again number state event =
 pub stepRead-time : (state : Selector) (event : Event) (read : FrameRead) → Calm state
     → earlyNumber state event read ≡ accepted
     → stepRead state event read .state .time ≡ event .time
-unfolding placed decided
+unfolding atItsMoment decided
 stepRead-time state event read calm none =
     let there : ticked state (event .time) .time ≡ event .time = brought-time state event read calm none in
     accepted-or-not (lateNumber (ticked state (event .time)) event)

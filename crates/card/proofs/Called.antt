@@ -19,7 +19,7 @@ use Rattle.numbers.specs.Profile.{placeOf, marksOf, limitsOf}
 use Rattle.numbers.specs.Refusal.{accepted}
 use Rattle.frame.specs.declared.FrameRead.{FrameRead}
 use Rattle.frame.specs.Read.{readCode}
-use Rattle.run.proofs.Laws.{byBool}
+use Rattle.numbers.proofs.Truth.{byBool}
 use Rattle.input.specs.declared.Input.{Input}
 use Rattle.input.specs.Record.{freshInput}
 use Rattle.input.proofs.Laws.{kindArgument-back}

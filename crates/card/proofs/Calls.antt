@@ -16,7 +16,6 @@ use Rattle.numbers.specs.Profile.{placeOf, lastPlace, startNumber, limitsOf}
 use Rattle.numbers.specs.Refusal.{accepted, argumentOutOfRange}
 use Rattle.frame.specs.Read.{readCode}
 use Rattle.frame.specs.Write.{writtenLength, frameOctets}
-use Rattle.run.proofs.Laws.{byBool}
 use Rattle.selector.specs.declared.Selector.{Selector}
 use Rattle.selector.specs.State.{freshSelector}
 use Rattle.selector.specs.Clock.{selectedNumber, switchNumber, switchInput}

@@ -27,7 +27,7 @@ use Rattle.due.proofs.Calm.{Calm}
 use Rattle.due.proofs.Jump.{nextDue-later}
 use Rattle.events.specs.declared.Stepped.{Stepped}
 use Rattle.events.specs.Given.{Sequence, tickAt}
-use Rattle.events.specs.Step.{placed, kindAt, earlyNumber, lateNumber, stepRead, step}
+use Rattle.events.specs.Step.{atItsMoment, kindAt, earlyNumber, lateNumber, stepRead, step}
 use Rattle.events.specs.Sequence.{stateAfter, numberAfter}
 use Rattle.events.proofs.Refused.{accepted-limit}
 use Rattle.events.proofs.Calm.{accepted-or-not, stepRead-refused, stepRead-barred, stepRead-taken, brought-time, sequence-calm}
@@ -78,7 +78,7 @@ number-cardOf number count due state = refl
 stepRead-below : (state : Selector) (event : Event) (frame : List ℕ) → (sequence : Sequence) → state ≡ stateAfter sequence
     → state .time < timeLimit
     → stepRead state event (readCode frame) .state .time < timeLimit
-unfolding placed decided
+unfolding atItsMoment decided
 stepRead-below state event frame sequence is below =
     accepted-or-not (earlyNumber state event (readCode frame))
     (λ none.

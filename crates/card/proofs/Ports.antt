@@ -13,7 +13,7 @@ use Rattle.frame.specs.declared.FrameWrite.{FrameWrite}
 use Rattle.frame.specs.declared.FrameWrite.the-variants.{Written, Refused}
 use Rattle.frame.specs.Write.{writtenLength, sourceLength, frameOctets, writeAnswer, contentAfter}
 use Rattle.frame.proofs.RoundTrip.{demand-2-round-trip}
-use Rattle.run.proofs.Laws.{byBool}
+use Rattle.numbers.proofs.Truth.{byBool}
 use Rattle.sender.proofs.Codes.{codeOfPort-small}
 use Rattle.numbers.specs.Inputs.{lastInput}
 use Rattle.card.specs.declared.Card.{Card}

@@ -17,7 +17,7 @@ use Rattle.numbers.specs.Kind.{kindFrame, kindForced, kindManual, kindClearSwit
 use Rattle.numbers.specs.Refusal.{accepted}
 use Rattle.frame.specs.declared.FrameRead.{FrameRead}
 use Rattle.frame.specs.Read.{readCode}
-use Rattle.run.proofs.Laws.{byBool}
+use Rattle.numbers.proofs.Truth.{byBool}
 use Rattle.choice.specs.declared.Candidate.{Candidate}
 use Rattle.choice.specs.declared.Selection.{Selection}
 use Rattle.choice.specs.declared.Selection.the-variants as S
@@ -30,14 +30,14 @@ use Rattle.decision.specs.Choices.{commanded}
 use Rattle.selector.specs.declared.Selector.{Selector}
 use Rattle.selector.specs.Clock.{noInput, locked, switchManual, clockState, selectedNumber, switchNumber, switchInput}
 use Rattle.selector.specs.Answer.{selectedCandidate, answerOf}
-use Rattle.selector.specs.State.{candidatesOf, decided, broughtTo}
+use Rattle.selector.specs.State.{candidatesOf, decided, allBroughtTo}
 use Rattle.selector.specs.State as State
 use Rattle.due.specs.Next.{nextDue}
 use Rattle.due.specs.Served.{served, servedFrom, ticked}
 use Rattle.events.specs.declared.Stepped.{Stepped}
 use Rattle.events.specs.Given.{Given, Sequence}
 use Rattle.events.specs.Refusals.{frameRefusal, earlyRefusal}
-use Rattle.events.specs.Step.{recordedArgument, recordedEvent, eventTaken, placed, kindAt, earlyNumber, lateNumber, stepRead, step}
+use Rattle.events.specs.Step.{recordedArgument, recordedEvent, eventTaken, atItsMoment, kindAt, earlyNumber, lateNumber, stepRead, step}
 use Rattle.events.specs.Sequence.{stateAfter}
 use Rattle.events.proofs.Refused.{accepted-input}
 use Rattle.events.proofs.Calm.{accepted-or-not, stepRead-refused, stepRead-barred, stepRead-taken}
@@ -131,7 +131,7 @@ decided-named state on =
 
 moment-named : (state : Selector) (time : ℕ) → Named state → Named (State.ticked state time)
 unfolding State.ticked
-moment-named state time named = decided-named (broughtTo state time) (named .switch)
+moment-named state time named = decided-named (allBroughtTo state time) (named .switch)
 
 servedFrom-named : (left : ℕ) (state : Selector) (count time : ℕ) → Named state
     → Named (servedFrom left state count time .state)
@@ -161,9 +161,9 @@ commanded-on kind number switch few on = go (eqb kind kindForced) (eqb kind kind
     go false false true = tt
     go false false false = on
 
-placed-named : (state : Selector) (event : Recorded) → event .input < inputCount → Named state → Named (placed state event)
-unfolding placed
-placed-named state event few named =
+atItsMoment-named : (state : Selector) (event : Recorded) → event .input < inputCount → Named state → Named (atItsMoment state event)
+unfolding atItsMoment
+atItsMoment-named state event few named =
     decided-named (eventTaken state event) (commanded-on (event .kind) (event .input) (state .switch) few (named .switch))
 
 -- A step on a state whose names are inputs leaves such a state.
@@ -173,7 +173,7 @@ stepRead-named state event read named =
     accepted-or-not (earlyNumber state event read)
     (λ none. accepted-or-not (lateNumber (ticked state (event .time)) event)
     (λ later. subst (λ (after : Stepped). Named (after .state)) (sym (stepRead-taken state event read none later))
-    (placed-named (ticked state (event .time)) (recordedEvent (ticked state (event .time) .profile) event read)
+    (atItsMoment-named (ticked state (event .time)) (recordedEvent (ticked state (event .time) .profile) event read)
     (accepted-input (limitsOf (state .profile)) (state .time) (kindAt (state .inputs) (event .input)) event read none)
     (ticked-named state (event .time) named)))
     (λ given. subst (λ (after : Stepped). Named (after .state)) (sym (stepRead-barred state event read none given))

@@ -19,7 +19,7 @@ use Rattle.selector.specs.Clock.{clockState, clockQuality, selectedNumber, swit
 use Rattle.due.specs.Next.{lesser, sumOrNever, ifLater, timerDue, frameDue, nextOf, nextAmong}
 use Rattle.due.specs.Served.{servedFrom, served}
 use Rattle.events.specs.Refusals.{firstThatApplies, isWrongKind, frameRefusal, earlyRefusal, isForcedSwitch, lateRefusal}
-use Rattle.events.specs.Step.{isHeldInByte, heldArgument, inputAfter, inputsAfter, modeAfter, placed, stepRead}
+use Rattle.events.specs.Step.{isHeldInByte, heldArgument, inputAfter, inputsAfter, modeAfter, atItsMoment, stepRead}
 use Rattle.events.specs.Given.{recordedArgument}
 use Rattle.card.specs.Flat.{inputOf, flatInput, switchOf, selectionOf, isSelected, profileIn, optionOf, selectorOf, cardOf}
 use Rattle.watch.specs.Watch.{codeAgain, frameAgain, isAgain, againInput, againDue}
@@ -34,7 +34,7 @@ unfolding
     readFor freshCard cardOf selectorOf optionOf profileIn isSelected selectionOf switchOf flatInput inputOf
     writeAnswer frameOctets dataOctets headerOctets
     readCode frameNumber rightLength rightDestination rightProtocol rightOrganisation rightVersion rightTlv same
-    stepRead placed commanded recordedArgument modeAfter inputsAfter inputAfter heldArgument isHeldInByte
+    stepRead atItsMoment commanded recordedArgument modeAfter inputsAfter inputAfter heldArgument isHeldInByte
     lateRefusal isForcedSwitch earlyRefusal frameRefusal isWrongKind firstThatApplies isInputOut isArgumentOut kindOf
     answerOf switchInput switchNumber selectedNumber clockQuality clockState selectedCandidate
     served servedFrom nextAmong nextOf frameDue timerDue ifLater sumOrNever lesser

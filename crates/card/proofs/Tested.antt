@@ -13,7 +13,7 @@ use borrow.Author.Tests.{lt-ltb, le-ltb, ltb-true}
 use Rattle.numbers.specs.declared.Profile.the-variants as P
 use Rattle.numbers.specs.Kind.{flag}
 use Rattle.frame.specs.Write.{writtenLength}
-use Rattle.run.proofs.Laws.{byBool}
+use Rattle.numbers.proofs.Truth.{byBool}
 use Rattle.card.specs.declared.Card.{Card}
 use Rattle.card.specs.declared.self_test.TestLine.{TestLine}
 use Rattle.card.specs.Card.{freshCard}

@@ -9,6 +9,7 @@ use native.Mathlib.Omega.{arith}
 use native.Mathlib.Decide.{ℕ-discrete}
 use lib.Dec.{ltb}
 use borrow.Author.Tests.{ltb-true, lt-ltb}
+use Rattle.numbers.proofs.Truth.{byBool, is-false}
 use Rattle.numbers.specs.declared.InputNumber.{InputNumber}
 use Rattle.numbers.specs.Inputs.{inputCount}
 use Rattle.choice.specs.declared.Selection.{Selection}
@@ -17,11 +18,6 @@ use Rattle.choice.specs.Choice.{selected, Ranking, Best, Chosen, seeded,
 
 -- ---- tests
 
--- both cases of a test, with the equation
-pub byBool : {C : Type 0} (test : Bool) → (test ≡ true → C) → (test ≡ false → C) → C
-byBool true f g = f refl
-byBool false f g = g refl
-
 pub both-first : (test other : Bool) → (test && other) ≡ true → test ≡ true
 both-first true b x = refl
 both-first false b x = x
@@ -29,10 +25,6 @@ both-first false b x = x
 pub both-second : (test other : Bool) → (test && other) ≡ true → other ≡ true
 both-second true b x = x
 both-second false b x = absurd (false≢true x)
-
-is-false : (test : Bool) → (test ≡ true → ⊥) → test ≡ false
-is-false true f = absurd (f refl)
-is-false false f = refl
 
 pub contra : {A : Type 0} {test : Bool} → test ≡ true → test ≡ false → A
 contra x y = absurd (true≢false (sym x ∙ y))

@@ -16,14 +16,14 @@ use Rattle.selector.specs.State.{candidateFor, decided, ticked}
 use Rattle.due.specs.Next.{lesser, sumOrNever, ifLater, timerDue, frameDue, nextOf, nextAmong}
 use Rattle.due.specs.Served.{servedFrom, served}
 use Rattle.events.specs.Refusals.{firstThatApplies, isWrongKind, frameRefusal, earlyRefusal, isForcedSwitch, lateRefusal}
-use Rattle.events.specs.Step.{isHeldInByte, heldArgument, inputAfter, inputsAfter, modeAfter, recordedArgument, placed, stepRead, step}
+use Rattle.events.specs.Step.{isHeldInByte, heldArgument, inputAfter, inputsAfter, modeAfter, recordedArgument, atItsMoment, stepRead, step}
 use Rattle.events.specs.Sequence as S
 use Rattle.events.specs.Cases.{allFollowing, MostReached}
 
 pub most-reached : MostReached
 unfolding
     S.countAfter S.stateAfter step
-    stepRead placed commanded recordedArgument modeAfter inputsAfter inputAfter heldArgument isHeldInByte
+    stepRead atItsMoment commanded recordedArgument modeAfter inputsAfter inputAfter heldArgument isHeldInByte
     lateRefusal isForcedSwitch earlyRefusal frameRefusal isWrongKind firstThatApplies isInputOut isArgumentOut kindOf
     served servedFrom nextAmong nextOf frameDue timerDue ifLater sumOrNever lesser
     ticked decided candidateFor decide isHeld isClockLocked selectedBy judged manualMayStand

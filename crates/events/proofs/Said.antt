@@ -8,12 +8,13 @@ use native.Mathlib.Omega.{arith}
 use lib.Dec.{eqb}
 use lib.ListN.{getD}
 use borrow.Author.Tests.{eqb-true, eq-eqb, not-true}
+use Rattle.numbers.proofs.Truth.{byBool}
 use Rattle.numbers.specs.Inputs.{inputCount}
 use Rattle.numbers.specs.Kind.{kindForced, kindManual}
 use Rattle.numbers.specs.Refusal.{forcedBarred, manualForcedStands, manualNotEligible, manualLowerQuality}
 use Rattle.input.specs.Recorded.{History}
 use Rattle.choice.specs.Candidate.{nobody, eligibleAmong, anyLower}
-use Rattle.choice.proofs.Choosing.{byBool, both-first, both-second, contra}
+use Rattle.choice.proofs.Choosing.{both-first, both-second, contra}
 use Rattle.choice.proofs.Ranks.{lower-found, lower-some}
 use Rattle.decision.specs.declared.Switch.{Switch}
 use Rattle.decision.specs.declared.Switch.the-variants as W

@@ -23,31 +23,31 @@ abbrev pub damaged : ℕ → ℕ → List ℕ
 damaged number value = set (frameOf 60) (number - 1) value
 
 -- one row of the table
-pub record Row : Type 0 where
+pub record FrameCase : Type 0 where
   pub frame : List ℕ
   pub answer : FrameRead
 
-abbrev pub row : List ℕ → FrameRead → Row
-row frame answer = record { frame = frame; answer = answer }
+abbrev pub frameCase : List ℕ → FrameRead → FrameCase
+frameCase frame answer = record { frame = frame; answer = answer }
 
-abbrev pub rows : List Row
-rows =
-    row (frameOf 59) (Refused frameLength)
-    ∷ row (frameOf 60) (Code codePrc)
-    ∷ row (frameOf 1514) (Code codePrc)
-    ∷ row (frameOf 1515) (Refused frameLength)
-    ∷ row (damaged 1 0x00) (Refused frameDestination)
-    ∷ row (damaged 15 0x0b) (Refused frameProtocol)
-    ∷ row (damaged 20 0x02) (Refused frameOrganisation)
-    ∷ row (damaged 21 0x20) (Refused frameVersion)
-    ∷ row (damaged 27 0x05) (Refused frameTlv)
-    ∷ row (damaged 12 0xff) (Code codePrc)
-    ∷ row (damaged 21 0x1f) (Code codePrc)
-    ∷ row (damaged 24 0xff) (Code codePrc)
-    ∷ row (damaged 28 0xf2) (Code codePrc)
-    ∷ row (damaged 60 0xff) (Code codePrc)
+abbrev pub frameCases : List FrameCase
+frameCases =
+    frameCase (frameOf 59) (Refused frameLength)
+    ∷ frameCase (frameOf 60) (Code codePrc)
+    ∷ frameCase (frameOf 1514) (Code codePrc)
+    ∷ frameCase (frameOf 1515) (Refused frameLength)
+    ∷ frameCase (damaged 1 0x00) (Refused frameDestination)
+    ∷ frameCase (damaged 15 0x0b) (Refused frameProtocol)
+    ∷ frameCase (damaged 20 0x02) (Refused frameOrganisation)
+    ∷ frameCase (damaged 21 0x20) (Refused frameVersion)
+    ∷ frameCase (damaged 27 0x05) (Refused frameTlv)
+    ∷ frameCase (damaged 12 0xff) (Code codePrc)
+    ∷ frameCase (damaged 21 0x1f) (Code codePrc)
+    ∷ frameCase (damaged 24 0xff) (Code codePrc)
+    ∷ frameCase (damaged 28 0xf2) (Code codePrc)
+    ∷ frameCase (damaged 60 0xff) (Code codePrc)
     ∷ []
 
 -- each frame of the table reads as its row says
 pub record ReadCases : Type 0 where
-  pub read : map (λ (case : Row). readCode (case .frame)) rows ≡ map (λ (case : Row). case .answer) rows
+  pub read : map (λ (case : FrameCase). readCode (case .frame)) frameCases ≡ map (λ (case : FrameCase). case .answer) frameCases

@@ -42,8 +42,8 @@ unfoldable pub isFrameLine : List ℕ → Bool
 isFrameLine line = allDigits line && eqb (length line % 2) 0
 
 -- "`01` for a line that is no even number of lowercase digits"
-unfoldable pub lineText : List ℕ → List ℕ
-lineText line = cond (isFrameLine line) (messageText (readFrame (octetsOf line))) (digitsOf (lineMalformed ∷ []))
+unfoldable pub frameLineText : List ℕ → List ℕ
+frameLineText line = cond (isFrameLine line) (messageText (readFrame (octetsOf line))) (digitsOf (lineMalformed ∷ []))
 
 -- a text and an LF in front of twenty characters, zeros after them
 unfoldable pub inFront : List ℕ → MessageLine
@@ -55,4 +55,4 @@ inFront text =
 
 -- what is printed for a line
 unfoldable pub messageLine : List ℕ → MessageLine
-messageLine line = inFront (lineText line)
+messageLine line = inFront (frameLineText line)

@@ -12,7 +12,7 @@ use Rattle.run.specs.declared.Forecast.{Forecast}
 use Rattle.run.specs.declared.Run.{Run}
 use Rattle.run.specs.Moments.{Moment, eachMillisecond}
 use Rattle.run.specs.Run.{atMoment, broughtTo, passedQuality}
-use Rattle.run.proofs.Laws.{byBool}
+use Rattle.numbers.proofs.Truth.{byBool}
 use Rattle.run.proofs.Kept.{taken, kept, passed-defined, atMoment-taken, Settled, broughtTo-settled, atMoment-settled, settled-atMoment, settled-fresh, kept-each, settled-broughtTo, broughtTo-broughtTo}
 use Rattle.run.proofs.Exact.{passed-unique, passed-exact}
 use Rattle.input.specs.declared.Input.{Input}

@@ -16,7 +16,7 @@ use Rattle.numbers.specs.Quality.{quality, notTold, failed}
 use Rattle.numbers.specs.Inputs.{freshWait, frameLife, reportsNeeded}
 use Rattle.numbers.specs.Kind.{kindSignal, kindPriority, kindLockout, kindHoldoff, kindWait, kindFixedQuality, kindSending, kindInputKind, kindFloor, inputKindOf, takesFrames, isCounted, isFrame}
 use Rattle.run.specs.Run.{rawAt, isExpired, momentAt}
-use Rattle.run.proofs.Laws.{byBool}
+use Rattle.numbers.proofs.Truth.{byBool}
 use Rattle.input.specs.declared.Heard.{Heard}
 use Rattle.input.specs.declared.Settings.{Settings}
 use Rattle.input.specs.Recorded.{History, isOn, lastArgument, modeOn, signalGood, inputKind, floorSet, priorityOf, isLockedOut, holdoffOf, waitOf, fixedOf, isSending, heard, isThird, lineQuality, frameQuality, rawQualityAt, momentOf}

@@ -8,7 +8,7 @@ use borrow.Author.Tests.{eqb-true, eqb-false, leb-true, leb-false, lt-ltb, le-lt
 use lib.Dec.{eqb, leb, ltb}
 use lib.ListN.{length, take, drop, replicate, length-append, length-replicate, length-drop, drop-of-length-le}
 use lib.Seq.{drop-drop, take-at, take-all}
-use Rattle.run.proofs.Laws.{byBool}
+use Rattle.numbers.proofs.Truth.{byBool}
 use Rattle.run.proofs.Exact.{and-true-right}
 use Rattle.numbers.specs.Inputs.{lastInput, timeLimit}
 use Rattle.numbers.specs.Refusal.{accepted, timeTooLarge, timeBeforeState, inputOutOfRange, bufferTooShort, sourceNotSix}
@@ -30,7 +30,7 @@ use Rattle.questions.specs.declared.QuestionRead.{QuestionRead}
 use Rattle.questions.specs.declared.QuestionRead.the-variants as Q
 use Rattle.questions.specs.Line.{partLength, firstPart, hasMore, otherParts, numberSaid, isSource, isMarked, isNumberPart, readQuestion}
 use Rattle.questions.specs.Answer.{longestQuestion, askedIn, frameText, nothingText, noQuestionText, heartbeatText, lentRoom, putQuestion, lineQuestion}
-use Rattle.questions.specs.Asked.{padded, lineText, LentAlike, answeredAsked, answeredRead, answeredQuestion}
+use Rattle.questions.specs.Asked.{padded, heldLine, LentAlike, answeredAsked, answeredRead, answeredQuestion}
 use Rattle.questions.proofs.Texts.{lentRoom-fits}
 
 -- ---- a question that is put
@@ -72,7 +72,7 @@ module _ (senders : Senders) (state : Selector) (port time room : ℕ) (source :
   pub asked-put : (lent : ℕ) (answer : Asked) (after frame : List ℕ) (text : LineText) → lent ≡ lentRoom room
       → AskSenders senders (questionOf port time state source (take lent (replicate writtenLength 0))) answer after
       → frame ≡ after ++ drop lent (replicate writtenLength 0)
-      → text ≡ lineText (heartbeatText (answer .heartbeat) frame)
+      → text ≡ heldLine (heartbeatText (answer .heartbeat) frame)
       → record { senders = answer .senders; text = text } ≡ answeredAsked senders put
   unfolding answeredAsked
   asked-put lent answer after frame text size asks holds told =
@@ -83,12 +83,12 @@ module _ (senders : Senders) (state : Selector) (port time room : ℕ) (source :
       ap (questionOf port time state source) buffer in
       let is : answer ≡ asked senders put = asks .answered ∙ ap (asked senders) question in
       let content : after ≡ contentOf senders put = asks .content ∙ ap (contentOf senders) question in
-      let line : text ≡ lineText (heartbeatText (asked senders put .heartbeat) (contentOf senders put)) =
+      let line : text ≡ heldLine (heartbeatText (asked senders put .heartbeat) (contentOf senders put)) =
       told
-      ∙ ap (λ (one : Asked). lineText (heartbeatText (one .heartbeat) frame)) is
-      ∙ ap (λ (row : List ℕ). lineText (heartbeatText (asked senders put .heartbeat) row))
+      ∙ ap (λ (one : Asked). heldLine (heartbeatText (one .heartbeat) frame)) is
+      ∙ ap (λ (row : List ℕ). heldLine (heartbeatText (asked senders put .heartbeat) row))
       (holds ∙ ap (λ (n : ℕ). after ++ drop n (replicate writtenLength 0)) size)
-      ∙ ap lineText (told-alike after content) in
+      ∙ ap heldLine (told-alike after content) in
       λ j. record { senders = is j .senders; text = line j }
 
 -- ---- any buffer
@@ -132,20 +132,20 @@ lent-alike senders state port time source buffer =
 -- ---- heartbeatText
 
 module _ (heartbeat : Heartbeat) (frame : List ℕ) (text : LineText) where
-  pub text-information : heartbeat ≡ H.Information → text ≡ lineText (frameText frame)
-      → text ≡ lineText (heartbeatText heartbeat frame)
+  pub text-information : heartbeat ≡ H.Information → text ≡ heldLine (frameText frame)
+      → text ≡ heldLine (heartbeatText heartbeat frame)
   text-information is told = told ∙ (rw is)
 
-  pub text-event : heartbeat ≡ H.Event → text ≡ lineText (frameText frame)
-      → text ≡ lineText (heartbeatText heartbeat frame)
+  pub text-event : heartbeat ≡ H.Event → text ≡ heldLine (frameText frame)
+      → text ≡ heldLine (heartbeatText heartbeat frame)
   text-event is told = told ∙ (rw is)
 
-  pub text-nothing : heartbeat ≡ H.Nothing → text ≡ lineText nothingText
-      → text ≡ lineText (heartbeatText heartbeat frame)
+  pub text-nothing : heartbeat ≡ H.Nothing → text ≡ heldLine nothingText
+      → text ≡ heldLine (heartbeatText heartbeat frame)
   text-nothing is told = told ∙ (rw is)
 
-  pub text-refused : (number : ℕ) → heartbeat ≡ H.Refused number → text ≡ lineText (frameText (number ∷ []))
-      → text ≡ lineText (heartbeatText heartbeat frame)
+  pub text-refused : (number : ℕ) → heartbeat ≡ H.Refused number → text ≡ heldLine (frameText (number ∷ []))
+      → text ≡ heldLine (heartbeatText heartbeat frame)
   text-refused number is told = told ∙ (rw is)
 
 pub ruleset heartbeatText-laws = (text-information, text-event, text-nothing, text-refused)
@@ -253,7 +253,7 @@ octets-lent octets text count holds size =
 -- ---- answeredQuestion
 
 module _ (senders : Senders) (state : Selector) (line : List ℕ) where
-  pub answered-long : (text : LineText) → longestQuestion < length line → text ≡ lineText noQuestionText
+  pub answered-long : (text : LineText) → longestQuestion < length line → text ≡ heldLine noQuestionText
       → record { senders = senders; text = text } ≡ answeredQuestion senders state line
   unfolding answeredRead askedIn
   answered-long text long is = rw (is, lt-ltb longestQuestion (length line) long)
@@ -263,7 +263,7 @@ module _ (senders : Senders) (state : Selector) (line : List ℕ) where
     unfolding askedIn
     asked-in = told ∙ (rw (le-ltb longestQuestion (length line) short))
 
-    pub answered-nothing : (text : LineText) → read ≡ Q.Nothing → text ≡ lineText noQuestionText
+    pub answered-nothing : (text : LineText) → read ≡ Q.Nothing → text ≡ heldLine noQuestionText
         → record { senders = senders; text = text } ≡ answeredQuestion senders state line
     unfolding answeredRead
     answered-nothing text none is = rw (is, ← asked-in, none)

@@ -13,11 +13,11 @@ use lib.ListN.{length, getD, take, drop, length-drop, drop-of-length-le}
 use lib.Seq.{drop-cons, drop-drop}
 use borrow.Author.Tests.{eq-eqb, ne-eqb, lt-ltb, le-ltb, le-leb, lt-leb}
 use Rattle.digits.specs.Digits.{numeral0, numeral9, isBetween, isNumeral, allDigits}
-use Rattle.run.proofs.Laws.{byBool}
+use Rattle.numbers.proofs.Truth.{byBool}
 use Rattle.questions.specs.declared.NumberRead.{NumberRead}
 use Rattle.questions.specs.declared.NumberRead.the-variants as N
 use Rattle.questions.specs.declared.PartRead.the-variants as P
-use Rattle.questions.specs.Line.{space, mark, dash, partLength, firstPart, hasMore, otherParts, allNumerals, numberSaidAfter, numberSaid, isNumber, isSource, isMarked, isNumberPart, partEnd, readNumber, readPart}
+use Rattle.questions.specs.Line.{space, mark, dash, partLength, firstPart, hasMore, otherParts, allNumerals, numberSaidAfter, numberSaid, isNumber, isSource, isMarked, isNumberPart, partEnd, numberIn, readPart}
 
 -- ---- partEnd
 
@@ -46,7 +46,7 @@ partLength-le (character ∷ rest) =
 pub partEnd-le : (text : List ℕ) (start : ℕ) → start ≤ length text → partEnd text start ≤ length text
 partEnd-le text start inside = omega (arith, partLength-le (drop start text), length-drop start text)
 
--- ---- readNumber
+-- ---- numberIn
 
 -- what the digits that are left make of the number read so far
 abbrev pub numberAfter : ℕ → List ℕ → NumberRead
@@ -75,12 +75,12 @@ unfolding isNumeral isBetween
 numeral-is character low high = rw (le-leb _ _ low, le-leb _ _ high)
 
 module _ (text : List ℕ) where
-  pub readNumber-empty : length text ≡ 0 → N.Nothing ≡ readNumber text
-  unfolding readNumber isNumber
-  readNumber-empty none = rw (eq-eqb _ _ none)
+  pub numberIn-empty : length text ≡ 0 → N.Nothing ≡ numberIn text
+  unfolding numberIn isNumber
+  numberIn-empty none = rw (eq-eqb _ _ none)
 
-  pub numberAfter-start : (length text ≡ 0 → ⊥) → numberAfter 0 (drop 0 text) ≡ readNumber text
-  unfolding readNumber isNumber
+  pub numberAfter-start : (length text ≡ 0 → ⊥) → numberAfter 0 (drop 0 text) ≡ numberIn text
+  unfolding numberIn isNumber
   numberAfter-start some = rw (ne-eqb (length text) 0 some)
 
   module _ (value passed : ℕ) where
@@ -154,8 +154,8 @@ pub ruleset isSource-laws = (isSource-dash, isSource-short, isSource-long, isSou
 number-nothing : (value : ℕ) → N.Number value ≡ N.Nothing → ⊥
 number-nothing value same = let wrong : _≡_ {A = ℕ} 0 1 = cc in omega arith
 
-isNumber-not : (part : List ℕ) → readNumber part ≡ N.Nothing → isNumber part ≡ false
-unfolding readNumber
+isNumber-not : (part : List ℕ) → numberIn part ≡ N.Nothing → isNumber part ≡ false
+unfolding numberIn
 isNumber-not part none =
     byBool (isNumber part)
     (λ is. let wrong : N.Number (numberSaid part) ≡ N.Nothing = rw is at none in absurd (number-nothing _ wrong))
@@ -165,8 +165,8 @@ pub record Says (part : List ℕ) (value : ℕ) : Type 0 where
   pub number : isNumber part ≡ true
   pub decimal : value ≡ numberSaid part
 
-isNumber-is : (part : List ℕ) (value : ℕ) → readNumber part ≡ N.Number value → Says part value
-unfolding readNumber
+isNumber-is : (part : List ℕ) (value : ℕ) → numberIn part ≡ N.Number value → Says part value
+unfolding numberIn
 isNumber-is part value told =
     byBool (isNumber part)
     (λ is.
@@ -209,9 +209,9 @@ module _ (line : List ℕ) (start : ℕ) (inside : start ≤ length line) where
         (omega (arith, length-drop start line, partEnd-le line start inside))
 
     module _ (part : List ℕ) (is : part ≡ take (end - start) (drop start line)) (read : NumberRead)
-        (told : read ≡ readNumber part) where
-      first-told : readNumber (firstPart (drop start line)) ≡ read
-      first-told = ap readNumber (sym (is ∙ part-is)) ∙ sym told
+        (told : read ≡ numberIn part) where
+      first-told : numberIn (firstPart (drop start line)) ≡ read
+      first-told = ap numberIn (sym (is ∙ part-is)) ∙ sym told
 
       pub readPart-other : read ≡ N.Nothing → P.Nothing ≡ readPart line start
       unfolding readPart

@@ -8,7 +8,7 @@ use lib.Dec.{eqb, ltb}
 use lib.ListN.{length, getD, take, drop, length-drop}
 use lib.Seq.{drop-drop, take-all}
 use borrow.Author.Tests.{eq-eqb, ne-eqb, lt-ltb, le-ltb, eqb-true, ltb-true}
-use Rattle.run.proofs.Laws.{byBool}
+use Rattle.numbers.proofs.Truth.{byBool}
 use Rattle.run.proofs.Exact.{and-true-right}
 use Rattle.questions.specs.declared.PartRead.{PartRead}
 use Rattle.questions.specs.declared.PartRead.the-variants as P

@@ -11,14 +11,14 @@ use lib.ListN.{length, getD, set, take, drop, replicate, length-append, length-r
 use lib.Seq.{set-at, take-suc, length-take-le, take-all, take-length, append-snoc}
 use borrow.Author.Tests.{lt-ltb, le-ltb, ltb-true, leb-true, eqb-true}
 use Rattle.digits.specs.Digits.{isDigit, allDigits, digitValue, octetsOf, upperDigit, lowerDigit, digitsOf}
-use Rattle.digits.proofs.Runs.{and-both, allDigits-at}
+use Rattle.digits.proofs.Runs.{and-parts, allDigits-at}
 use Rattle.digits.proofs.Values.{octetsOf-length}
 use Rattle.reader.specs.Lines.{lineFeed}
 use Rattle.frame.specs.Write.{writtenLength}
-use Rattle.run.proofs.Laws.{byBool}
+use Rattle.numbers.proofs.Truth.{byBool}
 use Rattle.questions.specs.Line.{mark, isAsked, isSource}
 use Rattle.questions.specs.Answer.{frameText, lentRoom}
-use Rattle.questions.specs.Asked.{padded, textOctets, lineText}
+use Rattle.questions.specs.Asked.{padded, textOctets, heldLine}
 
 -- ---- padded
 
@@ -48,15 +48,15 @@ drop-zeros (suc count) (suc total) =
 
 pub line-copied : (text octets : List ℕ) (count : ℕ) → count ≡ length text
     → octets ≡ take (length text) text ++ drop (length text) (replicate textOctets 0)
-    → record { octets = octets; count = count } ≡ lineText text
-unfolding lineText
+    → record { octets = octets; count = count } ≡ heldLine text
+unfolding heldLine
 line-copied text octets count size copied =
     let whole : octets ≡ padded textOctets text =
     copied ∙ (rw (take-length text, drop-zeros (length text) textOctets)) in
     λ j. record { octets = whole j; count = size j }
 
 pub number-digits : (number upper lower : ℕ) → upper ≡ upperDigit number → lower ≡ lowerDigit number
-    → lineText (upper ∷ lower ∷ lineFeed ∷ []) ≡ lineText (frameText (number ∷ []))
+    → heldLine (upper ∷ lower ∷ lineFeed ∷ []) ≡ heldLine (frameText (number ∷ []))
 unfolding digitsOf
 number-digits number upper lower isUpper isLower = rw (isUpper, isLower)
 
@@ -117,8 +117,8 @@ module _ (frame : List ℕ) (passed : ℕ) (sixty : length frame ≡ 60) where
       ∙ ap (padded 121) (sym pair)
 
   pub frame-done : (text : List ℕ) → text ≡ padded 121 (digitsOf (take passed frame)) → 60 ≤ passed → passed ≤ 60
-      → record { octets = set text 120 lineFeed; count = 121 } ≡ lineText (frameText frame)
-  unfolding lineText
+      → record { octets = set text 120 lineFeed; count = 121 } ≡ heldLine (frameText frame)
+  unfolding heldLine
   frame-done text holds over fits =
       let all : take passed frame ≡ frame = take-all passed frame (omega arith) in
       let size : length (digitsOf frame) ≡ 120 = digitsOf-length frame ∙ (omega arith) in
@@ -158,12 +158,12 @@ isSource-address text is =
     let parts : (leb 2 (length text) && leb (length text) 64 && eqb (length text % 2) 0 && allDigits text) ≡ true =
     rw other at is in
     let whole =
-    and-both (leb 2 (length text) && leb (length text) 64 && eqb (length text % 2) 0) (allDigits text) parts in
+    and-parts (leb 2 (length text) && leb (length text) 64 && eqb (length text % 2) 0) (allDigits text) parts in
     record {
       fits =
           leb-true (length text) 64
-          (and-both (leb 2 (length text)) (leb (length text) 64)
-          (and-both (leb 2 (length text) && leb (length text) 64) (eqb (length text % 2) 0) (whole .0) .0)
+          (and-parts (leb 2 (length text)) (leb (length text) 64)
+          (and-parts (leb 2 (length text) && leb (length text) 64) (eqb (length text % 2) 0) (whole .0) .0)
           .1);
       all = λ _. whole .1;
     })

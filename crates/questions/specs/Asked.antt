@@ -29,20 +29,20 @@ abbrev pub textOctets : ℕ
 textOctets = 121
 
 -- a line as the code holds it
-unfoldable pub lineText : List ℕ → LineText
-lineText text = record { octets = padded textOctets text; count = length text }
+unfoldable pub heldLine : List ℕ → LineText
+heldLine text = record { octets = padded textOctets text; count = length text }
 
 -- what a question that is put comes to
 unfoldable pub answeredAsked : Senders → Question → QuestionAnswer
 answeredAsked senders question =
     record {
       senders = asked senders question .senders;
-      text = lineText (heartbeatText (asked senders question .heartbeat) (contentOf senders question));
+      text = heldLine (heartbeatText (asked senders question .heartbeat) (contentOf senders question));
     }
 
 -- what a line that was read comes to
 unfoldable pub answeredRead : Senders → Selector → List ℕ → QuestionRead → QuestionAnswer
-answeredRead senders state line Q.Nothing = record { senders = senders; text = lineText noQuestionText }
+answeredRead senders state line Q.Nothing = record { senders = senders; text = heldLine noQuestionText }
 answeredRead senders state line (Q.Question port time room start) =
     answeredAsked senders (lineQuestion state line port time room start)
 

@@ -99,8 +99,8 @@ abbrev pub partEnd : List ℕ → ℕ → ℕ
 partEnd text start = start + partLength (drop start text)
 
 -- a number, if a text is one
-unfoldable pub readNumber : List ℕ → NumberRead
-readNumber text = cond (isNumber text) (N.Number (numberSaid text)) N.Nothing
+unfoldable pub numberIn : List ℕ → NumberRead
+numberIn text = cond (isNumber text) (N.Number (numberSaid text)) N.Nothing
 
 -- the number from a place that a space ends, and the place after the space
 unfoldable pub readPart : List ℕ → ℕ → PartRead

@@ -17,7 +17,7 @@ use Rattle.run.specs.Moments.{Moment, Moments, rawQuality, fails, eachMi
 use Rattle.numbers.specs.Truth.{alike}
 use Rattle.run.specs.Passed.{runBegan, goodQuality, wasUp, passed}
 use Rattle.run.specs.Run.{runOf, freshRun, isExpired, rawAt, momentAt, runStart, isUpAfter, lastGood, atMoment, upBefore, broughtTo, passedQuality}
-use Rattle.run.proofs.Laws.{byBool}
+use Rattle.numbers.proofs.Truth.{byBool}
 
 -- ---- the run kept of any moments
 

@@ -1,7 +1,7 @@
 -- The definitions of `specs/Run`, a law for each way through the function that meets it. Assumes nothing.
 use Prim.Native.Nat.{ℕ, _+_, _-_, _≤_, _<_}
 use mathlib.Core.Bool.{Bool, true, false, _&&_, false≢true}
-use mathlib.Core.Path.{_≡_, refl, sym, _∙_}
+use mathlib.Core.Path.{_≡_, sym, _∙_}
 use native.Mathlib.Omega.{arith}
 use lib.Dec.{leb}
 use mir.Val.{Fits}
@@ -10,14 +10,10 @@ use borrow.Author.Tests.{leb-true, leb-false, le-leb, lt-leb, lt-ltb, le-ltb}
 use Rattle.numbers.specs.declared.Quality.{Quality}
 use Rattle.numbers.specs.Quality.{failed, isFailed}
 use Rattle.numbers.specs.Inputs.{frameLife}
+use Rattle.numbers.proofs.Truth.{byBool}
 use Rattle.run.specs.declared.Forecast.{Forecast}
 use Rattle.run.specs.declared.Run.{Run}
 use Rattle.run.specs.Run.{runOf, isExpired, rawAt, runStart, isUpAfter, lastGood, upBefore, broughtTo, passedQuality}
-
--- both cases of a test, with the equation
-pub byBool : {C : Type 0} (test : Bool) → (test ≡ true → C) → (test ≡ false → C) → C
-byBool true f g = f refl
-byBool false f g = g refl
 
 -- ---- has_elapsed
 

@@ -76,8 +76,8 @@ unfoldable pub decided : Selector → Selector
 decided state = withDecision state (decisionOf state)
 
 -- the state with all inputs brought to a time
-abbrev pub broughtTo : Selector → ℕ → Selector
-broughtTo state time =
+abbrev pub allBroughtTo : Selector → ℕ → Selector
+allBroughtTo state time =
     record {
       inputs = map (λ (input : Input). tick input time (state .mode)) (state .inputs);
       time = time;
@@ -90,4 +90,4 @@ broughtTo state time =
 
 -- "a tick at its time (all passed qualities brought up to date, the switch judged, the choice made)"
 unfoldable pub ticked : Selector → ℕ → Selector
-ticked state time = decided (broughtTo state time)
+ticked state time = decided (allBroughtTo state time)

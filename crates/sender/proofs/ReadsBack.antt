@@ -15,7 +15,7 @@ use Rattle.frame.specs.Write.{writtenLength, frameOctets, writeAnswer, contentA
 use Rattle.frame.specs.RoundTrip.{Layout, RoundTrip}
 use Rattle.frame.proofs.WriteLaws.{writeAnswer-written, frameOctets-length}
 use Rattle.frame.proofs.RoundTrip.{demand-2-round-trip}
-use Rattle.run.proofs.Laws.{byBool}
+use Rattle.numbers.proofs.Truth.{byBool}
 use Rattle.sender.specs.declared.Asked.{Asked}
 use Rattle.sender.specs.declared.Heartbeat.{Heartbeat}
 use Rattle.sender.specs.declared.Heartbeat.the-variants as H

@@ -8,7 +8,7 @@ use lib.Dec.{eqb}
 use lib.ListN.{length}
 use borrow.Author.Tests.{eq-eqb, ne-eqb, eqb-true, eqb-false}
 use Rattle.numbers.specs.Refusal.{accepted, timeTooLarge, timeBeforeState, inputOutOfRange, bufferTooShort, sourceNotSix}
-use Rattle.run.proofs.Laws.{byBool}
+use Rattle.numbers.proofs.Truth.{byBool}
 use Rattle.events.specs.Refusals.{Refusal}
 use Rattle.events.specs.Demand1.{NoneApplies, SmallestRow}
 use Rattle.events.proofs.Refused.{Numbered, Rising, RisingFrom, rising-row, none-given, smallest-given, smallest-or-none, applies-numbered}

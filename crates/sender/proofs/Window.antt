@@ -6,7 +6,7 @@ use mathlib.Core.Path.{_≡_, refl, sym, _∙_, ap, subst}
 use native.Mathlib.Omega.{arith}
 use lib.Dec.{leb}
 use borrow.Author.Tests.{leb-true, leb-false, le-leb, lt-ltb, ltb-true, ltb-false}
-use Rattle.run.proofs.Laws.{byBool}
+use Rattle.numbers.proofs.Truth.{byBool}
 use Rattle.sender.specs.declared.Heartbeat.{Heartbeat}
 use Rattle.sender.specs.declared.Heartbeat.the-variants as H
 use Rattle.sender.specs.Heartbeat.{Questions, codeAsked, acceptedOf, Sent, window, windowFrames, isLater, laterCount, dueFrame, heartbeatOver, sentAfter, sentOver}

@@ -12,9 +12,10 @@ use lib.Seq.{drop-cons}
 use Rattle.numbers.specs.declared.Profile.the-variants as P
 use Rattle.numbers.specs.Refusal.{accepted, argumentOutOfRange}
 use Rattle.numbers.specs.Profile.{placeOf, lastPlace, startNumber}
+use Rattle.numbers.proofs.Truth.{byBool}
 use Rattle.digits.specs.Digits.{numeral0, numeral9, isBetween, isNumeral, isDigit, allDigits, digitValue}
 use Rattle.digits.specs.Decimal.{decimalValue}
-use Rattle.digits.proofs.Runs.{and-both}
+use Rattle.digits.proofs.Runs.{and-parts}
 use Rattle.digits.proofs.Values.{digitValue-below}
 use Rattle.text.specs.declared.NumberRead.{NumberRead}
 use Rattle.text.specs.declared.NumberRead.the-variants.{Number, NoNumber}
@@ -23,11 +24,6 @@ use Rattle.start.specs.declared.StartRead.{StartRead}
 use Rattle.start.specs.declared.StartRead.the-variants.{Started, Refused, NoStart}
 use Rattle.start.specs.Start.{numeral2, isOptionWord, isDecimal, isMarks, digitsValue, startOf, startIn, startBy}
 use Rattle.start.specs.Parts.{ValueOf, FourDigits}
-
--- both cases of a test, with the equation
-byBool : {C : Type 0} (test : Bool) → (test ≡ true → C) → (test ≡ false → C) → C
-byBool true f g = f refl
-byBool false f g = g refl
 
 -- ---- isOptionWord, isMarks
 
@@ -92,7 +88,7 @@ numerals-end word passed over = rw (drop-of-length-le word over)
 pub four : (word : List ℕ) → isMarks word ≡ true → FourDigits word
 unfolding isMarks allDigits
 four word holds =
-    let parts = and-both (eqb (length word) 4) (allDigits word) holds in
+    let parts = and-parts (eqb (length word) 4) (allDigits word) holds in
     go word (eqb-true (length word) 4 (parts .0)) (parts .1)
   where
     go : (word : List ℕ) → length word ≡ 4 → allDigits word ≡ true → FourDigits word
@@ -101,10 +97,10 @@ four word holds =
     go (a ∷ b ∷ []) size digits = absurd (omega arith)
     go (a ∷ b ∷ c ∷ []) size digits = absurd (omega arith)
     go (a ∷ b ∷ c ∷ d ∷ []) size digits =
-        let one = and-both (isDigit a) (allDigits (b ∷ c ∷ d ∷ [])) digits in
-        let two = and-both (isDigit b) (allDigits (c ∷ d ∷ [])) (one .1) in
-        let three = and-both (isDigit c) (allDigits (d ∷ [])) (two .1) in
-        let end = and-both (isDigit d) (allDigits []) (three .1) in
+        let one = and-parts (isDigit a) (allDigits (b ∷ c ∷ d ∷ [])) digits in
+        let two = and-parts (isDigit b) (allDigits (c ∷ d ∷ [])) (one .1) in
+        let three = and-parts (isDigit c) (allDigits (d ∷ [])) (two .1) in
+        let end = and-parts (isDigit d) (allDigits []) (three .1) in
         record { size = refl; first = one .0; second = two .0; third = three .0; last = end .0 }
     go (a ∷ b ∷ c ∷ d ∷ e ∷ rest) size digits = absurd (omega arith)
 
@@ -155,7 +151,7 @@ module _ (place : List ℕ) (marks most : ℕ) (decimal : isDecimal place ≡ tr
   number-above read is none =
       byBool (leb (decimalValue 0 place) most)
       (λ fits.
-      let parts = and-both (ltb 0 (length place)) (allNumerals place) decimal in
+      let parts = and-parts (ltb 0 (length place)) (allNumerals place) decimal in
       absurd (number-none (decimalValue 0 place) (rw (parts .0, parts .1, fits) at (sym is ∙ none))))
       (λ over. leb-false (decimalValue 0 place) most over)
 
@@ -169,7 +165,7 @@ module _ (place : List ℕ) (marks most : ℕ) (decimal : isDecimal place ≡ tr
   unfolding readNumber isDecimal
   place-is read number reads told =
       let is = sym reads ∙ told in
-      let parts = and-both (ltb 0 (length place)) (allNumerals place) decimal in
+      let parts = and-parts (ltb 0 (length place)) (allNumerals place) decimal in
       byBool (leb (decimalValue 0 place) most)
       (λ fits.
       let same : Number (decimalValue 0 place) ≡ Number number = rw (parts .0, parts .1, fits) at is in

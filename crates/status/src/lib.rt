@@ -4,6 +4,7 @@
 //
 // A state with any numbers in it is answered for, no sum can wrap, and no public function has a
 // `requires`.
+use due::NEVER;
 use input::Heard;
 use input::Input;
 use numbers::FRAME_LIFE;
@@ -23,9 +24,6 @@ use selector::input_at;
 ghost use mathlib.Core.Path.{_≡_};
 ghost use Rattle.status.specs.Status.{endAhead};
 ghost use Rattle.status.specs.Kept.{timerAhead, frameAhead, statusOf, inputStatus};
-
-// Stands for a time that never comes.
-const NEVER: u64 = u64::MAX;
 
 // What is known of an input. `timer` is when the present run's own timer ends, needed or not: the
 // hold-off of a failed run, the wait of any other; `frame` when the last frame heard expires. Both

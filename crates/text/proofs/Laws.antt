@@ -17,7 +17,7 @@ use Rattle.digits.specs.Decimal.{decimalPlaces, decimalOf, decimal, decimalValu
 use Rattle.digits.proofs.Decimals.{places-enough, decimalOf-length}
 use Rattle.text.specs.declared.NumberRead.{NumberRead}
 use Rattle.text.specs.declared.NumberRead.the-variants.{Number, NoNumber}
-use Rattle.text.specs.Text.{space, widestNumber, spacedNumbers, numbersText, withText, hasRoom, textFor, PutNumbers, allNumerals, readNumber}
+use Rattle.text.specs.Text.{space, widestNumber, spacedNumbers, numbersText, withText, hasRoom, roomedText, PutNumbers, allNumerals, readNumber}
 use Rattle.text.specs.Parts.{nextText, Put}
 
 -- ---- withText
@@ -247,7 +247,7 @@ module _ {numbers : List ℕ} {place : ℕ} {before : List ℕ} {taken end : ℕ
       }
 
   pub put-end : length numbers ≤ taken → PutNumbers numbers place before end after
-  unfolding textFor hasRoom
+  unfolding roomedText hasRoom
   put-end all =
       let done : take taken numbers ≡ numbers = take-all taken numbers all in
       record {
@@ -263,7 +263,7 @@ module _ {numbers : List ℕ} {place : ℕ} {before : List ℕ} {taken end : ℕ
 -- no room
 pub put-none : (numbers : List ℕ) (place : ℕ) (before : List ℕ)
     → length before < place + widestNumber * length numbers → PutNumbers numbers place before place before
-unfolding textFor hasRoom
+unfolding roomedText hasRoom
 put-none numbers place before tight =
     record {
       past = rw (lt-leb (place + widestNumber * length numbers) (length before) tight) (sym (add-zero place));
@@ -389,7 +389,7 @@ written-set out place character inside = record { past = refl; content = withTex
 pub written-numbers : (numbers : List ℕ) (place : ℕ) (before : List ℕ) (end : ℕ) (after : List ℕ)
     → place + widestNumber * length numbers ≤ length before
     → PutNumbers numbers place before end after → Put (numbersText numbers) place before end after
-unfolding textFor hasRoom
+unfolding roomedText hasRoom
 written-numbers numbers place before end after room put =
     let has = le-leb (place + widestNumber * length numbers) (length before) room in
     record { past = rw has at (put .past); content = rw has at (put .content) }

@@ -37,14 +37,14 @@ unfoldable pub hasRoom : ℕ → ℕ → List ℕ → Bool
 hasRoom count place out = leb (place + widestNumber * count) (length out)
 
 -- what is written of numbers: nothing where there might be no room
-unfoldable pub textFor : List ℕ → ℕ → List ℕ → List ℕ
-textFor numbers place out = cond (hasRoom (length numbers) place out) (numbersText numbers) []
+unfoldable pub roomedText : List ℕ → ℕ → List ℕ → List ℕ
+roomedText numbers place out = cond (hasRoom (length numbers) place out) (numbersText numbers) []
 
 -- numbers written from a place: the place behind them, no more than 21 characters a number on, and the whole output
 pub record PutNumbers (numbers : List ℕ) (place : ℕ) (before : List ℕ) (end : ℕ) (after : List ℕ) : Type 0 where
-  pub past : end ≡ place + length (textFor numbers place before)
+  pub past : end ≡ place + length (roomedText numbers place before)
   pub short : end ≤ place + widestNumber * length numbers
-  pub content : after ≡ withText place (textFor numbers place before) before
+  pub content : after ≡ withText place (roomedText numbers place before) before
 
 -- no character is other than 0 to 9
 unfoldable pub allNumerals : List ℕ → Bool

@@ -16,15 +16,15 @@ use Rattle.input.specs.Record.{freshInput, tick}
 use Rattle.choice.specs.declared.Candidate.{Candidate}
 use Rattle.choice.specs.Candidate.{nobody, isAdmitted, candidateOf}
 use Rattle.selector.specs.declared.Selector.{Selector}
-use Rattle.selector.specs.State.{candidateFor, candidatesOf, withDecision, decided, broughtTo}
+use Rattle.selector.specs.State.{candidateFor, candidatesOf, withDecision, decided, allBroughtTo}
 use Rattle.selector.specs.State as State
 use Rattle.due.specs.Next.{never}
 use Rattle.due.specs.Served.{ticked}
-use Rattle.due.specs.Each.{isDue, oneMore, each}
+use Rattle.due.specs.Each.{stateIsDue, oneMore, each}
 use Rattle.due.proofs.Calm.{movedTo, Calm}
 use Rattle.due.proofs.Each.{oneMore-due, oneMore-brought, oneMore-inputs, calm-oneMore, calm-each}
 use Rattle.due.proofs.Right.{ticked-each}
-use Rattle.run.proofs.Laws.{byBool}
+use Rattle.numbers.proofs.Truth.{byBool}
 use Rattle.undertest.proofs.Candidates.{Barred, SameAdmitted, decide-same}
 
 -- ---- lists
@@ -129,8 +129,8 @@ module _ (input : ℕ) (line : Input) (state : Selector)
         (sym (decide-same _ _ candidates-same (state .switch) (state .selection) (state .held)))
 
   pub brought-with : (time : ℕ)
-      → broughtTo (withRecord input line state) time ≡
-      withRecord input (tick line time (state .mode)) (broughtTo state time)
+      → allBroughtTo (withRecord input line state) time ≡
+      withRecord input (tick line time (state .mode)) (allBroughtTo state time)
   brought-with time = λ j.
       movedTo state (map-set (λ (other : Input). tick other time (state .mode)) (state .inputs) input line j) time
 
@@ -141,7 +141,7 @@ unfolding tick
 tick-keeps time mode input = refl
 
 pub brought-settings : (state : Selector) (time number : ℕ)
-    → settingsAt (broughtTo state time .inputs) number ≡ settingsAt (state .inputs) number
+    → settingsAt (allBroughtTo state time .inputs) number ≡ settingsAt (state .inputs) number
 brought-settings state time number =
     map-settings (λ (x : Input). tick x time (state .mode)) (tick-keeps time (state .mode)) (state .inputs) number
 
@@ -156,7 +156,7 @@ alike-decided input one other alike off =
     }
 
 alike-brought : (input : ℕ) (one other : Selector) → AlikeButAt input one other → (time : ℕ)
-    → AlikeButAt input (broughtTo one time) (broughtTo other time)
+    → AlikeButAt input (allBroughtTo one time) (allBroughtTo other time)
 alike-brought input one other alike time =
     record {
       line = tick (alike .line) time (one .mode);
@@ -164,7 +164,7 @@ alike-brought input one other alike time =
           tick-keeps time (one .mode) (alike .line) ∙ alike .settings ∙
           sym (brought-settings one time input);
       same =
-          ap (λ (state : Selector). broughtTo state time) (alike .same) ∙
+          ap (λ (state : Selector). allBroughtTo state time) (alike .same) ∙
           brought-with input (alike .line) one (alike .settings) time;
     }
 
@@ -172,14 +172,14 @@ alike-ticked : (input : ℕ) (one other : Selector) → AlikeButAt input one oth
     → AlikeButAt input (State.ticked one time) (State.ticked other time)
 unfolding State.ticked
 alike-ticked input one other alike off time =
-    alike-decided input (broughtTo one time) (broughtTo other time) (alike-brought input one other alike time)
-    (off-as input (one .inputs) (broughtTo one time .inputs) (brought-settings one time input) off)
+    alike-decided input (allBroughtTo one time) (allBroughtTo other time) (alike-brought input one other alike time)
+    (off-as input (one .inputs) (allBroughtTo one time .inputs) (brought-settings one time input) off)
 
 -- a millisecond more is a choice more, due or not: where nothing is due it changes nothing
 oneMore-ticked : (state : Selector) → Calm state → oneMore state ≡ State.ticked state (suc (state .time))
 unfolding State.ticked
 oneMore-ticked state calm =
-    byBool (isDue state (suc (state .time)))
+    byBool (stateIsDue state (suc (state .time)))
     (oneMore-due state)
     (λ e. sym (calm-oneMore state calm .chosen) ∙ ap decided (oneMore-brought state e))
 

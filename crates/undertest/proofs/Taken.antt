@@ -13,7 +13,7 @@ use borrow.Author.Tests.{eqb-true}
 use Rattle.numbers.specs.declared.Limits.{Limits}
 use Rattle.numbers.specs.Recorded.{Recorded}
 use Rattle.numbers.specs.Kind.{kindSignal, kindFrame, kindLineCode, kindWord, kindForced, kindManual, kindQualityMode}
-use Rattle.run.proofs.Laws.{byBool}
+use Rattle.numbers.proofs.Truth.{byBool}
 use Rattle.input.specs.declared.Input.{Input}
 use Rattle.input.specs.declared.Settings.{Settings}
 use Rattle.input.specs.Record.{freshInput, settingsAfter, settle, afterEvent}

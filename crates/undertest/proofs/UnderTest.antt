@@ -17,7 +17,7 @@ use Rattle.numbers.specs.Inputs.{inputCount}
 use Rattle.numbers.specs.Refusal.{accepted}
 use Rattle.frame.specs.declared.FrameRead.{FrameRead}
 use Rattle.frame.specs.Read.{readCode}
-use Rattle.run.proofs.Laws.{byBool}
+use Rattle.numbers.proofs.Truth.{byBool}
 use Rattle.input.specs.declared.Input.{Input}
 use Rattle.input.specs.declared.Settings.{Settings}
 use Rattle.input.specs.Recorded.{lastArgument, priorityOf}
@@ -30,7 +30,7 @@ use Rattle.due.specs.Served.{ticked}
 use Rattle.due.proofs.Calm.{movedTo, Calm}
 use Rattle.events.specs.declared.Stepped.{Stepped}
 use Rattle.events.specs.Refusals.{earlyRefusal}
-use Rattle.events.specs.Step.{kindAt, recordedEvent, eventTaken, placed, earlyNumber, lateNumber, stepRead, step}
+use Rattle.events.specs.Step.{kindAt, recordedEvent, eventTaken, atItsMoment, earlyNumber, lateNumber, stepRead, step}
 use Rattle.events.specs.Sequence.{Given, Sequence, stateAfter, numberAfter}
 use Rattle.events.specs.Past.{pastOf, recorded}
 use Rattle.events.proofs.Laws.{lateRefusal-other}
@@ -79,12 +79,12 @@ accepted-late limits state event report =
     (report-manual limits (event .kind) report))
 
 -- a choice is made after the event itself
-alike-placed : (input : ℕ) (one other : Selector) (event otherEvent : Recorded)
+alike-atItsMoment : (input : ℕ) (one other : Selector) (event otherEvent : Recorded)
     → AlikeButAt input (eventTaken one event) (eventTaken other otherEvent)
-    → Off input (placed one event .inputs)
-    → AlikeButAt input (placed one event) (placed other otherEvent)
-unfolding placed decided
-alike-placed input one other event otherEvent alike off =
+    → Off input (atItsMoment one event .inputs)
+    → AlikeButAt input (atItsMoment one event) (atItsMoment other otherEvent)
+unfolding atItsMoment decided
+alike-atItsMoment input one other event otherEvent alike off =
     alike-decided input (eventTaken one event) (eventTaken other otherEvent) alike off
 
 module _ (input : ℕ) (one other : Selector) (alike : AlikeButAt input one other) (off : Off input (one .inputs))
@@ -167,7 +167,7 @@ module _ (input : ℕ) (one other : Selector) (alike : AlikeButAt input one othe
           alike-after input _ _ _ _
           e
           (stepRead-taken other event read (early-alike event read ∙ none) (late-alike event read none ∙ later))
-          (alike-placed input (ticked one (event .time)) (ticked other (event .time)) recorded
+          (alike-atItsMoment input (ticked one (event .time)) (ticked other (event .time)) recorded
           (recordedEvent (ticked other (event .time) .profile) event read)
           (subst (λ (state : Selector). AlikeButAt input (eventTaken (ticked one (event .time)) recorded)
           (eventTaken state (recordedEvent (state .profile) event read)))
@@ -194,7 +194,7 @@ module _ (input : ℕ) (one other : Selector) (alike : AlikeButAt input one othe
       e
       (stepRead-taken other otherEvent otherRead (accepted-early other otherEvent otherRead otherNumber)
       (accepted-late otherLimits (ticked other (otherEvent .time)) otherEvent otherReport))
-      (alike-placed input (ticked one (event .time)) (ticked other (otherEvent .time)) recorded
+      (alike-atItsMoment input (ticked one (event .time)) (ticked other (otherEvent .time)) recorded
       (recordedEvent (ticked other (otherEvent .time) .profile) otherEvent otherRead)
       (subst (λ (state : Selector). AlikeButAt input (eventTaken (ticked one (event .time)) recorded)
       (eventTaken state (recordedEvent (state .profile) otherEvent otherRead)))

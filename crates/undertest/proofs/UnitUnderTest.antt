@@ -16,7 +16,7 @@ use Rattle.numbers.specs.Quality.{quality}
 use Rattle.numbers.specs.Recorded.{Recorded}
 use Rattle.numbers.specs.Refusal.{accepted}
 use Rattle.input.specs.Recorded.{History, isOn, lastArgument, priorityOf}
-use Rattle.run.proofs.Laws.{byBool}
+use Rattle.numbers.proofs.Truth.{byBool}
 use Rattle.choice.specs.Rank.{rankOf}
 use Rattle.selector.specs.declared.Selector.{Selector}
 use Rattle.selector.specs.Answer.{noInput, locked, answerOf}

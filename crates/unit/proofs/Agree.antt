@@ -18,7 +18,7 @@ use Rattle.numbers.specs.Recorded.{Recorded}
 use Rattle.numbers.specs.Refusal.{accepted}
 use Rattle.frame.specs.Read.{readCode}
 use Rattle.input.specs.Recorded.{History, isOn, lastArgument, inputKind}
-use Rattle.run.proofs.Laws.{byBool}
+use Rattle.numbers.proofs.Truth.{byBool}
 use Rattle.events.specs.Refusals.{firstThatApplies, earlyRows}
 use Rattle.events.specs.Given.{Given, Sequence, tickAt, asRecorded}
 use Rattle.events.specs.Sequence.{numberAfter}

@@ -15,7 +15,7 @@ use Rattle.numbers.specs.Profile.{placeOf}
 use Rattle.numbers.specs.Quality.{quality, prov}
 use Rattle.numbers.specs.Refusal.{accepted}
 use Rattle.input.specs.Recorded.{History, modeOn, floorOf, timeOf, priorityOf, isLockedOut, passedAt}
-use Rattle.run.proofs.Laws.{byBool}
+use Rattle.numbers.proofs.Truth.{byBool}
 use Rattle.choice.specs.declared.Candidate.{Candidate}
 use Rattle.choice.specs.declared.Selection.{Selection}
 use Rattle.choice.specs.declared.Selection.the-variants as S

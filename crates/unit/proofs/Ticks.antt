@@ -13,7 +13,7 @@ use Rattle.numbers.specs.Kind.{kindOf, rowOf, isInputOut, isArgumentOut}
 use Rattle.numbers.specs.Profile.{limitsOf}
 use Rattle.numbers.specs.Refusal.{accepted, kindUnknown, timeTooLarge, timeBeforeState}
 use Rattle.input.specs.Recorded.{timeOf}
-use Rattle.run.proofs.Laws.{byBool}
+use Rattle.numbers.proofs.Truth.{byBool}
 use Rattle.selector.specs.declared.Selector.{Selector}
 use Rattle.due.specs.Served.{ticked}
 use Rattle.due.proofs.Right.{ticked-twice}

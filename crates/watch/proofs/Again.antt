@@ -16,7 +16,7 @@ use Rattle.numbers.specs.declared.Profile.{Profile}
 use Rattle.run.specs.declared.Forecast.{Forecast}
 use Rattle.run.specs.declared.Run.{Run}
 use Rattle.run.specs.Run.{isExpired, rawAt}
-use Rattle.run.proofs.Laws.{byBool}
+use Rattle.numbers.proofs.Truth.{byBool}
 use Rattle.run.proofs.Kept.{Settled, atMoment-settled}
 use Rattle.input.specs.declared.Heard.{Heard}
 use Rattle.input.specs.declared.Input.{Input}
@@ -26,9 +26,10 @@ use Rattle.selector.specs.State.{candidateFor}
 use Rattle.due.proofs.Millisecond.{SettledAt}
 use Rattle.events.specs.Step.{isHeldInByte, heldArgument, inputAfter}
 use Rattle.events.proofs.Calm.{inputAfter-tick}
-use Rattle.watch.specs.Due.{never, lesser, sumOrNever, waitDue, expiryDue, runDue, dueOf}
+use Rattle.due.specs.Next.{never, lesser, sumOrNever}
+use Rattle.due.proofs.Millisecond.{lesser-one, lesser-other}
+use Rattle.watch.specs.Due.{waitDue, expiryDue, runDue, dueOf}
 use Rattle.watch.specs.Watch.{codeAgain, frameAgain, isAgain, framedInput, againInput, againDue}
-use Rattle.watch.proofs.Quiet.{lesser-one, lesser-other}
 
 -- ---- what was heard
 

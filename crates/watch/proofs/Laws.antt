@@ -23,7 +23,7 @@ use Rattle.numbers.specs.Refusal.{accepted}
 use Rattle.frame.specs.declared.FrameRead.{FrameRead}
 use Rattle.run.specs.declared.Forecast.{Forecast}
 use Rattle.run.specs.declared.Run.{Run}
-use Rattle.run.proofs.Laws.{byBool}
+use Rattle.numbers.proofs.Truth.{byBool}
 use Rattle.input.specs.declared.Heard.{Heard}
 use Rattle.input.specs.declared.Input.{Input}
 use Rattle.input.specs.Record.{freshInput, passedOf}
@@ -41,31 +41,10 @@ use Rattle.watch.specs.declared.Left.{Left}
 use Rattle.watch.specs.declared.Left.the-variants.{Nothing, Choice, Service}
 use Rattle.watch.specs.declared.Own.{Own}
 use Rattle.watch.specs.declared.Watch.{Watch}
-use Rattle.watch.specs.Due.{never, lesser, sumOrNever, waitDue, expiryDue, runDue, dueOf, dueAmong, dueOfAll, dueAnew}
-use Rattle.watch.specs.Watch.{watchOf, numbered, commands, isServed, codeAgain, frameAgain, isAgain, framedInput, againInput, againDue, seenAlike, movedTo, ownBefore, ownAfter, ownAgain, quickState, quickDue, quickAnswer, servedWatch, dueStep, renewed, watchStep}
+use Rattle.due.specs.Next.{never, lesser, sumOrNever}
+use Rattle.watch.specs.Due.{waitDue, expiryDue, runDue, dueOf, dueAmong, dueOfAll, dueAnew}
+use Rattle.watch.specs.Watch.{watchOf, numbered, isCommand, isServed, codeAgain, frameAgain, isAgain, framedInput, againInput, againDue, seenAlike, movedTo, ownBefore, ownAfter, ownAgain, quickState, quickDue, quickAnswer, servedWatch, dueStep, renewed, watchStep}
 use Rattle.watch.specs.Own.{OwnPlace, ownOf, againOwn, ownTake, ownStep, completed}
-
--- ---- lesser, sumOrNever
-
-module _ (one other : ℕ) where
-  pub lesser-first : one ≤ other → one ≡ lesser one other
-  unfolding lesser
-  lesser-first h = rw (le-leb _ _ h)
-
-  pub lesser-second : other < one → other ≡ lesser one other
-  unfolding lesser
-  lesser-second h = rw (lt-leb _ _ h)
-
-pub ruleset lesser-laws = (lesser-first, lesser-second)
-
-module _ (start length : ℕ) where
-  pub sumOrNever-sum : start + length ≤ never → start + length ≡ sumOrNever start length
-  unfolding sumOrNever
-  sumOrNever-sum h = lesser-first (start + length) never h
-
-  pub sumOrNever-never : never < start + length → never ≡ sumOrNever start length
-  unfolding sumOrNever
-  sumOrNever-never h = lesser-second (start + length) never h
 
 -- ---- waitDue, expiryDue, runDue
 
@@ -145,42 +124,42 @@ module _ (inputs : List Input) (mode : Bool) (due time : ℕ) where
 
 pub ruleset dueAnew-laws = (dueAnew-before, dueAnew-come)
 
--- ---- commands, isServed
+-- ---- isCommand, isServed
 
 module _ (kind : ℕ) where
-  pub commands-forced : kind ≡ kindForced → true ≡ commands kind
-  unfolding commands
-  commands-forced e = rw e
+  pub isCommand-forced : kind ≡ kindForced → true ≡ isCommand kind
+  unfolding isCommand
+  isCommand-forced e = rw e
 
-  pub commands-manual : kind ≡ kindManual → true ≡ commands kind
-  unfolding commands
-  commands-manual e = rw e
+  pub isCommand-manual : kind ≡ kindManual → true ≡ isCommand kind
+  unfolding isCommand
+  isCommand-manual e = rw e
 
-  pub commands-clear : kind ≡ kindClearSwitch → true ≡ commands kind
-  unfolding commands
-  commands-clear e = rw e
+  pub isCommand-clear : kind ≡ kindClearSwitch → true ≡ isCommand kind
+  unfolding isCommand
+  isCommand-clear e = rw e
 
-  pub commands-mode : kind ≡ kindQualityMode → true ≡ commands kind
-  unfolding commands
-  commands-mode e = rw e
+  pub isCommand-mode : kind ≡ kindQualityMode → true ≡ isCommand kind
+  unfolding isCommand
+  isCommand-mode e = rw e
 
-  pub commands-other : (kind ≡ kindForced → ⊥) → (kind ≡ kindManual → ⊥) → (kind ≡ kindClearSwitch → ⊥)
-      → (kind ≡ kindQualityMode → ⊥) → false ≡ commands kind
-  unfolding commands
-  commands-other n1 n2 n3 n4 = rw (ne-eqb _ _ n1, ne-eqb _ _ n2, ne-eqb _ _ n3, ne-eqb _ _ n4)
+  pub isCommand-other : (kind ≡ kindForced → ⊥) → (kind ≡ kindManual → ⊥) → (kind ≡ kindClearSwitch → ⊥)
+      → (kind ≡ kindQualityMode → ⊥) → false ≡ isCommand kind
+  unfolding isCommand
+  isCommand-other n1 n2 n3 n4 = rw (ne-eqb _ _ n1, ne-eqb _ _ n2, ne-eqb _ _ n3, ne-eqb _ _ n4)
 
-pub ruleset commands-laws = (commands-forced, commands-manual, commands-clear, commands-mode, commands-other)
+pub ruleset isCommand-laws = (isCommand-forced, isCommand-manual, isCommand-clear, isCommand-mode, isCommand-other)
 
 module _ (due kind time : ℕ) where
   pub isServed-due : due ≤ time → true ≡ isServed due kind time
   unfolding isServed
   isServed-due h = rw (le-leb _ _ h)
 
-  pub isServed-commands : (answer : Bool) → time < due → answer ≡ commands kind → answer ≡ isServed due kind time
+  pub isServed-isCommand : (answer : Bool) → time < due → answer ≡ isCommand kind → answer ≡ isServed due kind time
   unfolding isServed
-  isServed-commands answer h a = a ∙ (rw (lt-leb _ _ h))
+  isServed-isCommand answer h a = a ∙ (rw (lt-leb _ _ h))
 
-pub ruleset isServed-laws = (isServed-due, isServed-commands)
+pub ruleset isServed-laws = (isServed-due, isServed-isCommand)
 
 -- ---- seenAlike
 

@@ -1,28 +1,17 @@
 -- When something is next due of an input if no event comes: a hold-off or a wait over, or a frame expired. Cited by
 -- `src/lib.rt`.
 -- Assumes nothing.
-use Prim.Native.Nat.{ℕ, zero, suc, _+_}
+use Prim.Native.Nat.{ℕ, zero, suc}
 use mathlib.Core.Bool.{Bool, cond}
 use mathlib.Core.List.{List}
-use lib.Dec.{leb, ltb}
+use lib.Dec.{ltb}
 use lib.ListN.{getD}
 use Rattle.numbers.specs.Inputs.{inputCount, frameLife}
 use Rattle.run.specs.declared.Forecast.{Forecast}
 use Rattle.run.specs.declared.Run.{Run}
 use Rattle.input.specs.declared.Input.{Input}
 use Rattle.input.specs.Record.{freshInput, forecast}
-
--- stands for a time that never comes: 2^64 - 1, the largest that 64 bits hold, where times of events are below 2^48
-abbrev pub never : ℕ
-never = 18446744073709551615
-
--- the lesser of two times
-unfoldable pub lesser : ℕ → ℕ → ℕ
-lesser one other = cond (leb one other) one other
-
--- a time of so many ms from a start is over, never where that is later than never
-unfoldable pub sumOrNever : ℕ → ℕ → ℕ
-sumOrNever start length = lesser (start + length) never
+use Rattle.due.specs.Next.{never, lesser, sumOrNever}
 
 -- a run that is not failed: "began at least the wait ago", where it is not up yet
 unfoldable pub waitDue : Bool → ℕ → ℕ → ℕ

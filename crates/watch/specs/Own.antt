@@ -25,7 +25,8 @@ use Rattle.watch.specs.declared.Left.{Left}
 use Rattle.watch.specs.declared.Left.the-variants.{Nothing, Choice, Service}
 use Rattle.watch.specs.declared.Own.{Own}
 use Rattle.watch.specs.declared.Watch.{Watch}
-use Rattle.watch.specs.Due.{lesser, dueOf}
+use Rattle.due.specs.Next.{lesser}
+use Rattle.watch.specs.Due.{dueOf}
 use Rattle.watch.specs.Watch.{watchOf, isServed, isAgain, againInput, againDue, seenAlike, servedWatch}
 
 -- where an input stands among the sixteen; its number, taken round, where there is no such input

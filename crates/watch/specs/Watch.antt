@@ -24,7 +24,8 @@ use Rattle.selector.specs.Answer.{answerOf}
 use Rattle.events.specs.Step.{inputAfter, earlyNumber, stepRead}
 use Rattle.events.specs.Given.{recordedArgument, recordedEvent}
 use Rattle.watch.specs.declared.Watch.{Watch}
-use Rattle.watch.specs.Due.{never, lesser, sumOrNever, dueOf, dueOfAll, dueAnew}
+use Rattle.due.specs.Next.{never, lesser, sumOrNever}
+use Rattle.watch.specs.Due.{dueOf, dueOfAll, dueAnew}
 
 -- a watch by its parts
 abbrev pub watchOf : Selector → ℕ → Answer → Watch
@@ -47,12 +48,12 @@ abbrev pub freshWatch : Profile → Watch
 freshWatch profile = watchOf (freshSelector profile) never (answerOf accepted (freshSelector profile))
 
 -- the event touches more than its own input: the switch or the quality mode
-unfoldable pub commands : ℕ → Bool
-commands kind = eqb kind kindForced || eqb kind kindManual || eqb kind kindClearSwitch || eqb kind kindQualityMode
+unfoldable pub isCommand : ℕ → Bool
+isCommand kind = eqb kind kindForced || eqb kind kindManual || eqb kind kindClearSwitch || eqb kind kindQualityMode
 
 -- an event is served: something is due by its time, or it commands
 unfoldable pub isServed : ℕ → ℕ → ℕ → Bool
-isServed due kind time = leb due time || commands kind
+isServed due kind time = leb due time || isCommand kind
 
 -- a choice sees two records of an input alike
 unfoldable pub seenAlike : Input → Input → Bool

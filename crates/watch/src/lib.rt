@@ -3,6 +3,9 @@
 //
 // A watch with any numbers in it is answered for, no sum can wrap, and no public function has a
 // `requires`.
+use due::NEVER;
+use due::lesser;
+use due::sum_or_never;
 use events::early_refusal;
 use events::input_after;
 use events::recorded_argument;
@@ -30,12 +33,9 @@ use run::Run;
 use selector::Selector;
 use selector::seen_of;
 ghost use mathlib.Core.Path.{_≡_};
-ghost use Rattle.watch.specs.Due.{sumOrNever, lesser, waitDue, expiryDue, runDue, dueOf, dueOfAll, dueAnew};
-ghost use Rattle.watch.specs.Watch.{freshWatch, commands, isServed, codeAgain, frameAgain, isAgain, seenAlike, servedWatch, watchStep};
+ghost use Rattle.watch.specs.Due.{waitDue, expiryDue, runDue, dueOf, dueOfAll, dueAnew};
+ghost use Rattle.watch.specs.Watch.{freshWatch, isCommand, isServed, codeAgain, frameAgain, isAgain, seenAlike, servedWatch, watchStep};
 ghost use Rattle.watch.specs.Own.{OwnPlace, againOwn, ownTake, ownStep, completed};
-
-// Stands for a time that never comes.
-const NEVER: u64 = u64::MAX;
 
 // How many equal codes in a row settle a line's quality.
 const REPORTS_NEEDED: u8 = 3;
@@ -64,25 +64,6 @@ pub struct Own {
     pub due: u64,
     pub number: u8,
     pub left: Left,
-}
-
-// When a time of `length` ms from `start` is over, never where no time holds it.
-fn sum_or_never(start: u64, length: u64) -> u64
-    ensures { λ answer. ⌜ answer ≡ sumOrNever start length ⌝ }
-{
-    if length <= NEVER - start {
-        return start + length;
-    }
-    NEVER
-}
-
-fn lesser(one: u64, other: u64) -> u64
-    ensures { λ answer. ⌜ answer ≡ lesser one other ⌝ }
-{
-    if one <= other {
-        return one;
-    }
-    other
 }
 
 // When the wait of a run that is not failed is over, where it still counts.
@@ -155,8 +136,8 @@ pub fn due_anew(inputs: [Input; 16], mode: bool, due: u64, time: u64) -> u64
 }
 
 // Whether an event of a kind touches more than its own input: the switch or the quality mode.
-fn commands(kind: u8) -> bool
-    ensures { λ answer. ⌜ answer ≡ commands kind ⌝ }
+fn is_command(kind: u8) -> bool
+    ensures { λ answer. ⌜ answer ≡ isCommand kind ⌝ }
 {
     match kind {
         KIND_FORCED => true,
@@ -174,7 +155,7 @@ fn is_served(due: u64, kind: u8, time: u64) -> bool
     if due <= time {
         return true;
     }
-    commands(kind)
+    is_command(kind)
 }
 
 // Whether a choice sees two records of an input alike.

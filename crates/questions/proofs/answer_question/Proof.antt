@@ -7,14 +7,14 @@ use borrow.Author.Needs.{needs}
 use Rattle.questions.proofs.answer_question.Statement.{statement}
 use Rattle.questions.proofs.answer_question.Tie as tie
 
-slice-aggregate-line-text : tie.Need-slice-aggregate-line-text
-slice-aggregate-line-text c = search needs
+slice-aggregate-held-line : tie.Need-slice-aggregate-held-line
+slice-aggregate-held-line c = search needs
 
-line-text-requires : tie.Need-line-text-requires
-line-text-requires c κs = search needs
+held-line-requires : tie.Need-held-line-requires
+held-line-requires c κs = search needs
 
 returns : tie.Need-returns
-returns c = answered-long _ _ _ _ (c .before .before .if1 .taken) (c .line-text .ensures)
+returns c = answered-long _ _ _ _ (c .before .before .if1 .taken) (c .held-line .ensures)
 
 read-question-requires : tie.Need-read-question-requires
 read-question-requires c κs = search needs
@@ -25,17 +25,17 @@ enum-known-port c = search needs
 enum-told : tie.Need-enum-told
 enum-told c = search needs
 
-slice-aggregate-line-text-2 : tie.Need-slice-aggregate-line-text-2
-slice-aggregate-line-text-2 c = search needs
+slice-aggregate-held-line-2 : tie.Need-slice-aggregate-held-line-2
+slice-aggregate-held-line-2 c = search needs
 
-line-text-requires-2 : tie.Need-line-text-requires-2
-line-text-requires-2 c κs = search needs
+held-line-requires-2 : tie.Need-held-line-requires-2
+held-line-requires-2 c κs = search needs
 
 returns-2 : tie.Need-returns-2
 returns-2 c =
     let read = c .before .before .before .before in
     answered-nothing _ _ _ _ (read .before .if1 .left) (read .read-question .ensures) _
-    (c .before .before .enum-told .given .1) (c .line-text2 .ensures)
+    (c .before .before .enum-told .given .1) (c .held-line2 .ensures)
 
 sub-source-octets : tie.Need-sub-source-octets
 sub-source-octets c = start-lent _ _ _ _ _ _ (c .before .before .before .read-question .ensures) (c .before .port .given .1)
@@ -75,14 +75,14 @@ pub answer-question-spec : {M : Type 1} → statement M
 answer-question-spec =
     tie.close
     (tie.spec
-    slice-aggregate-line-text
-    line-text-requires
+    slice-aggregate-held-line
+    held-line-requires
     returns
     read-question-requires
     enum-known-port
     enum-told
-    slice-aggregate-line-text-2
-    line-text-requires-2
+    slice-aggregate-held-line-2
+    held-line-requires-2
     returns-2
     sub-source-octets
     part-source-octets-start

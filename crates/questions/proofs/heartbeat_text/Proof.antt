@@ -20,11 +20,11 @@ frame-text-requires-2 c κs = search needs
 enum-told-3 : tie.Need-enum-told-3
 enum-told-3 c = search needs
 
-slice-aggregate-line-text : tie.Need-slice-aggregate-line-text
-slice-aggregate-line-text c = search needs
+slice-aggregate-held-line : tie.Need-slice-aggregate-held-line
+slice-aggregate-held-line c = search needs
 
-line-text-requires : tie.Need-line-text-requires
-line-text-requires c κs = search needs
+held-line-requires : tie.Need-held-line-requires
+held-line-requires c κs = search needs
 
 enum-known-heartbeat : tie.Need-enum-known-heartbeat
 enum-known-heartbeat c = search needs
@@ -53,8 +53,8 @@ heartbeat-text-spec =
     enum-told-2
     frame-text-requires-2
     enum-told-3
-    slice-aggregate-line-text
-    line-text-requires
+    slice-aggregate-held-line
+    held-line-requires
     enum-known-heartbeat
     number-text-requires
     returns

@@ -12,14 +12,14 @@ upper-digit-requires c κs = search needs
 lower-digit-requires : tie.Need-lower-digit-requires
 lower-digit-requires c κs = search needs
 
-slice-aggregate-line-text : tie.Need-slice-aggregate-line-text
-slice-aggregate-line-text c = search needs
+slice-aggregate-held-line : tie.Need-slice-aggregate-held-line
+slice-aggregate-held-line c = search needs
 
-line-text-requires : tie.Need-line-text-requires
-line-text-requires c κs = search needs
+held-line-requires : tie.Need-held-line-requires
+held-line-requires c κs = search needs
 
 returns : tie.Need-returns
-returns c = c .line-text .ensures ∙ number-digits _ _ _ (c .before .before .before .upper-digit .ensures) (c .before .before .lower-digit .ensures)
+returns c = c .held-line .ensures ∙ number-digits _ _ _ (c .before .before .before .upper-digit .ensures) (c .before .before .lower-digit .ensures)
 
 pub number-text-spec : {M : Type 1} → statement M
 number-text-spec =
@@ -27,6 +27,6 @@ number-text-spec =
     (tie.spec
     upper-digit-requires
     lower-digit-requires
-    slice-aggregate-line-text
-    line-text-requires
+    slice-aggregate-held-line
+    held-line-requires
     returns)

@@ -8,11 +8,11 @@ use Rattle.watch.proofs.is_served.Tie as tie
 returns : tie.Need-returns
 returns c = search isServed-laws
 
-commands-requires : tie.Need-commands-requires
-commands-requires c κs = search needs
+is-command-requires : tie.Need-is-command-requires
+is-command-requires c κs = search needs
 
 returns-2 : tie.Need-returns-2
 returns-2 c = search isServed-laws
 
 pub is-served-spec : {M : Type 1} → statement M
-is-served-spec = tie.close (tie.spec returns commands-requires returns-2)
+is-served-spec = tie.close (tie.spec returns is-command-requires returns-2)

@@ -1,9 +1,9 @@
--- `questions::line_text` meets its contract: the text is copied to the front.
+-- `questions::held_line` meets its contract: the text is copied to the front.
 -- Assumes nothing.
 use Rattle.questions.proofs.Texts.{line-copied}
 use borrow.Author.Needs.{needs}
-use Rattle.questions.proofs.line_text.Statement.{statement}
-use Rattle.questions.proofs.line_text.Tie as tie
+use Rattle.questions.proofs.held_line.Statement.{statement}
+use Rattle.questions.proofs.held_line.Tie as tie
 
 slice-aggregate-copy : tie.Need-slice-aggregate-copy
 slice-aggregate-copy c = search needs
@@ -14,5 +14,5 @@ copy-requires c κs = search needs
 returns : tie.Need-returns
 returns c = line-copied _ _ _ (c .before .copy .ensures .0) (c .before .copy .ensures .1)
 
-pub line-text-spec : {M : Type 1} → statement M
-line-text-spec = tie.close (tie.spec slice-aggregate-copy copy-requires returns)
+pub held-line-spec : {M : Type 1} → statement M
+held-line-spec = tie.close (tie.spec slice-aggregate-copy copy-requires returns)
