@@ -42,7 +42,6 @@ use Rattle.events.specs.Step.{inputsAfter, modeAfter, atItsMoment, stepped, ear
 use Rattle.events.proofs.Laws.{lateRefusal-other}
 use Rattle.events.proofs.Refused.{accepted-input}
 use Rattle.events.proofs.Calm.{accepted-or-not, stepRead-refused, stepRead-barred, stepRead-taken, not-before, not-never, calm-brought, brought-time}
-use Rattle.watch.specs.Due as Watch
 use Rattle.watch.specs.Watch.{movedTo, ownBefore, ownAfter, ownAgain, isAgain, framedInput, againInput, againDue, againTaken, ownTaken}
 use Rattle.watch.proofs.Again.{again-input, again-seen, againDue-least}
 
@@ -150,9 +149,9 @@ framed-due input mode due from time ever follows kept =
     (λ y. rw y (ifLater-least next time never (omega (arith, first)) (omega (arith, first))))
     (λ n. rw n (ifLater-least next time (sumOrNever time frameLife) (omega (arith, first)) (lesser-other due (sumOrNever time frameLife))))))
 
--- the same by the words of crate `watch`
+-- a frame that comes again
 againDue-framed : (due time : ℕ) → againDue due kindFrame time ≡ lesser due (sumOrNever time frameLife)
-unfolding againDue lesser sumOrNever Watch.lesser Watch.sumOrNever
+unfolding againDue
 againDue-framed due time = refl
 
 pub againDue-other : (due kind time : ℕ) → eqb kind kindFrame ≡ false → againDue due kind time ≡ due

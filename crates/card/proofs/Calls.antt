@@ -14,6 +14,7 @@ use Rattle.numbers.specs.Inputs.{lastInput, timeLimit}
 use Rattle.numbers.specs.Kind.{kindFrame, kindForced, kindManual}
 use Rattle.numbers.specs.Profile.{placeOf, lastPlace, startNumber, limitsOf}
 use Rattle.numbers.specs.Refusal.{accepted, argumentOutOfRange}
+use Rattle.numbers.proofs.Truth.{byBool}
 use Rattle.frame.specs.Read.{readCode}
 use Rattle.frame.specs.Write.{writtenLength, frameOctets}
 use Rattle.selector.specs.declared.Selector.{Selector}
