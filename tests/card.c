@@ -727,7 +727,7 @@ static void check_events(void)
 /* A card of any bytes: nothing is promised of the answers, but all are as if it were a state. */
 static void check_cards(void)
 {
-    int kept = 0;
+    int kept = 0, chosen = 0, plain = 0;
 
     for (int i = 0; i < RANDOM_CARDS; i++) {
         struct nurrispane_card wild, next;
@@ -741,6 +741,10 @@ static void check_cards(void)
             wild.answer.switch_input = (uint8_t)(below(4) ? below(16) : NURRISPANE_NO_INPUT);
             wild.answer.clock_state = (uint8_t)below(3);
             wild.answer.switch_kind = (uint8_t)below(3);
+        }
+        if (below(2)) {
+            wild.time >>= 24;
+            wild.due = wild.time + below(800);
         }
         call = any_call(&wild);
         next = stepped(wild, &call);
@@ -768,9 +772,25 @@ static void check_cards(void)
         wild.due = next.due;
         wild.answer.number = next.answer.number;
         wild.served = next.served;
-        kept += same(&wild, &next);
-        if (same(&wild, &next))
+        if (same(&wild, &next)) {
+            kept++;
             continue;
+        }
+        CHECK(next.held < 2 && next.selection < 2 && next.switch_kind < 3);
+        CHECK(next.selected == next.answer.selected);
+        CHECK(next.switch_input == next.answer.switch_input);
+        /* taken by its own input, and a choice made: what a choice does not change is as it was */
+        wild.held = next.held;
+        wild.switch_kind = next.switch_kind;
+        wild.switch_input = next.switch_input;
+        wild.selection = next.selection;
+        wild.selected = next.selected;
+        wild.answer = next.answer;
+        if (same(&wild, &next)) {
+            chosen++;
+            continue;
+        }
+        plain++;
         for (int port = 0; port < NURRISPANE_INPUTS; port++) {
             const struct nurrispane_input *input = &next.inputs[port];
 
@@ -778,10 +798,9 @@ static void check_cards(void)
             CHECK(input->signal < 2 && input->failed < 2 && input->up < 2);
         }
         CHECK(next.option == (wild.option == NURRISPANE_OPTION_2 ? 2 : 1) && next.spare == 0);
-        CHECK(next.mode < 2 && next.held < 2 && next.selection < 2 && next.switch_kind < 3);
-        CHECK(next.selected == next.answer.selected);
-        CHECK(next.switch_input == next.answer.switch_input);
-    }    CHECK(kept > 100 && kept < RANDOM_CARDS - 100);
+        CHECK(next.mode < 2);
+    }
+    CHECK(kept > 100 && chosen > 100 && plain > 100);
 }
 
 /* A frame is looked at for a frame event alone: here it lies where reading faults. */

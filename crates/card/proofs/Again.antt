@@ -235,9 +235,14 @@ candidates-again state event =
     freshInput
     (again-seen (ownBefore state event) (state .profile) (event .kind) (event .time) (state .mode))
 
+-- the kind of an event that commands nothing
+abbrev pub Free : ℕ → Type 0
+Free kind =
+    (eqb kind kindForced ≡ false) × (eqb kind kindManual ≡ false) × (eqb kind kindClearSwitch ≡ false) ×
+    (eqb kind kindQualityMode ≡ false)
+
 module _ (state : Selector) (event : Event) (read : FrameRead) (due : ℕ) (calm : Calm state) (bound : due ≤ nextDue state)
-    (none : earlyNumber state event read ≡ accepted) (sooner : event .time < due)
-    (again : ownAgain state event read ≡ true) where
+    (none : earlyNumber state event read ≡ accepted) (sooner : event .time < due) (free : Free (event .kind)) where
   later : state .time ≤ event .time
   later = not-before state event read calm none
 
@@ -258,10 +263,6 @@ module _ (state : Selector) (event : Event) (read : FrameRead) (due : ℕ) (calm
       served-count state (event .time) calm later ever
       ∙ dueIn-before state calm (event .time - state .time) (omega (arith, here))
 
-  free : (eqb (event .kind) kindForced ≡ false) × (eqb (event .kind) kindManual ≡ false) ×
-      (eqb (event .kind) kindClearSwitch ≡ false) × (eqb (event .kind) kindQualityMode ≡ false)
-  free = again-free (ownBefore state event) (state .profile) (event .kind) _ again
-
   unbarred : lateNumber (ticked state (event .time)) event ≡ accepted
   unbarred =
       sym
@@ -273,14 +274,35 @@ module _ (state : Selector) (event : Event) (read : FrameRead) (due : ℕ) (calm
   unfolding atItsMoment inputsAfter modeAfter commanded
   atItsMoment-own = rw (free .0, free .1, free .2, free .3)
 
-  inside : event .input < length (state .inputs)
-  inside = omega (arith, accepted-input (limitsOf (state .profile)) (state .time) _ event read none, calm .count)
+  -- COMMANDS NOTHING, and nothing is due: the plain step serves nothing, the own input takes the event, a choice is made.
+  pub stepRead-own : stepRead state event read ≡ stepped accepted 0 (decided (ownTaken state event read))
+  stepRead-own =
+      stepRead-taken state event read none unbarred
+      ∙ ap
+      (λ (count : ℕ). stepped accepted count
+      (atItsMoment (ticked state (event .time)) (recordedEvent (ticked state (event .time) .profile) event read)))
+      none-served
+      ∙ ap (λ (then : Selector). stepped accepted 0 (atItsMoment then (recordedEvent (then .profile) event read))) brought
+      ∙ ap (stepped accepted 0) atItsMoment-own
+
+  pub own-ends : (event .input < length (state .inputs)) × (state .time ≤ event .time) × (event .time < never)
+  own-ends =
+      (omega (arith, accepted-input (limitsOf (state .profile)) (state .time) _ event read none, calm .count), later, ever)
+
+module _ (state : Selector) (event : Event) (read : FrameRead) (due : ℕ) (calm : Calm state) (bound : due ≤ nextDue state)
+    (none : earlyNumber state event read ≡ accepted) (sooner : event .time < due)
+    (again : ownAgain state event read ≡ true) where
+  unheard : Free (event .kind)
+  unheard = again-free (ownBefore state event) (state .profile) (event .kind) _ again
+
+  pub again-ends : (event .input < length (state .inputs)) × (state .time ≤ event .time) × (event .time < never)
+  again-ends = own-ends state event read due calm bound none sooner unheard
 
   settled : SettledAt (state .mode) (event .time) (ownBefore state event)
   settled =
       every-at (SettledAt (state .mode) (event .time)) (state .inputs) (event .input) freshInput
-      (subst Calm brought (calm-brought state event read calm none) .settled)
-      inside
+      (subst Calm (brought state event read due calm bound none sooner unheard) (calm-brought state event read calm none) .settled)
+      (again-ends .0)
 
   decided-again : decided (ownTaken state event read) ≡ againTaken state event
   decided-again =
@@ -297,20 +319,7 @@ module _ (state : Selector) (event : Event) (read : FrameRead) (due : ℕ) (calm
 
   -- SAID AGAIN: the plain step serves nothing and leaves what the quick way leaves.
   pub stepRead-again : stepRead state event read ≡ stepped accepted 0 (againTaken state event)
-  stepRead-again =
-      stepRead-taken state event read none unbarred
-      ∙ ap
-      (λ (count : ℕ). stepped accepted count
-      (atItsMoment (ticked state (event .time)) (recordedEvent (ticked state (event .time) .profile) event read)))
-      none-served
-      ∙ ap (λ (then : Selector). stepped accepted 0 (atItsMoment then (recordedEvent (then .profile) event read))) brought
-      ∙ ap (stepped accepted 0) (atItsMoment-own ∙ decided-again)
-
-  pub again-ends : (event .input < length (state .inputs)) × (state .time ≤ event .time) × (event .time < never)
-  again-ends = (inside, later, ever)
-
-  pub again-unbarred : lateNumber (ticked state (event .time)) event ≡ accepted
-  again-unbarred = unbarred
+  stepRead-again = stepRead-own state event read due calm bound none sooner unheard ∙ ap (stepped accepted 0) decided-again
 
 -- ---- what is answered
 

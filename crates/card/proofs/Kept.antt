@@ -35,7 +35,7 @@ use Rattle.events.proofs.Extra.{sequence-ever}
 use Rattle.card.specs.declared.Card.{Card}
 use Rattle.card.specs.declared.CardInput.{CardInput}
 use Rattle.card.specs.Flat.{flatInput, selectorOf, cardOf}
-use Rattle.card.specs.Card.{eventOf, readFor, dueAfter, steppedCard, plainCard}
+use Rattle.card.specs.Card.{eventOf, readFor, dueAfter, steppedCard, plainOf}
 use Rattle.card.specs.Calls.{cardAfter, latestNumber, latestCount}
 use Rattle.card.specs.Range.{IsInput, InRange}
 use Rattle.card.specs.Sound.{sameInput, sameAmong, sameInputs, sameAnswer, sameCard, tickedAgain, cardSound, SoundRight}
@@ -117,7 +117,7 @@ module _ (sequence : Sequence) (number count due : ℕ) (ahead : stateAfter sequ
 
   -- that of the card is that of the sequence
   again : tickedAgain kept ≡ steppedCard (dueAfter due (state .time) (ticking .state)) ticking
-  unfolding plainCard readFor cardOf
+  unfolding plainOf readFor cardOf
   again =
       ap
       (λ (held : Selector).

@@ -6,7 +6,7 @@ use mathlib.Core.Path.{_≡_, refl, sym, _∙_, ap}
 use native.Mathlib.Numerals.{add-one}
 use native.Mathlib.Omega.{arith}
 use lib.Dec.{eqb}
-use lib.ListN.{length, getD}
+use lib.ListN.{length, getD, set}
 use mir.Val.{boolByte}
 use borrow.Author.Tests.{eq-eqb, ne-eqb, lt-ltb, le-ltb, le-leb, lt-leb}
 use Rattle.numbers.specs.declared.Answer.{Answer}
@@ -32,22 +32,27 @@ use Rattle.choice.specs.declared.Selection.the-variants as S
 use Rattle.decision.specs.declared.Switch.the-variants as W
 use Rattle.selector.specs.declared.Selector.{Selector}
 use Rattle.selector.specs.Clock.{switchForced, switchManual}
+use Rattle.selector.specs.State.{decided}
 use Rattle.selector.specs.Answer.{answerOf, outgoingCodes}
 use Rattle.selector.proofs.Laws.{getD-any}
 use Rattle.due.specs.Next.{lesser, nextDue}
-use Rattle.events.specs.Given.{recordedArgument}
+use Rattle.numbers.specs.Recorded.{saidEvent}
+use Rattle.events.specs.Given.{readEvent, recordedArgument, recordedEvent}
 use Rattle.events.specs.Refusals.{earlyRefusal}
+use Rattle.events.specs.Step.{inputAfter}
 use Rattle.watch.specs.declared.Own.{Own}
-use Rattle.watch.specs.Watch.{isAgain}
-use Rattle.watch.specs.Own.{againOwn}
+use Rattle.watch.specs.Watch.{isServed, isAgain, movedTo}
+use Rattle.watch.specs.Own.{OwnPlace, againOwn}
 use Rattle.numbers.specs.Inputs.{lastInput}
 use Rattle.status.specs.declared.Status.{Status}
 use Rattle.status.specs.Kept.{inputStatus}
 use Rattle.card.specs.declared.Card.{Card}
+use Rattle.card.specs.declared.CardAnswer.{CardAnswer}
 use Rattle.card.specs.declared.CardInput.{CardInput}
+use Rattle.card.specs.declared.quick.Quick.{Quick}
 use Rattle.card.specs.declared.known.CardStatus.{CardStatus}
 use Rattle.card.specs.Flat.{isSet, inputOf, flatInput, flatAnswer, switchOf, selectionOf, isSelected, optionTwo, profileIn, optionOf, selectorOf, cardOf, withNumber}
-use Rattle.card.specs.Card.{freshCard, startCard, dueAfter, plainCard, isRanged, profileHeld, ownPlace, StandsAt, ownInput, refusedWith, isQuick, againCard, eventCard, readFor, portCode, numberOfWrite, WritePort}
+use Rattle.card.specs.Card.{freshCard, startCard, dueAfter, plainOf, isRanged, profileHeld, ownPlace, StandsAt, ownFlat, isQuick, quickOf, notQuick, quickStep, framedFlat, numbered, quickCard, dueHeld, isPlain, takenState, chosenCard, wholeCard, eventCard, readFor, portCode, numberOfWrite, WritePort}
 use Rattle.card.specs.Status.{noStatus, cardStatus}
 use Rattle.card.specs.Sound.{sameInput, sameAmong, sameInputs, sameCard, tickedAgain, cardSound}
 
@@ -394,53 +399,217 @@ module _ (due time : ℕ) (state : Selector) (next : ℕ) (n : next ≡ nextDue 
 
 pub ruleset dueAfter-laws = (dueAfter-kept, dueAfter-sooner, dueAfter-anew)
 
+-- ---- dueHeld
+
+module _ (due time : ℕ) (state : Selector) where
+  pub dueHeld-kept : time < due → due ≡ dueHeld due time state
+  unfolding dueHeld
+  dueHeld-kept before = rw (lt-ltb _ _ before)
+
+  pub dueHeld-anew : (next : ℕ) → due ≤ time → next ≡ nextDue state → next ≡ dueHeld due time state
+  unfolding dueHeld
+  dueHeld-anew next come n = rw (le-ltb _ _ come, n)
+
+pub ruleset dueHeld-laws = (dueHeld-kept, dueHeld-anew)
+
+-- ---- an input that stands at its place
+
+own-there : (inputs : List Input) (number place : ℕ) (zeroed : Input) → OwnPlace inputs number place
+    → getD inputs place zeroed ≡ getD inputs (ownPlace number) freshInput
+own-there inputs number place zeroed at =
+    getD-any inputs place zeroed freshInput (at .inside)
+    ∙ ap (λ (here : ℕ). getD inputs here freshInput) (at .own)
+
+-- ---- isPlain
+
+module _ (state : Selector) (due : ℕ) (event : Event) (read : FrameRead) (place : ℕ) (zeroed : Input)
+    (at : OwnPlace (state .inputs) (event .input) place) (early : ℕ)
+    (e : early
+    ≡ earlyRefusal (limitsOf (state .profile)) (state .time) (getD (state .inputs) place zeroed .settings .kind) event read) where
+  early-there : early
+      ≡ earlyRefusal (limitsOf (state .profile)) (state .time)
+      (getD (state .inputs) (ownPlace (event .input)) freshInput .settings .kind)
+      event
+      read
+  early-there =
+      e ∙ ap
+      (λ (input : Input). earlyRefusal (limitsOf (state .profile)) (state .time) (input .settings .kind) event read)
+      (own-there (state .inputs) (event .input) place zeroed at)
+
+  pub isPlain-refused : (early ≡ accepted → ⊥) → true ≡ isPlain state due event read
+  unfolding isPlain
+  isPlain-refused given = rw (← early-there, ne-eqb _ _ given)
+
+  pub isPlain-served : early ≡ accepted → (held : ℕ) → held ≡ dueHeld due (event .time) state → (served : Bool)
+      → served ≡ isServed held (event .kind) (event .time)
+      → served ≡ isPlain state due event read
+  unfolding isPlain
+  isPlain-served none held h served s = s ∙ (rw (← early-there, eq-eqb _ _ none, h))
+
+-- ---- takenState
+
+pub takenState-by : (state : Selector) (event : Event) (read : FrameRead) (place : ℕ) (zeroed : Input)
+    → OwnPlace (state .inputs) (event .input) place
+    → (recorded : Event) → recorded ≡ readEvent event read
+    → (own : Input)
+    → own ≡ inputAfter (getD (state .inputs) place zeroed) (saidEvent (state .profile) recorded) (state .mode)
+    → (after : Selector) → after ≡ decided (movedTo state (set (state .inputs) place own) (event .time))
+    → after ≡ takenState state event read
+unfolding takenState
+takenState-by state event read place zeroed at recorded g own o after a =
+    a ∙ ap (λ (input : Input). decided (movedTo state (set (state .inputs) place input) (event .time)))
+    (o ∙ ap (λ (one : Event). inputAfter (getD (state .inputs) place zeroed) (saidEvent (state .profile) one) (state .mode)) g
+    ∙ ap (λ (input : Input). inputAfter input (recordedEvent (state .profile) event read) (state .mode))
+    (own-there (state .inputs) (event .input) place zeroed at))
+    ∙ ap
+    (λ (number : ℕ). decided
+    (movedTo state
+    (set (state .inputs) number
+    (inputAfter (getD (state .inputs) (ownPlace (event .input)) freshInput) (recordedEvent (state .profile) event read) (state .mode)))
+    (event .time)))
+    (at .own)
+
+-- ---- quickCard
+
+-- with its own input's record read from where it stands
+pub quickCard-at : (card : Card) (number : ℕ) (quick : Quick) (place : ℕ) (zeroed : CardInput)
+    → StandsAt (card .inputs) number place
+    → record {
+      inputs = set (card .inputs) place (framedFlat (getD (card .inputs) place zeroed) (quick .framed));
+      time = quick .time;
+      due = quick .due;
+      mode = card .mode;
+      held = card .held;
+      switch = card .switch;
+      on = card .on;
+      selection = card .selection;
+      selected = card .selected;
+      answer = numbered (card .answer) (quick .number);
+      served = 0;
+      option = card .option;
+      place = card .place;
+      marks = card .marks;
+      spare = card .spare;
+    }
+    ≡ quickCard card (ownPlace number) quick
+quickCard-at card number quick place zeroed at =
+    (rw (getD-any (card .inputs) place zeroed (flatInput freshInput) (at .inside)))
+    ∙ ap (λ (here : ℕ). quickCard card here quick) (at .own)
+
+-- ---- chosenCard
+
+pub chosenCard-at : (card : Card) (number due : ℕ) (after : Selector) (place : ℕ) (zeroed : Input)
+    → OwnPlace (after .inputs) number place
+    → (flat : CardInput) → flat ≡ flatInput (getD (after .inputs) place zeroed)
+    → (told : Answer) → told ≡ answerOf accepted after
+    → (selection : ℕ) → selection ≡ isSelected (after .selection)
+    → record {
+      inputs = set (card .inputs) place flat;
+      time = after .time;
+      due = due;
+      mode = card .mode;
+      held = boolByte (after .held);
+      switch = told .switch;
+      on = told .on;
+      selection = selection;
+      selected = told .selected;
+      answer = flatAnswer told;
+      served = 0;
+      option = card .option;
+      place = card .place;
+      marks = card .marks;
+      spare = card .spare;
+    }
+    ≡ chosenCard card (ownPlace number) due after
+unfolding answerOf
+chosenCard-at card number due after place zeroed at flat f told t selection s =
+    (rw (f, t, s, getD-any (after .inputs) place zeroed freshInput (at .inside), boolByte-flag (after .held)))
+    ∙ ap (λ (here : ℕ). chosenCard card here due after) (at .own)
+
+-- ---- wholeCard
+
+module _ (card : Card) (event : Event) (read : FrameRead) (state : Selector) (s : state ≡ selectorOf card) (plain : Bool)
+    (p : plain ≡ isPlain state (card .due) event read) where
+  plain-here : plain ≡ isPlain (selectorOf card) (card .due) event read
+  plain-here = p ∙ (rw s)
+
+  pub wholeCard-plain : plain ≡ true → (after : Card) → after ≡ plainOf state (card .due) event read
+      → after ≡ wholeCard card event read
+  unfolding wholeCard
+  wholeCard-plain is after a =
+      a ∙ ap (λ (held : Selector). plainOf held (card .due) event read) s ∙ (rw (← plain-here, is))
+
+  pub wholeCard-taken : plain ≡ false → (taken : Selector) → taken ≡ takenState state event read → (due : ℕ)
+      → due ≡ dueAfter (card .due) (event .time) taken
+      → (after : Card) → after ≡ chosenCard card (ownPlace (event .input)) due taken
+      → after ≡ wholeCard card event read
+  unfolding wholeCard
+  wholeCard-taken is taken t due d after a =
+      let here : taken ≡ takenState (selectorOf card) event read = t ∙ (rw s) in
+      a ∙ ap (λ (kept : ℕ). chosenCard card (ownPlace (event .input)) kept taken) d
+      ∙ ap (λ (then : Selector). chosenCard card (ownPlace (event .input)) (dueAfter (card .due) (event .time) then) then) here
+      ∙ (rw (← plain-here, is))
+
 -- ---- eventCard
 
-module _ (card : Card) (event : Event) (read : FrameRead) (ranged : Bool) (r : ranged ≡ isRanged (card .answer)) where
-  pub eventCard-unranged : ranged ≡ false → (after : Card) → after ≡ plainCard card event read
+module _ (card : Card) (event : Event) (read : FrameRead) (place : ℕ) (zeroed : CardInput)
+    (at : StandsAt (card .inputs) (event .input) place) (quick : Quick)
+    (q : quick
+    ≡ quickStep (getD (card .inputs) place zeroed) (card .answer) (profileHeld card) (card .time) (card .due) event read) where
+  quick-here : quick
+      ≡ quickStep (ownFlat card event) (card .answer) (profileHeld card) (card .time) (card .due) event read
+  quick-here =
+      q ∙ ap
+      (λ (flat : CardInput). quickStep flat (card .answer) (profileHeld card) (card .time) (card .due) event read)
+      (getD-any (card .inputs) place zeroed (flatInput freshInput) (at .inside)
+      ∙ ap (λ (number : ℕ). getD (card .inputs) number (flatInput freshInput)) (at .own))
+
+  pub eventCard-quick : quick .is ≡ true → (after : Card) → after ≡ quickCard card (ownPlace (event .input)) quick
       → after ≡ eventCard card event read
   unfolding eventCard
-  eventCard-unranged n after a = a ∙ (rw (← r, n))
+  eventCard-quick is after a =
+      a ∙ ap (quickCard card (ownPlace (event .input))) quick-here
+      ∙ (rw (← ap (λ (one : Quick). one .is) quick-here, is))
 
-  module _ (y : ranged ≡ true) (place : ℕ) (zeroed : CardInput) (before : Input) (profile : Profile) (early : ℕ)
-      (at : StandsAt (card .inputs) (event .input) place)
-      (b : before ≡ inputOf (getD (card .inputs) place zeroed)) (f : profile ≡ profileHeld card)
-      (e : early ≡ earlyRefusal (limitsOf profile) (card .time) (before .settings .kind) event read) where
-    own-here : before ≡ ownInput card event
-    own-here =
-        b ∙ ap inputOf
-        (getD-any (card .inputs) place zeroed (flatInput freshInput) (at .inside)
-        ∙ ap (λ (n : ℕ). getD (card .inputs) n (flatInput freshInput)) (at .own))
+  pub eventCard-whole : quick .is ≡ false → (after : Card) → after ≡ wholeCard card event read
+      → after ≡ eventCard card event read
+  unfolding eventCard
+  eventCard-whole is after a = a ∙ (rw (← ap (λ (one : Quick). one .is) quick-here, is))
 
-    early-here : early ≡ refusedWith card event read
-    early-here = e ∙ (rw (f, own-here))
+-- ---- quickStep
 
-    pub eventCard-refused : (early ≡ accepted → ⊥) → (after : Card) → after ≡ withNumber card early 0
-        → after ≡ eventCard card event read
-    unfolding eventCard
-    eventCard-refused given after a =
-        a ∙ ap (λ (number : ℕ). withNumber card number 0) early-here
-        ∙ (rw (← r, y, ne-eqb (refusedWith card event read) accepted (λ none. given (early-here ∙ none))))
+module _ (flat : CardInput) (told : CardAnswer) (profile : Profile) (time due : ℕ) (event : Event) (read : FrameRead)
+    (ranged : Bool) (r : ranged ≡ isRanged told) where
+  pub quickStep-unranged : ranged ≡ false → notQuick ≡ quickStep flat told profile time due event read
+  unfolding quickStep
+  quickStep-unranged n = rw (← r, n)
 
-    module _ (none : early ≡ accepted) (quick : Bool) (q : quick ≡ isQuick before profile (card .due) event read) where
-      quick-here : quick ≡ isQuick (ownInput card event) (profileHeld card) (card .due) event read
-      quick-here = q ∙ (rw (own-here, f))
+  module _ (y : ranged ≡ true) (before : Input) (early : ℕ) (b : before ≡ inputOf flat)
+      (e : early ≡ earlyRefusal (limitsOf profile) time (before .settings .kind) event read) where
+    early-here : early ≡ earlyRefusal (limitsOf profile) time (inputOf flat .settings .kind) event read
+    early-here = e ∙ (rw b)
 
-      pub eventCard-plain : quick ≡ false → (after : Card) → after ≡ plainCard card event read
-          → after ≡ eventCard card event read
-      unfolding eventCard
-      eventCard-plain new after a =
-          a ∙ (rw (← r, y, eq-eqb (refusedWith card event read) accepted (sym early-here ∙ none), ← quick-here, new))
+    pub quickStep-refused : (early ≡ accepted → ⊥)
+        → quickOf true (flat .framed) time due early ≡ quickStep flat told profile time due event read
+    unfolding quickStep
+    quickStep-refused given = rw (← r, y, ← early-here, ne-eqb _ _ given)
 
-      pub eventCard-again : quick ≡ true → (own : Own) → own ≡ againOwn before (card .due) event → (after : Card)
-          → after ≡ againCard card place own
-          → after ≡ eventCard card event read
-      unfolding eventCard
-      eventCard-again again own o after a =
-          let same : againCard card place own ≡ againCard card (ownPlace event) (againOwn (ownInput card event) (card .due) event) =
-          rw (at .own, o, own-here) in
-          a ∙ same
-          ∙ (rw (← r, y, eq-eqb (refusedWith card event read) accepted (sym early-here ∙ none), ← quick-here, again))
+    module _ (none : early ≡ accepted) (quick : Bool) (q : quick ≡ isQuick before profile due event read) where
+      again-here : quick ≡ isQuick (inputOf flat) profile due event read
+      again-here = q ∙ (rw b)
+
+      pub quickStep-again : quick ≡ true → (own : Own) → own ≡ againOwn before due event
+          → quickOf true (own .input .heard .framed) (own .time) (own .due) (own .number)
+          ≡ quickStep flat told profile time due event read
+      unfolding quickStep
+      quickStep-again is own o =
+          ap (λ (one : Own). quickOf true (one .input .heard .framed) (one .time) (one .due) (one .number))
+          (o ∙ ap (λ (input : Input). againOwn input due event) b)
+          ∙ (rw (← r, y, ← early-here, eq-eqb _ _ none, ← again-here, is))
+
+      pub quickStep-slow : quick ≡ false → notQuick ≡ quickStep flat told profile time due event read
+      unfolding quickStep
+      quickStep-slow is = rw (← r, y, ← early-here, eq-eqb _ _ none, ← again-here, is)
 
 -- ---- isQuick
 

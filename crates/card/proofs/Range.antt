@@ -9,6 +9,7 @@ use lib.Dec.{eqb, leb, ltb}
 use borrow.Author.Tests.{ltb-false, ne-eqb, leb-true, eqb-true}
 use Rattle.numbers.specs.declared.Event.{Event}
 use Rattle.numbers.specs.declared.InputNumber.{InputNumber}
+use Rattle.numbers.specs.declared.Profile.{Profile}
 use Rattle.numbers.specs.Recorded.{Recorded}
 use Rattle.numbers.specs.From.{started, _following_}
 use Rattle.numbers.specs.Profile.{limitsOf}
@@ -43,7 +44,9 @@ use Rattle.events.proofs.Refused.{accepted-input}
 use Rattle.events.proofs.Calm.{accepted-or-not, stepRead-refused, stepRead-barred, stepRead-taken}
 use Rattle.card.specs.declared.Card.{Card}
 use Rattle.card.specs.Flat.{switchOf, selectionOf, selectorOf, cardOf}
-use Rattle.card.specs.Card.{eventOf, plainCard, namesInput, isRanged, profileHeld, ownInput, refusedWith, isQuick, eventCard, readFor, stepCard}
+use Rattle.card.specs.declared.CardAnswer.{CardAnswer}
+use Rattle.card.specs.declared.CardInput.{CardInput}
+use Rattle.card.specs.Card.{eventOf, plainOf, plainCard, namesInput, isRanged, profileHeld, ownFlat, quickStep, isPlain, takenState, wholeCard, eventCard, readFor, stepCard}
 use Rattle.card.specs.Range.{IsInput, InRange, AnyCard}
 
 -- ---- a frame is looked at for a frame event alone
@@ -249,24 +252,47 @@ isRanged-range card is =
 
 -- the plain step, on any card
 pub plainCard-inRange : (card : Card) (event : Event) (read : FrameRead) → InRange (plainCard card event read)
-unfolding plainCard
+unfolding plainOf
 plainCard-inRange card event read =
     let after = stepRead (selectorOf card) event read in
     cardOf-inRange (after .number) (after .count) _ (after .state)
     (stepRead-named (selectorOf card) event read (selectorOf-named card))
 
+-- what an own input takes before a choice
+takenState-named : (state : Selector) (event : Event) (read : FrameRead) → Named state
+    → Named (takenState state event read)
+unfolding takenState
+takenState-named state event read named = decided-named _ (named .switch)
+
+-- what is not quick
+wholeCard-inRange : (card : Card) (event : Event) (read : FrameRead) → InRange (wholeCard card event read)
+unfolding wholeCard cardOf
+wholeCard-inRange card event read =
+    let state = selectorOf card in
+    let after = takenState state event read in
+    byBool (isPlain state (card .due) event read)
+    (λ y. rw y (plainCard-inRange card event read))
+    (λ n. rw n
+    (let range = cardOf-inRange accepted 0 0 after (takenState-named state event read (selectorOf-named card)) in
+    record { selected = range .selected; on = range .on; state = range .state; switch = range .switch }))
+
+-- only on a card whose answer names what is there is an event quick
+quick-ranged : (flat : CardInput) (told : CardAnswer) (profile : Profile) (time due : ℕ) (event : Event) (read : FrameRead)
+    → quickStep flat told profile time due event read .is ≡ true
+    → isRanged told ≡ true
+unfolding quickStep
+quick-ranged flat told profile time due event read is =
+    byBool (isRanged told) (λ y. y) (λ n. absurd (true≢false (sym (rw n at is))))
+
 -- any step
 eventCard-inRange : (card : Card) (event : Event) (read : FrameRead) → InRange (eventCard card event read)
 unfolding eventCard
 eventCard-inRange card event read =
-    byBool (isRanged (card .answer))
-    (λ y. let range = isRanged-range card y in
-    byBool (eqb (refusedWith card event read) accepted)
-    (λ none. byBool (isQuick (ownInput card event) (profileHeld card) (card .due) event read)
-    (λ quick. rw (y, none, quick) (record { selected = range .selected; on = range .on; state = range .state; switch = range .switch }))
-    (λ new. rw (y, none, new) (plainCard-inRange card event read)))
-    (λ given. rw (y, given) (record { selected = range .selected; on = range .on; state = range .state; switch = range .switch })))
-    (λ n. rw n (plainCard-inRange card event read))
+    let quick = quickStep (ownFlat card event) (card .answer) (profileHeld card) (card .time) (card .due) event read in
+    byBool (quick .is)
+    (λ y. let range = isRanged-range card (quick-ranged (ownFlat card event) (card .answer) (profileHeld card) (card .time) (card .due) event read y) in
+    rw y (record { selected = range .selected; on = range .on; state = range .state; switch = range .switch }))
+    (λ n. rw n (wholeCard-inRange card event read))
 
 -- Whatever card came in, C may index by what it reads; and what is lent beside another event than a frame changes nothing.
 pub any-card : (card : Card) (kind time input argument : ℕ) (frame : List ℕ) → AnyCard card kind time input argument frame

@@ -22,15 +22,15 @@ use Rattle.events.specs.Refusals.{firstThatApplies, isWrongKind, frameRefusal, 
 use Rattle.events.specs.Step.{isHeldInByte, heldArgument, inputAfter, inputsAfter, modeAfter, atItsMoment, stepRead}
 use Rattle.events.specs.Given.{recordedArgument}
 use Rattle.card.specs.Flat.{inputOf, flatInput, switchOf, selectionOf, isSelected, profileIn, optionOf, selectorOf, cardOf}
-use Rattle.watch.specs.Watch.{codeAgain, frameAgain, isAgain, againInput, againDue}
+use Rattle.watch.specs.Watch.{isCommand, isServed, codeAgain, frameAgain, isAgain, againInput, againDue}
 use Rattle.watch.specs.Own.{againOwn}
-use Rattle.card.specs.Card.{freshCard, dueAfter, plainCard, isRanged, isQuick, eventCard, readFor, stepCard}
+use Rattle.card.specs.Card.{freshCard, dueAfter, plainOf, isRanged, isQuick, quickStep, dueHeld, isPlain, takenState, wholeCard, eventCard, readFor, stepCard}
 use Rattle.card.specs.SelfTest.{lentOctets, testFrame, testedCard, isTold, answeredRight, selfTest, SelfTestRight}
 
 passed : selfTest ≡ 1
 unfolding
     selfTest answeredRight isTold testedCard testFrame lentOctets
-    stepCard eventCard isRanged isQuick plainCard dueAfter isAgain codeAgain frameAgain againOwn againInput againDue
+    stepCard eventCard quickStep wholeCard isPlain dueHeld takenState isServed isCommand isRanged isQuick plainOf dueAfter isAgain codeAgain frameAgain againOwn againInput againDue
     readFor freshCard cardOf selectorOf optionOf profileIn isSelected selectionOf switchOf flatInput inputOf
     writeAnswer frameOctets dataOctets headerOctets
     readCode frameNumber rightLength rightDestination rightProtocol rightOrganisation rightVersion rightTlv same

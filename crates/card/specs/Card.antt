@@ -2,7 +2,7 @@
 -- `src/exports.rt`.
 -- Assumes nothing.
 use Prim.Native.Nat.{ℕ, _%_, _<_}
-use mathlib.Core.Bool.{Bool, not, _&&_, _||_, cond}
+use mathlib.Core.Bool.{Bool, true, false, not, _&&_, _||_, cond}
 use mathlib.Core.List.{List}
 use mathlib.Core.Path.{_≡_}
 use lib.Dec.{eqb, leb, ltb}
@@ -23,16 +23,15 @@ use Rattle.frame.specs.Write.{writeAnswer, contentAfter}
 use Rattle.input.specs.declared.Input.{Input}
 use Rattle.input.specs.Record.{freshInput}
 use Rattle.selector.specs.declared.Selector.{Selector}
-use Rattle.selector.specs.Clock.{noInput, locked, switchManual}
-use Rattle.selector.specs.State.{freshSelector}
-use Rattle.selector.specs.Answer.{outgoingCodes, outgoingWords}
+use Rattle.selector.specs.Clock.{noInput, locked, switchManual, selectedNumber, switchNumber, switchInput}
+use Rattle.selector.specs.State.{freshSelector, decided}
+use Rattle.selector.specs.Answer.{answerOf, outgoingCodes, outgoingWords}
 use Rattle.events.specs.declared.Stepped.{Stepped}
 use Rattle.due.specs.Next.{lesser, nextDue}
-use Rattle.events.specs.Given.{recordedArgument}
+use Rattle.events.specs.Given.{recordedArgument, recordedEvent}
 use Rattle.events.specs.Refusals.{earlyRefusal}
-use Rattle.events.specs.Step.{stepRead}
-use Rattle.watch.specs.declared.Own.{Own}
-use Rattle.watch.specs.Watch.{isAgain}
+use Rattle.events.specs.Step.{inputAfter, stepRead}
+use Rattle.watch.specs.Watch.{isServed, isAgain, movedTo}
 use Rattle.watch.specs.Own.{againOwn}
 use Rattle.sender.specs.Heartbeat.{codeOfPort}
 use Rattle.card.specs.declared.Card.{Card}
@@ -41,7 +40,8 @@ use Rattle.card.specs.declared.CardCodes.{CardCodes}
 use Rattle.card.specs.declared.CardFrame.{CardFrame}
 use Rattle.card.specs.declared.CardInput.{CardInput}
 use Rattle.card.specs.declared.CardWords.{CardWords}
-use Rattle.card.specs.Flat.{inputOf, flatInput, profileIn, selectorOf, cardOf, withNumber}
+use Rattle.card.specs.declared.quick.Quick.{Quick}
+use Rattle.card.specs.Flat.{inputOf, flatInput, isSelected, profileIn, selectorOf, flatAnswer, cardOf, withNumber}
 
 -- the header's version
 abbrev pub version : ℕ
@@ -78,11 +78,15 @@ steppedCard due stepped = cardOf (stepped .number) (stepped .count) due (stepped
 unfoldable pub dueAfter : ℕ → ℕ → Selector → ℕ
 dueAfter due time state = cond (ltb time due) (lesser due (nextDue state)) (nextDue state)
 
--- all of the plain step
-unfoldable pub plainCard : Card → Event → FrameRead → Card
-plainCard card event read =
-    let stepped = stepRead (selectorOf card) event read in
-    steppedCard (dueAfter (card .due) (event .time) (stepped .state)) stepped
+-- all of the plain step, of a selector with such a time
+unfoldable pub plainOf : Selector → ℕ → Event → FrameRead → Card
+plainOf state due event read =
+    let stepped = stepRead state event read in
+    steppedCard (dueAfter due (event .time) (stepped .state)) stepped
+
+-- of a card
+abbrev pub plainCard : Card → Event → FrameRead → Card
+plainCard card event read = plainOf (selectorOf card) (card .due) event read
 
 -- what a lent frame says to an event: it is looked at for a frame event alone
 unfoldable pub readFor : ℕ → List ℕ → FrameRead
@@ -101,23 +105,18 @@ isRanged told =
 abbrev pub profileHeld : Card → Profile
 profileHeld card = profileIn (card .option) (card .place) (card .marks)
 
--- where an event's own input stands; where there is no such input, its number taken round
-abbrev pub ownPlace : Event → ℕ
-ownPlace event = event .input % inputCount
+-- where an input stands; where there is no such input, its number taken round
+abbrev pub ownPlace : ℕ → ℕ
+ownPlace number = number % inputCount
 
 -- that place, among the sixteen
 pub record StandsAt (inputs : List CardInput) (number place : ℕ) : Type 0 where
-  pub own : place ≡ number % inputCount
+  pub own : place ≡ ownPlace number
   pub inside : place < length inputs
 
--- that input
-abbrev pub ownInput : Card → Event → Input
-ownInput card event = inputOf (getD (card .inputs) (ownPlace event) (flatInput freshInput))
-
--- the number that an event is refused with at once
-abbrev pub refusedWith : Card → Event → FrameRead → ℕ
-refusedWith card event read =
-    earlyRefusal (limitsOf (profileHeld card)) (card .time) (ownInput card event .settings .kind) event read
+-- the record of an event's own input
+abbrev pub ownFlat : Card → Event → CardInput
+ownFlat card event = getD (card .inputs) (ownPlace (event .input)) (flatInput freshInput)
 
 -- before anything is due, an event says again what its own input heard before; a tick says nothing
 unfoldable pub isQuick : Input → Profile → ℕ → Event → FrameRead → Bool
@@ -125,28 +124,78 @@ isQuick before profile due event read =
     ltb (event .time) due &&
     isAgain before profile (event .kind) (recordedArgument (event .kind) (event .argument) read)
 
--- the card after such an event: a frame is remembered, the time moves, and nothing was served
-abbrev pub againCard : Card → ℕ → Own → Card
-againCard card place own =
+-- whether an event is quick, and what one that is writes
+abbrev pub quickOf : Bool → ℕ → ℕ → ℕ → ℕ → Quick
+quickOf is framed time due number = record { is = is; framed = framed; time = time; due = due; number = number }
+
+-- an event that is not quick
+abbrev pub notQuick : Quick
+notQuick = quickOf false 0 0 0 accepted
+
+-- an event on a card whose answer names what is there, of its own input's record: refused at once; or said again, as
+-- crate `watch` has it; no other is quick
+unfoldable pub quickStep : CardInput → CardAnswer → Profile → ℕ → ℕ → Event → FrameRead → Quick
+quickStep flat told profile time due event read =
+    let early = earlyRefusal (limitsOf profile) time (inputOf flat .settings .kind) event read in
+    let own = againOwn (inputOf flat) due event in
+    cond (not (isRanged told)) notQuick
+    (cond (not (eqb early accepted)) (quickOf true (flat .framed) time due early)
+    (cond (isQuick (inputOf flat) profile due event read)
+    (quickOf true (own .input .heard .framed) (own .time) (own .due) (own .number))
+    notQuick))
+
+-- a record whose last frame came at another time
+abbrev pub framedFlat : CardInput → ℕ → CardInput
+framedFlat flat framed =
     record {
-      inputs = set (card .inputs) place (flatInput (own .input));
-      time = own .time;
-      due = own .due;
+      framed = framed;
+      start = flat .start;
+      holdoff = flat .holdoff;
+      wait = flat .wait;
+      priority = flat .priority;
+      fixed = flat .fixed;
+      kind = flat .kind;
+      locked = flat .locked;
+      sending = flat .sending;
+      frame = flat .frame;
+      line = flat .line;
+      count = flat .count;
+      signal = flat .signal;
+      good = flat .good;
+      failed = flat .failed;
+      up = flat .up;
+      floor = flat .floor;
+      last = flat .last;
+      spare2 = flat .spare2;
+      spare4 = flat .spare4;
+    }
+
+-- an answer with another number
+abbrev pub numbered : CardAnswer → ℕ → CardAnswer
+numbered told number =
+    record {
+      number = number;
+      selected = told .selected;
+      state = told .state;
+      quality = told .quality;
+      switch = told .switch;
+      on = told .on;
+    }
+
+-- the card after a quick event: of its own input's record the time of the last frame is written, and nothing was served
+abbrev pub quickCard : Card → ℕ → Quick → Card
+quickCard card place quick =
+    record {
+      inputs = set (card .inputs) place (framedFlat (getD (card .inputs) place (flatInput freshInput)) (quick .framed));
+      time = quick .time;
+      due = quick .due;
       mode = card .mode;
       held = card .held;
       switch = card .switch;
       on = card .on;
       selection = card .selection;
       selected = card .selected;
-      answer =
-          record {
-            number = own .number;
-            selected = card .answer .selected;
-            state = card .answer .state;
-            quality = card .answer .quality;
-            switch = card .answer .switch;
-            on = card .answer .on;
-          };
+      answer = numbered (card .answer) (quick .number);
       served = 0;
       option = card .option;
       place = card .place;
@@ -154,15 +203,58 @@ againCard card place own =
       spare = card .spare;
     }
 
--- the card after one event: refused at once; or quick; or by the plain step, which also takes a card whose answer names
--- what is not there
+-- a time before which nothing is due: the one that is kept; once it has come, when something is next due
+unfoldable pub dueHeld : ℕ → ℕ → Selector → ℕ
+dueHeld due time state = cond (ltb time due) due (nextDue state)
+
+-- an event takes the plain step: refused at once; or something is due by its time, or it commands, as crate `watch` has it
+unfoldable pub isPlain : Selector → ℕ → Event → FrameRead → Bool
+isPlain state due event read =
+    let before = getD (state .inputs) (ownPlace (event .input)) freshInput in
+    not (eqb (earlyRefusal (limitsOf (state .profile)) (state .time) (before .settings .kind) event read) accepted) ||
+    isServed (dueHeld due (event .time) state) (event .kind) (event .time)
+
+-- any other is taken by its own input, and a choice is made
+unfoldable pub takenState : Selector → Event → FrameRead → Selector
+takenState state event read =
+    let place = ownPlace (event .input) in
+    let own = inputAfter (getD (state .inputs) place freshInput) (recordedEvent (state .profile) event read) (state .mode) in
+    decided (movedTo state (set (state .inputs) place own) (event .time))
+
+-- the card after it: its own input's record, the time and what a choice changes are written, and nothing was served
+abbrev pub chosenCard : Card → ℕ → ℕ → Selector → Card
+chosenCard card place due after =
+    record {
+      inputs = set (card .inputs) place (flatInput (getD (after .inputs) place freshInput));
+      time = after .time;
+      due = due;
+      mode = card .mode;
+      held = flag (after .held);
+      switch = switchNumber (after .switch);
+      on = switchInput (after .switch);
+      selection = isSelected (after .selection);
+      selected = selectedNumber (after .selection);
+      answer = flatAnswer (answerOf accepted after);
+      served = 0;
+      option = card .option;
+      place = card .place;
+      marks = card .marks;
+      spare = card .spare;
+    }
+
+-- the card after an event that is not quick
+unfoldable pub wholeCard : Card → Event → FrameRead → Card
+wholeCard card event read =
+    let state = selectorOf card in
+    let after = takenState state event read in
+    cond (isPlain state (card .due) event read) (plainOf state (card .due) event read)
+    (chosenCard card (ownPlace (event .input)) (dueAfter (card .due) (event .time) after) after)
+
+-- the card after one event
 unfoldable pub eventCard : Card → Event → FrameRead → Card
 eventCard card event read =
-    cond (not (isRanged (card .answer))) (plainCard card event read)
-    (cond (not (eqb (refusedWith card event read) accepted)) (withNumber card (refusedWith card event read) 0)
-    (cond (isQuick (ownInput card event) (profileHeld card) (card .due) event read)
-    (againCard card (ownPlace event) (againOwn (ownInput card event) (card .due) event))
-    (plainCard card event read)))
+    let quick = quickStep (ownFlat card event) (card .answer) (profileHeld card) (card .time) (card .due) event read in
+    cond (quick .is) (quickCard card (ownPlace (event .input)) quick) (wholeCard card event read)
 
 -- the card after one event with a lent frame, with its answer
 unfoldable pub stepCard : Card → ℕ → ℕ → ℕ → ℕ → List ℕ → Card

@@ -149,7 +149,7 @@ fn is_command(kind: u8) -> bool
 }
 
 // Whether an event has to be served: something is due by its time, or it commands.
-fn is_served(due: u64, kind: u8, time: u64) -> bool
+pub fn is_served(due: u64, kind: u8, time: u64) -> bool
     ensures { λ answer. ⌜ answer ≡ isServed due kind time ⌝ }
 {
     if due <= time {
