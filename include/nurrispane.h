@@ -134,7 +134,7 @@ extern "C" {
 #define NURRISPANE_NEVER UINT64_MAX
 
 /* No call takes more stack than this. */
-#define NURRISPANE_STACK 20480
+#define NURRISPANE_STACK 22528
 
 /*
  * The profile, chosen once, with nurrispane_fresh(). Of option II the place of PROV, 0 for none and

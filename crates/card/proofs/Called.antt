@@ -52,6 +52,7 @@ use Rattle.card.specs.Flat.{isSet, inputOf, flatInput, flatAnswer, switc
 use Rattle.card.specs.Card.{steppedCard, dueAfter, plainOf, namesInput, isRanged, profileHeld, ownPlace, StandsAt, ownFlat, isQuick, quickOf, notQuick, quickStep, framedFlat, numbered, quickCard, dueHeld, isPlain, takenState, chosenCard, wholeCard, eventCard, readFor}
 use Rattle.card.specs.Range.{IsInput, InRange}
 use Rattle.card.proofs.Laws.{dueAfter-kept, quickStep-refused, quickStep-again, quickStep-slow, eventCard-quick, eventCard-whole}
+use Rattle.card.proofs.Element.{set-same, set-map}
 use Rattle.card.proofs.Range.{On, Named, cardOf-inRange}
 use Rattle.card.proofs.Again.{againDue-other, again-bound, againDue-later, Free, stepRead-own, stepRead-again, again-ends, answer-again, stepRead-time}
 
@@ -107,12 +108,6 @@ pub withNumber-cardOf : (number other count later due : ℕ) (state : Selector)
 unfolding cardOf answerOf
 withNumber-cardOf number other count later due state = refl
 
--- an element of a list, and of the list of what each comes to
-set-map : {A B : Type 0} (f : A → B) (list : List A) (at : ℕ) (x : A) → set (map f list) at (f x) ≡ map f (set list at x)
-set-map f [] at x = refl
-set-map f (y ∷ list) zero x = refl
-set-map {B = B} f (y ∷ list) (suc at) x = ap (λ (rest : List B). f y ∷ rest) (set-map f list at x)
-
 -- a time before which nothing is due
 dueAfter-bound : (due time : ℕ) (state : Selector) → dueAfter due time state ≤ nextDue state
 unfolding dueAfter
@@ -141,12 +136,6 @@ isRanged-inRange card range =
     names : (number : ℕ) → IsInput number → namesInput number ≡ true
     names number (inl few) = rw (le-leb number lastInput few)
     names number (inr none) = rw none
-
--- a list with what it has at a place put there
-set-same : {A : Type 0} (list : List A) (at : ℕ) (other : A) → set list at (getD list at other) ≡ list
-set-same [] at other = refl
-set-same (x ∷ list) zero other = refl
-set-same {A = A} (x ∷ list) (suc at) other = ap (λ (rest : List A). x ∷ rest) (set-same list at other)
 
 -- the record of an input that was told again what it heard
 framed-again : (input : Input) (kind time : ℕ)

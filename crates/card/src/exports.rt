@@ -10,11 +10,13 @@ use crate::card_frame;
 use crate::card_words;
 use crate::known::CardStatus;
 use crate::known::card_status;
+use crate::quick::quick_call;
+use crate::quick::whole_call;
 use crate::self_test::self_test;
 use crate::sound::is_sound;
 use crate::start_card;
-use crate::step_card;
 use crate::write_port;
+use numbers::INPUT_COUNT;
 ghost use mathlib.Core.Path.{_≡_};
 ghost use Rattle.card.specs.Flat.{isSet};
 ghost use Rattle.card.specs.Status.{cardStatus};
@@ -76,7 +78,8 @@ pub extern "C" fn nurrispane_fresh(card: &mut Card, option: u8, place: u8, marks
 }
 
 // One event with a lent frame, which is looked at for a frame event alone: the card after it, with
-// the answer, takes the place of the card before it.
+// the answer, takes the place of the card before it. What a quick event writes is written in place;
+// any other copies the card out and back.
 #[no_mangle]
 pub extern "C" fn nurrispane_step(
     card: &mut Card,
@@ -90,8 +93,32 @@ pub extern "C" fn nurrispane_step(
         now (card .exit) ≡
         stepCard (now (card .entry)) kind time input argument (now (frame .entry)) ⌝ }
 {
+    let place = (input % INPUT_COUNT) as usize;
+    let flat = card.inputs[place];
+    let quick = quick_call(
+        flat,
+        card.answer,
+        card.option,
+        card.place,
+        card.marks,
+        card.time,
+        card.due,
+        kind,
+        time,
+        input,
+        argument,
+        frame,
+    );
+    if quick.is {
+        card.inputs[place].framed = quick.framed;
+        card.time = quick.time;
+        card.due = quick.due;
+        card.answer.number = quick.number;
+        card.served = 0;
+        return;
+    }
     let old = *card;
-    let new = step_card(old, kind, time, input, argument, frame);
+    let new = whole_call(old, kind, time, input, argument, frame);
     *card = new;
 }
 
