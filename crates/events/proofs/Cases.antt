@@ -2,7 +2,7 @@
 use mathlib.Core.Path.{refl}
 use Rattle.numbers.specs.Codes.{saidBy, qualityOfCode, qualityOfWord, saidIn}
 use Rattle.numbers.specs.Profile.{limitsOf, placeOf, floorIn}
-use Rattle.numbers.specs.Kind.{kindOf, inputKindOf, isArgumentOut, isInputOut}
+use Rattle.numbers.specs.Kind.{rowOf, inputKindOf, isArgumentOut, isInputOut}
 use Rattle.frame.specs.Octets.{same}
 use Rattle.frame.specs.Read.{rightLength, rightDestination, rightProtocol, rightOrganisation, rightVersion, rightTlv, frameNumber, readCode}
 use Rattle.run.specs.Run.{isExpired, rawAt, runStart, isUpAfter, lastGood, atMoment, upBefore, broughtTo, passedQuality}
@@ -24,7 +24,7 @@ pub most-reached : MostReached
 unfolding
     S.countAfter S.stateAfter step
     stepRead atItsMoment commanded recordedArgument modeAfter inputsAfter inputAfter heldArgument isHeldInByte
-    lateRefusal isForcedSwitch earlyRefusal frameRefusal isWrongKind firstThatApplies isInputOut isArgumentOut kindOf
+    lateRefusal isForcedSwitch earlyRefusal frameRefusal isWrongKind firstThatApplies isInputOut isArgumentOut rowOf
     served servedFrom nextAmong nextOf frameDue timerDue ifLater sumOrNever lesser
     ticked decided candidateFor decide isHeld isClockLocked selectedBy judged manualMayStand
     choose scanned offered seeded lowerAmong isLower isBetter isEligible candidateOf rankedQuality isAdmitted isUsable isPlaced rankOf

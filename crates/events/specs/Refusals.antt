@@ -9,7 +9,7 @@ use Rattle.numbers.specs.declared.Event.{Event}
 use Rattle.numbers.specs.declared.InputKind.{InputKind}
 use Rattle.numbers.specs.declared.Limits.{Limits}
 use Rattle.numbers.specs.Inputs.{timeLimit}
-use Rattle.numbers.specs.Kind.{kindOf, rowOf, isInputOut, isArgumentOut, takesCodes, takesFrames, takesWords, kindFrame, kindLineCode, kindWord, kindForced, kindManual}
+use Rattle.numbers.specs.Kind.{rowOf, isInputOut, isArgumentOut, takesCodes, takesFrames, takesWords, kindFrame, kindLineCode, kindWord, kindForced, kindManual}
 use Rattle.numbers.specs.Refusal.{accepted, kindUnknown, timeTooLarge, timeBeforeState, inputOutOfRange, argumentOutOfRange, wrongInputKind, forcedBarred, manualForcedStands, manualNotEligible, manualLowerQuality}
 use Rattle.frame.specs.declared.FrameRead.{FrameRead}
 use Rattle.frame.specs.Read.{numberOfRead}
@@ -49,11 +49,11 @@ frameRefusal kind read = cond (eqb kind kindFrame) (numberOfRead read) accepted
 -- rows 2 to 13, by an option's limits, for a state at a time, whose input has a kind
 abbrev pub earlyRows : Limits → ℕ → InputKind → Event → FrameRead → List Refusal
 earlyRows limits time at event read =
-    refusal kindUnknown (not (rowOf limits (kindOf (event .kind)) .known)) ∷
+    refusal kindUnknown (not (rowOf limits (event .kind) .known)) ∷
     refusal timeTooLarge (leb timeLimit (event .time)) ∷
     refusal timeBeforeState (ltb (event .time) time) ∷
-    refusal inputOutOfRange (isInputOut (rowOf limits (kindOf (event .kind))) (event .input)) ∷
-    refusal argumentOutOfRange (isArgumentOut (rowOf limits (kindOf (event .kind))) (event .argument)) ∷
+    refusal inputOutOfRange (isInputOut (rowOf limits (event .kind)) (event .input)) ∷
+    refusal argumentOutOfRange (isArgumentOut (rowOf limits (event .kind)) (event .argument)) ∷
     refusal wrongInputKind (isWrongKind (event .kind) at) ∷
     refusal (frameRefusal (event .kind) read) (not (eqb (frameRefusal (event .kind) read) accepted)) ∷
     []

@@ -6,7 +6,7 @@ use mathlib.Core.Path.{_≡_}
 use Rattle.numbers.specs.declared.Profile.{Profile}
 use Rattle.numbers.specs.declared.Quality.{Quality}
 use Rattle.numbers.specs.From.{started, _following_, profileOf}
-use Rattle.numbers.specs.Kind.{kindOf, rowOf}
+use Rattle.numbers.specs.Kind.{rowOf}
 use Rattle.numbers.specs.Profile.{limitsOf}
 use Rattle.numbers.specs.Quality.{quality, prov}
 use Rattle.numbers.specs.Refusal.{accepted, kindUnknown, timeTooLarge, timeBeforeState}
@@ -60,7 +60,7 @@ pub record OneTime (minimum : Quality) (half : Half) (addressed : Addressed) (ea
   -- "and checks 3 and 4 against it": where the time does not pass, a known kind is 3 or 4; one that is unknown is 2
   pub refused : timeNumber (unitTime earlier) (timeIn addressed) ≢ accepted → isFor half addressed earlier ≡ true
       → halfNumber minimum half addressed earlier ≡
-      cond (rowOf (limitsOf (profileOf earlier)) (kindOf (addressed .given .event .kind)) .known)
+      cond (rowOf (limitsOf (profileOf earlier)) (addressed .given .event .kind) .known)
       (timeNumber (unitTime earlier) (timeIn addressed))
       kindUnknown
   -- and where it passes, neither is given
