@@ -3,6 +3,7 @@ use mathlib.Core.Path.{_≡_, refl}
 use Rattle.numbers.specs.Profile.{limitsOf, placeOf, marksOf, floorIn}
 use Rattle.numbers.specs.Codes.{saidBy, qualityOfCode, qualityOfWord, saidIn}
 use Rattle.numbers.specs.Kind.{rowOf, inputKindOf, isArgumentOut, isInputOut}
+use Rattle.numbers.specs.Rows.{firstThatApplies}
 use Rattle.frame.specs.Octets.{same}
 use Rattle.frame.specs.Read.{rightLength, rightDestination, rightProtocol, rightOrganisation, rightVersion, rightTlv, frameNumber, readCode}
 use Rattle.frame.specs.Write.{headerOctets, dataOctets, frameOctets, writeAnswer}
@@ -18,7 +19,7 @@ use Rattle.selector.specs.Answer.{selectedCandidate, answerOf}
 use Rattle.selector.specs.Clock.{clockState, clockQuality, selectedNumber, switchNumber, switchInput}
 use Rattle.due.specs.Next.{lesser, sumOrNever, ifLater, timerDue, frameDue, nextOf, nextAmong}
 use Rattle.due.specs.Served.{servedFrom, served}
-use Rattle.events.specs.Refusals.{firstThatApplies, isWrongKind, frameRefusal, earlyRefusal, isForcedSwitch, lateRefusal}
+use Rattle.events.specs.Refusals.{isWrongKind, frameRefusal, earlyRefusal, isForcedSwitch, lateRefusal}
 use Rattle.events.specs.Step.{isHeldInByte, heldArgument, inputAfter, inputsAfter, modeAfter, atItsMoment, stepRead}
 use Rattle.events.specs.Given.{recordedArgument}
 use Rattle.card.specs.Flat.{inputOf, flatInput, switchOf, selectionOf, isSelected, profileIn, optionOf, selectorOf, cardOf}

@@ -3,6 +3,7 @@ use mathlib.Core.Path.{refl}
 use Rattle.numbers.specs.Codes.{saidBy, qualityOfCode, qualityOfWord, saidIn}
 use Rattle.numbers.specs.Profile.{limitsOf, placeOf, floorIn}
 use Rattle.numbers.specs.Kind.{rowOf, inputKindOf, isArgumentOut, isInputOut}
+use Rattle.numbers.specs.Rows.{firstThatApplies}
 use Rattle.frame.specs.Octets.{same}
 use Rattle.frame.specs.Read.{rightLength, rightDestination, rightProtocol, rightOrganisation, rightVersion, rightTlv, frameNumber, readCode}
 use Rattle.run.specs.Run.{isExpired, rawAt, runStart, isUpAfter, lastGood, atMoment, upBefore, broughtTo, passedQuality}
@@ -15,7 +16,7 @@ use Rattle.decision.specs.Decision.{manualMayStand, judged, selectedBy, isClock
 use Rattle.selector.specs.State.{candidateFor, decided, ticked}
 use Rattle.due.specs.Next.{lesser, sumOrNever, ifLater, timerDue, frameDue, nextOf, nextAmong}
 use Rattle.due.specs.Served.{servedFrom, served}
-use Rattle.events.specs.Refusals.{firstThatApplies, isWrongKind, frameRefusal, earlyRefusal, isForcedSwitch, lateRefusal}
+use Rattle.events.specs.Refusals.{isWrongKind, frameRefusal, earlyRefusal, isForcedSwitch, lateRefusal}
 use Rattle.events.specs.Step.{isHeldInByte, heldArgument, inputAfter, inputsAfter, modeAfter, recordedArgument, atItsMoment, stepRead, step}
 use Rattle.events.specs.Sequence as S
 use Rattle.events.specs.Cases.{allFollowing, MostReached}

@@ -1,17 +1,18 @@
 -- Rows 14 to 17 of the table, by the tests that the definitions compute and in the words of demand 3. Assumes nothing.
-use Prim.Native.Nat.{ℕ, suc, _<_}
+use Prim.Native.Nat.{ℕ, _<_}
 use mathlib.Core.Bool.{Bool, true, false, not, _&&_, true≢false, false≢true}
-use mathlib.Core.List.{List, [], _∷_}
-use mathlib.Core.Logic.{_⊎_, inl, inr, _↔_, Iff·trans}
-use mathlib.Core.Path.{_≡_, refl, sym, _∙_, ap, subst}
-use native.Mathlib.Omega.{arith}
+use mathlib.Core.List.{List}
+use mathlib.Core.Logic.{_↔_, Iff·trans}
+use mathlib.Core.Path.{_≡_, refl, sym, _∙_}
 use lib.Dec.{eqb}
 use lib.ListN.{getD}
 use borrow.Author.Tests.{eqb-true, eq-eqb, not-true}
 use Rattle.numbers.proofs.Truth.{byBool}
+use Rattle.numbers.proofs.Rows.{testOf, row-exact}
 use Rattle.numbers.specs.Inputs.{inputCount}
 use Rattle.numbers.specs.Kind.{kindForced, kindManual}
 use Rattle.numbers.specs.Refusal.{forcedBarred, manualForcedStands, manualNotEligible, manualLowerQuality}
+use Rattle.numbers.specs.Rows.{RowApplies}
 use Rattle.input.specs.Recorded.{History}
 use Rattle.choice.specs.Candidate.{nobody, eligibleAmong, anyLower}
 use Rattle.choice.proofs.Choosing.{both-first, both-second, contra}
@@ -21,12 +22,11 @@ use Rattle.decision.specs.declared.Switch.the-variants as W
 use Rattle.decision.specs.Decision.{forcedMayStand}
 use Rattle.decision.specs.Choices.{forcedOn}
 use Rattle.decision.proofs.Standing.{nothing-forced, forced-manual}
-use Rattle.events.specs.Refusals.{Refusal, refusal, isForcedSwitch}
+use Rattle.events.specs.Refusals.{isForcedSwitch}
 use Rattle.events.specs.Sequence.{Given}
 use Rattle.events.specs.Past.{Made, Past, candidatesBy, decidedBy, tickChoices, rowsAfter}
-use Rattle.events.specs.Demand1.{RowApplies, RowsSaid}
+use Rattle.events.specs.Demand1.{RowsSaid}
 use Rattle.events.specs.Demand3.{Admitted, Eligible, LowerQuality, StandsForced}
-use Rattle.events.proofs.Refused.{RisingFrom, rising-row, applies-least}
 use Rattle.events.proofs.Stated.{admitted-exact, eligible-stated, lower-stated}
 use Rattle.events.proofs.Demand3.{decided-right}
 
@@ -50,26 +50,6 @@ unfolding isForcedSwitch
 forced-exact W.Nothing = (λ x. absurd (false≢true x), λ x. absurd (nothing-forced (x .0) (x .1)))
 forced-exact (W.Forced on) = (λ x. (on .0, refl), λ x. refl)
 forced-exact (W.Manual on) = (λ x. absurd (false≢true x), λ x. absurd (forced-manual (x .0) (on .0) (sym (x .1))))
-
--- ---- a row among the others
-
--- it applies where it stands, and no later one has its number
-row-here : (number next : ℕ) (applies : Bool) (rows : List Refusal) → number < next → RisingFrom next rows
-    → RowApplies number (refusal number applies ∷ rows) ↔ (applies ≡ true)
-row-here number next applies rows later from = (to, λ x. inl (x, refl))
-  where
-    to : RowApplies number (refusal number applies ∷ rows) → applies ≡ true
-    to (inl x) = x .0
-    to (inr x) = absurd (omega (arith, later, applies-least next number rows (from .least) x))
-
--- or it stands further on
-row-later : {A : Type 0} (number first : ℕ) (applies : Bool) (rows : List Refusal) → first < number
-    → RowApplies number rows ↔ A → RowApplies number (refusal first applies ∷ rows) ↔ A
-row-later {A} number first applies rows later exact = (to, λ x. inr (exact .1 x))
-  where
-    to : RowApplies number (refusal first applies ∷ rows) → A
-    to (inl x) = absurd (omega (arith, later, x .1))
-    to (inr x) = exact .0 x
 
 -- ---- the rows in words
 
@@ -133,78 +113,15 @@ module _ (past : Past) (given : Given) where
             }),
       )
 
--- ---- the four rows
-
-module _ (a b c d : Bool) where
-  abbrev from17 : List Refusal
-  from17 = refusal manualLowerQuality d ∷ []
-
-  abbrev from16 : List Refusal
-  from16 = refusal manualNotEligible c ∷ from17
-
-  abbrev from15 : List Refusal
-  from15 = refusal manualForcedStands b ∷ from16
-
-  abbrev from14 : List Refusal
-  from14 = refusal forcedBarred a ∷ from15
-
-  rising-17 : RisingFrom manualLowerQuality from17
-  rising-17 = rising-row manualLowerQuality manualLowerQuality d [] (omega arith) (record { least = tt; rising = tt })
-
-  rising-16 : RisingFrom manualNotEligible from16
-  rising-16 = rising-row manualNotEligible manualLowerQuality c from17 (omega arith) rising-17
-
-  rising-15 : RisingFrom manualForcedStands from15
-  rising-15 = rising-row manualForcedStands manualNotEligible b from16 (omega arith) rising-16
-
-  row-14 : RowApplies forcedBarred from14 ↔ (a ≡ true)
-  row-14 = row-here forcedBarred manualForcedStands a from15 (omega arith) rising-15
-
-  row-15 : RowApplies manualForcedStands from14 ↔ (b ≡ true)
-  row-15 =
-      row-later manualForcedStands forcedBarred a from15 (omega arith)
-      (row-here manualForcedStands manualNotEligible b from16 (omega arith) rising-16)
-
-  row-16 : RowApplies manualNotEligible from14 ↔ (c ≡ true)
-  row-16 =
-      row-later manualNotEligible forcedBarred a from15 (omega arith)
-      (row-later manualNotEligible manualForcedStands b from16 (omega arith)
-      (row-here manualNotEligible manualLowerQuality c from17 (omega arith) rising-17))
-
-  row-17 : RowApplies manualLowerQuality from14 ↔ (d ≡ true)
-  row-17 =
-      row-later manualLowerQuality forcedBarred a from15 (omega arith)
-      (row-later manualLowerQuality manualForcedStands b from16 (omega arith)
-      (row-later manualLowerQuality manualNotEligible c from17 (omega arith)
-      (row-here manualLowerQuality (suc manualLowerQuality) d [] (omega arith) (record { least = tt; rising = tt }))))
-
 -- rows 14 to 17 apply as said, whatever has happened
 pub rows-said : (past : Past) (given : Given) → RowsSaid past given
 rows-said past given =
     record {
-      fourteen = Iff·trans (row-14 a b c d) (said-14 past given);
-      fifteen = Iff·trans (row-15 a b c d) (said-15 past given);
-      sixteen = Iff·trans (row-16 a b c d) (said-16 past given);
-      seventeen = λ inside. Iff·trans (row-17 a b c d) (said-17 past given inside);
+      fourteen = Iff·trans (row forcedBarred) (said-14 past given);
+      fifteen = Iff·trans (row manualForcedStands) (said-15 past given);
+      sixteen = Iff·trans (row manualNotEligible) (said-16 past given);
+      seventeen = λ inside. Iff·trans (row manualLowerQuality) (said-17 past given inside);
     }
   where
-    a : Bool
-    a =
-        eqb (given .event .kind) kindForced &&
-        not (forcedMayStand (candidatesBy (past .history) (given .event .time)) (given .event .input))
-
-    b : Bool
-    b =
-        eqb (given .event .kind) kindManual &&
-        isForcedSwitch (decidedBy (tickChoices (past .history) (given .event .time) (past .made)) .switch)
-
-    c : Bool
-    c =
-        eqb (given .event .kind) kindManual &&
-        not (eligibleAmong (candidatesBy (past .history) (given .event .time)) (given .event .input))
-
-    d : Bool
-    d =
-        eqb (given .event .kind) kindManual &&
-        anyLower (candidatesBy (past .history) (given .event .time))
-        (getD (candidatesBy (past .history) (given .event .time)) (given .event .input) nobody .rank)
+    row : (number : ℕ) → RowApplies number (rowsAfter past given) ↔ (testOf number (rowsAfter past given) ≡ true)
+    row number = row-exact forcedBarred number (rowsAfter past given) refl

@@ -2,7 +2,7 @@
 -- Assumes nothing.
 use Prim.Native.Nat.{ℕ}
 use mathlib.Core.Bool.{Bool, true, false, not, _&&_, cond}
-use mathlib.Core.List.{List, [], _∷_}
+use mathlib.Core.List.{List, [], _∷_, _++_}
 use lib.Dec.{eqb, leb, ltb}
 use lib.ListN.{getD}
 use Rattle.numbers.specs.declared.Event.{Event}
@@ -11,27 +11,14 @@ use Rattle.numbers.specs.declared.Limits.{Limits}
 use Rattle.numbers.specs.Inputs.{timeLimit}
 use Rattle.numbers.specs.Kind.{rowOf, isInputOut, isArgumentOut, takesCodes, takesFrames, takesWords, kindFrame, kindLineCode, kindWord, kindForced, kindManual}
 use Rattle.numbers.specs.Refusal.{accepted, kindUnknown, timeTooLarge, timeBeforeState, inputOutOfRange, argumentOutOfRange, wrongInputKind, forcedBarred, manualForcedStands, manualNotEligible, manualLowerQuality}
+use Rattle.numbers.specs.Rows.{Refusal, refusal, firstThatApplies}
 use Rattle.frame.specs.declared.FrameRead.{FrameRead}
-use Rattle.frame.specs.Read.{numberOfRead}
+use Rattle.frame.specs.Read.{frameRows, numberOfRead}
 use Rattle.choice.specs.declared.Candidate.{Candidate}
 use Rattle.choice.specs.Candidate.{nobody, eligibleAmong, anyLower}
 use Rattle.decision.specs.declared.Switch.{Switch}
 use Rattle.decision.specs.declared.Switch.the-variants as W
 use Rattle.decision.specs.Decision.{forcedMayStand}
-
--- a row of the table: its number, and whether it applies
-pub record Refusal : Type 0 where
-  pub number : ℕ
-  pub applies : Bool
-
--- a row
-abbrev pub refusal : ℕ → Bool → Refusal
-refusal number applies = record { number = number; applies = applies }
-
--- "The smallest number that applies is given": the first row that applies, of rows in rising order; 0 where none does
-unfoldable pub firstThatApplies : List Refusal → ℕ
-firstThatApplies [] = accepted
-firstThatApplies (row ∷ rows) = cond (row .applies) (row .number) (firstThatApplies rows)
 
 -- "code for an Ethernet input, frame for a line input"; document 02, L12: "A word sent to an input of another kind is
 -- refusal 7, a code or frame sent to this kind too"
@@ -42,25 +29,33 @@ isWrongKind kind at =
     (cond (eqb kind kindWord) (not (takesWords at))
     false))
 
--- the number of a frame's reading, 8 to 13 where the frame is refused; of a frame event alone
-unfoldable pub frameRefusal : ℕ → FrameRead → ℕ
-frameRefusal kind read = cond (eqb kind kindFrame) (numberOfRead read) accepted
-
--- rows 2 to 13, by an option's limits, for a state at a time, whose input has a kind
-abbrev pub earlyRows : Limits → ℕ → InputKind → Event → FrameRead → List Refusal
-earlyRows limits time at event read =
+-- rows 2 to 7, by an option's limits, for a state at a time, whose input has a kind
+abbrev pub earlyRows : Limits → ℕ → InputKind → Event → List Refusal
+earlyRows limits time at event =
     refusal kindUnknown (not (rowOf limits (event .kind) .known)) ∷
     refusal timeTooLarge (leb timeLimit (event .time)) ∷
     refusal timeBeforeState (ltb (event .time) time) ∷
     refusal inputOutOfRange (isInputOut (rowOf limits (event .kind)) (event .input)) ∷
     refusal argumentOutOfRange (isArgumentOut (rowOf limits (event .kind)) (event .argument)) ∷
     refusal wrongInputKind (isWrongKind (event .kind) at) ∷
-    refusal (frameRefusal (event .kind) read) (not (eqb (frameRefusal (event .kind) read) accepted)) ∷
     []
 
--- the number of an event that is refused before the tick
+-- rows 8 to 13, of a frame event alone
+abbrev pub frameEventRows : ℕ → List ℕ → List Refusal
+frameEventRows kind frame = cond (eqb kind kindFrame) (frameRows frame) []
+
+-- the number of a frame's reading, 8 to 13 where the frame is refused; of a frame event alone
+unfoldable pub frameRefusal : ℕ → FrameRead → ℕ
+frameRefusal kind read = cond (eqb kind kindFrame) (numberOfRead read) accepted
+
+-- rows 8 to 13 by a frame's reading, all that the code has of it: one row, with the number that it was read with
+abbrev pub readRow : ℕ → FrameRead → Refusal
+readRow kind read = refusal (frameRefusal kind read) (not (eqb (frameRefusal kind read) accepted))
+
+-- the number of an event that is refused before the tick, by its frame's reading
 unfoldable pub earlyRefusal : Limits → ℕ → InputKind → Event → FrameRead → ℕ
-earlyRefusal limits time at event read = firstThatApplies (earlyRows limits time at event read)
+earlyRefusal limits time at event read =
+    firstThatApplies (earlyRows limits time at event ++ readRow (event .kind) read ∷ [])
 
 -- "a forced switch stands"
 unfoldable pub isForcedSwitch : Switch → Bool

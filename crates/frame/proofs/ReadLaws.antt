@@ -10,9 +10,11 @@ use lib.ListN.{length}
 use lib.Seq.{slice-cons, slice-empty}
 use borrow.Author.Tests.{eq-eqb, ne-eqb, eqb-true, leb-true, le-leb, lt-leb}
 use Rattle.numbers.specs.Refusal.{accepted, frameLength, frameDestination, frameProtocol, frameOrganisation, frameVersion, frameTlv}
+use Rattle.numbers.specs.Rows.{firstThatApplies}
+use Rattle.numbers.proofs.Rows.{NoneOrWithin, first-within}
 use Rattle.frame.specs.declared.FrameRead.the-variants.{Code, Refused}
 use Rattle.frame.specs.Octets.{shortestFrame, longestFrame, octet}
-use Rattle.frame.specs.Read.{rightLength, rightDestination, rightProtocol, rightOrganisation, rightVersion, rightTlv, frameNumber, frameCode, eventFlag, sourceAddress, message, noAddress, readCode, readFrame, numberOfRead}
+use Rattle.frame.specs.Read.{rightLength, rightDestination, rightProtocol, rightOrganisation, rightVersion, rightTlv, frameRows, frameNumber, frameCode, eventFlag, sourceAddress, message, noAddress, readCode, readFrame, numberOfRead}
 
 module _ (frame : List ℕ) where
   -- ---- rightLength
@@ -33,7 +35,7 @@ module _ (frame : List ℕ) where
 
   -- a frame that is accepted is not too short
   pub frameNumber-accepted : frameNumber frame ≡ accepted → shortestFrame ≤ length frame
-  unfolding frameNumber rightLength
+  unfolding frameNumber firstThatApplies rightLength
   frameNumber-accepted = go (leb shortestFrame (length frame)) refl
     where
       go :
@@ -43,38 +45,43 @@ module _ (frame : List ℕ) where
       go true long number = leb-true _ _ long
       go false short number = let wrong : _≡_ {A = ℕ} frameLength accepted = rw short at number in absurd (omega arith)
 
+  -- a frame is accepted, or refused with 8 to 13
+  pub frameNumber-within : NoneOrWithin frameLength frameTlv (frameNumber frame)
+  unfolding frameNumber
+  frameNumber-within = first-within frameLength frameTlv (frameRows frame) refl
+
   -- the number in each case, by the first part that is not right
   pub frameNumber-length : rightLength frame ≡ false → frameLength ≡ frameNumber frame
-  unfolding frameNumber
+  unfolding frameNumber firstThatApplies
   frameNumber-length wrong = rw wrong
 
   module _ (sized : rightLength frame ≡ true) where
     pub frameNumber-destination : rightDestination frame ≡ false → frameDestination ≡ frameNumber frame
-    unfolding frameNumber
+    unfolding frameNumber firstThatApplies
     frameNumber-destination wrong = rw (sized, wrong)
 
     module _ (addressed : rightDestination frame ≡ true) where
       pub frameNumber-protocol : rightProtocol frame ≡ false → frameProtocol ≡ frameNumber frame
-      unfolding frameNumber
+      unfolding frameNumber firstThatApplies
       frameNumber-protocol wrong = rw (sized, addressed, wrong)
 
       module _ (slow : rightProtocol frame ≡ true) where
         pub frameNumber-organisation : rightOrganisation frame ≡ false → frameOrganisation ≡ frameNumber frame
-        unfolding frameNumber
+        unfolding frameNumber firstThatApplies
         frameNumber-organisation wrong = rw (sized, addressed, slow, wrong)
 
         module _ (standard : rightOrganisation frame ≡ true) where
           pub frameNumber-version : rightVersion frame ≡ false → frameVersion ≡ frameNumber frame
-          unfolding frameNumber
+          unfolding frameNumber firstThatApplies
           frameNumber-version wrong = rw (sized, addressed, slow, standard, wrong)
 
           module _ (known : rightVersion frame ≡ true) where
             pub frameNumber-tlv : rightTlv frame ≡ false → frameTlv ≡ frameNumber frame
-            unfolding frameNumber
+            unfolding frameNumber firstThatApplies
             frameNumber-tlv wrong = rw (sized, addressed, slow, standard, known, wrong)
 
             pub frameNumber-none : rightTlv frame ≡ true → accepted ≡ frameNumber frame
-            unfolding frameNumber
+            unfolding frameNumber firstThatApplies
             frameNumber-none right = rw (sized, addressed, slow, standard, known, right)
 
   -- ---- readCode

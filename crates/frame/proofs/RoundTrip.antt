@@ -9,6 +9,7 @@ use native.Mathlib.Omega.{arith}
 use lib.Dec.{eqb}
 use lib.ListN.{length, getD, take, drop, length-append}
 use lib.Seq.{take-at, take-take, getD-take, length-take-le}
+use Rattle.numbers.specs.Rows.{firstThatApplies}
 use Rattle.frame.specs.declared.FrameRead.the-variants.{Code}
 use Rattle.frame.specs.declared.FrameWrite.{FrameWrite}
 use Rattle.frame.specs.declared.FrameWrite.the-variants.{Written}
@@ -51,7 +52,8 @@ module _ (a b c d e f : ℕ) (code : ℕ) where
       → readFrame (frameOctets (a ∷ b ∷ c ∷ d ∷ e ∷ f ∷ []) event code)
       ≡ message (Code code) event (a ∷ b ∷ c ∷ d ∷ e ∷ f ∷ [])
   unfolding
-      readFrame frameNumber rightLength rightDestination rightProtocol rightOrganisation rightVersion rightTlv same
+      readFrame frameNumber firstThatApplies
+      rightLength rightDestination rightProtocol rightOrganisation rightVersion rightTlv same
       frameOctets headerOctets dataOctets
   frameOctets-read-six true fits =
       ap (λ (told : ℕ). message (Code told) true (a ∷ b ∷ c ∷ d ∷ e ∷ f ∷ [])) (mod-eq-of-lt fits)

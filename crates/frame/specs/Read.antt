@@ -7,6 +7,7 @@ use mathlib.Core.List.{List, [], _∷_}
 use lib.Dec.{eqb, leb}
 use lib.ListN.{length}
 use Rattle.numbers.specs.Refusal.{accepted, frameLength, frameDestination, frameProtocol, frameOrganisation, frameVersion, frameTlv}
+use Rattle.numbers.specs.Rows.{Refusal, refusal, firstThatApplies}
 use Rattle.frame.specs.declared.FrameRead.{FrameRead}
 use Rattle.frame.specs.declared.FrameRead.the-variants.{Code, Refused}
 use Rattle.frame.specs.declared.FrameMessage.{FrameMessage}
@@ -36,16 +37,20 @@ rightVersion frame = eqb (upperHalf (octet frame 21)) version
 unfoldable pub rightTlv : List ℕ → Bool
 rightTlv frame = same (octets frame 25 27) tlv
 
+-- rows 8 to 13, in the table's order
+abbrev pub frameRows : List ℕ → List Refusal
+frameRows frame =
+    refusal frameLength (not (rightLength frame)) ∷
+    refusal frameDestination (not (rightDestination frame)) ∷
+    refusal frameProtocol (not (rightProtocol frame)) ∷
+    refusal frameOrganisation (not (rightOrganisation frame)) ∷
+    refusal frameVersion (not (rightVersion frame)) ∷
+    refusal frameTlv (not (rightTlv frame)) ∷
+    []
+
 -- "The smallest number that applies is given"; 0 accepted
 unfoldable pub frameNumber : List ℕ → ℕ
-frameNumber frame =
-    cond (not (rightLength frame)) frameLength
-    (cond (not (rightDestination frame)) frameDestination
-    (cond (not (rightProtocol frame)) frameProtocol
-    (cond (not (rightOrganisation frame)) frameOrganisation
-    (cond (not (rightVersion frame)) frameVersion
-    (cond (not (rightTlv frame)) frameTlv
-    accepted)))))
+frameNumber frame = firstThatApplies (frameRows frame)
 
 -- "7-12 source"
 abbrev pub sourceAddress : List ℕ → List ℕ

@@ -15,7 +15,7 @@ use Rattle.numbers.specs.Refusal.{accepted, timeTooLarge, timeBeforeState, inpu
 use Rattle.digits.specs.Digits.{octetsOf}
 use Rattle.frame.specs.Write.{writtenLength, sourceLength}
 use Rattle.selector.specs.declared.Selector.{Selector}
-use Rattle.events.specs.Refusals.{refusal, firstThatApplies}
+use Rattle.numbers.specs.Rows.{refusal, firstThatApplies}
 use Rattle.sender.specs.declared.Heartbeat.{Heartbeat}
 use Rattle.sender.specs.declared.Heartbeat.the-variants as H
 use Rattle.sender.specs.declared.Asked.{Asked}

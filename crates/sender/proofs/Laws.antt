@@ -9,14 +9,14 @@ use lib.ListN.{length, getD, take}
 use borrow.Author.Tests.{eq-eqb, ne-eqb, lt-ltb, le-ltb, le-leb, lt-leb, eqb-true, leb-false, ltb-false, not-false}
 use Rattle.numbers.specs.Inputs.{lastInput, inputCount, timeLimit}
 use Rattle.numbers.specs.Refusal.{accepted, timeTooLarge, timeBeforeState, inputOutOfRange, bufferTooShort, sourceNotSix}
+use Rattle.numbers.specs.Rows.{firstThatApplies}
+use Rattle.numbers.proofs.Rows.{none-exact}
 use Rattle.frame.specs.declared.FrameWrite.{FrameWrite}
 use Rattle.frame.specs.Write.{writtenLength, sourceLength, largestCode, WriteFrame}
 use Rattle.frame.proofs.WriteLaws.{writeAnswer-written}
 use Rattle.selector.specs.declared.Selector.{Selector}
 use Rattle.selector.specs.Answer.{outgoingCodes}
 use Rattle.selector.proofs.Laws.{getD-any, getD-past}
-use Rattle.events.specs.Refusals.{firstThatApplies}
-use Rattle.events.proofs.Refused.{Numbered, given-none}
 use Rattle.sender.specs.declared.Asked.{Asked}
 use Rattle.sender.specs.declared.Heartbeat.{Heartbeat}
 use Rattle.sender.specs.declared.Heartbeat.the-variants as H
@@ -210,18 +210,12 @@ pub record Fit (early : Bool) (port time room octets : ℕ) : Type 0 where
   pub long : writtenLength ≤ room
   pub six : octets ≡ sourceLength
 
-pub rows-numbered : (early : Bool) (port time room octets : ℕ) → Numbered (questionRows early port time room octets)
-rows-numbered early port time room octets = (
-  λ a e. omega arith,
-  (λ a e. omega arith, (λ a e. omega arith, (λ a e. omega arith, (λ a e. omega arith, tt)))),
-)
-
 pub questionNumber-fit : (early : Bool) (port time room octets : ℕ)
     → questionNumber early port time room octets ≡ accepted
     → Fit early port time room octets
 unfolding questionNumber
 questionNumber-fit early port time room octets none =
-    let rows = given-none _ (rows-numbered early port time room octets) none in
+    let rows = none-exact timeTooLarge (questionRows early port time room octets) (omega arith) refl .0 none in
     record {
       inTime = leb-false _ _ (rows .0);
       after = rows .1 .0;

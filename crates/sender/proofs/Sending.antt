@@ -2,24 +2,22 @@
 -- Assumes nothing.
 use Prim.Native.Nat.{ℕ}
 use mathlib.Core.List.{List, [], _∷_}
+use mathlib.Core.Logic.{_≢_}
 use mathlib.Core.Path.{_≡_, refl, sym, _∙_, ap, subst}
 use native.Mathlib.Omega.{arith}
 use lib.Dec.{eqb}
-use lib.ListN.{length}
 use borrow.Author.Tests.{eq-eqb, ne-eqb, eqb-true, eqb-false}
-use Rattle.numbers.specs.Refusal.{accepted, timeTooLarge, timeBeforeState, inputOutOfRange, bufferTooShort, sourceNotSix}
+use Rattle.numbers.specs.Refusal.{accepted, timeTooLarge}
+use Rattle.numbers.specs.Rows.{Refusal, NoneApplies, SmallestRow}
 use Rattle.numbers.proofs.Truth.{byBool}
-use Rattle.events.specs.Refusals.{Refusal}
-use Rattle.events.specs.Demand1.{NoneApplies, SmallestRow}
-use Rattle.events.proofs.Refused.{Numbered, Rising, RisingFrom, rising-row, none-given, smallest-given, smallest-or-none, applies-numbered}
+use Rattle.numbers.proofs.Rows.{none-given, smallest-or-none, applies-numbered, smallest-exact}
 use Rattle.sender.specs.declared.Asked.{Asked}
 use Rattle.sender.specs.declared.Heartbeat.{Heartbeat}
 use Rattle.sender.specs.declared.Heartbeat.the-variants as H
-use Rattle.sender.specs.Heartbeat.{Question, Questions, codeAsked, questionNumber, isEarlier, rowsOver, numberOver, acceptedOf, Sent, heartbeatOver, sentAfter, sentOver, answerOver, heartbeatBy, sentBy, contentBy}
+use Rattle.sender.specs.Heartbeat.{Question, Questions, codeAsked, questionNumber, numberOver, acceptedOf, Sent, heartbeatOver, sentAfter, sentOver, answerOver, heartbeatBy, sentBy, contentBy}
 use Rattle.sender.specs.Sender.{answeredWith, asked}
 use Rattle.sender.specs.Sequence.{sendersAfter, heartbeatAfter, answeredOn}
 use Rattle.sender.specs.Sending.{Sending, rowsBy, Refusing, questionsTo, OwnQuestions}
-use Rattle.sender.proofs.Laws.{rows-numbered}
 use Rattle.sender.proofs.Kept.{Beat, information, event, nothing, heartbeatOver-beat}
 use Rattle.sender.proofs.Agrees.{acceptedOf-other, acceptedOf-refused, acceptedOf-accepted, accepted-falling, heartbeat-accepted, heartbeat-refused, senders-kept}
 
@@ -121,31 +119,19 @@ sending earlier question =
 
 -- ---- refusals
 
-rowsOver-rising : (before : Questions) (question : Question) → Rising (rowsOver before question)
-rowsOver-rising before question = whole .rising
-  where
-    whole : RisingFrom timeTooLarge (rowsOver before question)
-    whole =
-        rising-row timeTooLarge timeBeforeState _ _ (omega arith)
-        (rising-row timeBeforeState inputOutOfRange _ _ (omega arith)
-        (rising-row inputOutOfRange bufferTooShort _ _ (omega arith)
-        (rising-row bufferTooShort sourceNotSix _ _ (omega arith)
-        (rising-row sourceNotSix sourceNotSix _ _ (omega arith) (record { least = tt; rising = tt })))))
-
-rowsOver-numbered : (before : Questions) (question : Question) → Numbered (rowsOver before question)
-rowsOver-numbered before question =
-    rows-numbered (isEarlier (question .time) before) (question .port) (question .time) (length (question .buffer))
-    (length (question .source))
-
 module _ (earlier : Questions) (question : Question) where
   abbrev rows : List Refusal
   rows = rowsBy earlier question
+
+  smallest-numbered : (number : ℕ) → SmallestRow number rows → number ≢ accepted
+  smallest-numbered number smallest =
+      applies-numbered timeTooLarge rows (omega arith) refl number (smallest .applies)
 
   number-smallest : (number : ℕ) → SmallestRow number rows
       → numberOver (acceptedOf (question .port) earlier) question ≡ number
   unfolding questionNumber
   number-smallest number smallest =
-      smallest-given number rows (rowsOver-rising (acceptedOf (question .port) earlier) question) smallest
+      smallest-exact timeTooLarge rows (omega arith) refl number (smallest-numbered number smallest) .1 smallest
 
   number-none : NoneApplies rows → numberOver (acceptedOf (question .port) earlier) question ≡ accepted
   unfolding questionNumber
@@ -155,11 +141,7 @@ module _ (earlier : Questions) (question : Question) where
       → asked (sendersAfter earlier) question ≡ answeredWith (sendersAfter earlier) (H.Refused number)
   refused-smallest number smallest =
       let given = number-smallest number smallest in
-      after-refused earlier question
-      (λ none.
-      applies-numbered number rows (rowsOver-numbered (acceptedOf (question .port) earlier) question)
-      (smallest .applies)
-      (sym given ∙ none))
+      after-refused earlier question (λ none. smallest-numbered number smallest (sym given ∙ none))
       ∙ ap (λ (one : ℕ). answeredWith (sendersAfter earlier) (H.Refused one)) given
 
 beat-refused : (heartbeat : Heartbeat) (number : ℕ) → Beat heartbeat → heartbeat ≡ H.Refused number → ⊥
@@ -171,7 +153,7 @@ beat-refused _ number nothing same = let wrong : _≡_ {A = ℕ} 0 1 = cc in ome
 pub refusing : (earlier : Questions) (question : Question) → Refusing earlier question
 refusing earlier question =
     record {
-      one = smallest-or-none (rowsBy earlier question) (rowsOver-rising (acceptedOf (question .port) earlier) question);
+      one = smallest-or-none timeTooLarge (rowsBy earlier question) (omega arith) refl;
       refused = refused-smallest earlier question;
       kept = λ number smallest.
           ap

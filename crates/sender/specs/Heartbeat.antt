@@ -8,11 +8,11 @@ use lib.Dec.{eqb, leb, ltb}
 use lib.ListN.{length, getD}
 use Rattle.numbers.specs.Inputs.{lastInput, timeLimit}
 use Rattle.numbers.specs.Refusal.{accepted, timeTooLarge, timeBeforeState, inputOutOfRange, bufferTooShort, sourceNotSix}
+use Rattle.numbers.specs.Rows.{Refusal, refusal, firstThatApplies}
 use Rattle.frame.specs.declared.FrameWrite.the-variants.{Written}
 use Rattle.frame.specs.Write.{writtenLength, sourceLength, contentAfter}
 use Rattle.selector.specs.declared.Selector.{Selector}
 use Rattle.selector.specs.Answer.{outgoingCodes}
-use Rattle.events.specs.Refusals.{Refusal, refusal, firstThatApplies}
 use Rattle.sender.specs.declared.Heartbeat.{Heartbeat}
 use Rattle.sender.specs.declared.Heartbeat.the-variants as H
 

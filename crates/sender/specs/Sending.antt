@@ -7,12 +7,11 @@ use mathlib.Core.Logic.{_⊎_}
 use mathlib.Core.Path.{_≡_}
 use lib.Dec.{eqb, leb}
 use lib.ListN.{take, drop}
+use Rattle.numbers.specs.Rows.{Refusal, NoneApplies, SmallestRow}
 use Rattle.frame.specs.declared.FrameRead.the-variants.{Code}
 use Rattle.frame.specs.Read.{message, readFrame}
 use Rattle.frame.specs.Write.{writtenLength}
 use Rattle.frame.specs.RoundTrip.{Layout}
-use Rattle.events.specs.Refusals.{Refusal}
-use Rattle.events.specs.Demand1.{NoneApplies, SmallestRow}
 use Rattle.sender.specs.declared.Heartbeat.{Heartbeat}
 use Rattle.sender.specs.declared.Heartbeat.the-variants as H
 use Rattle.sender.specs.Heartbeat.{Question, Questions, codeAsked, rowsOver, acceptedOf, isEarlier, Sent, windowFrames, isLater, laterCount, differs, heartbeatBy, sentBy, contentBy}

@@ -23,7 +23,8 @@ use Rattle.decision.specs.declared.Switch.{Switch}
 use Rattle.decision.specs.declared.Switch.the-variants as W
 use Rattle.decision.specs.Decision.{forcedMayStand, manualMayStand, judged, selectedBy, isClockLocked, decide}
 use Rattle.decision.proofs.Selecting.{manualMayStand-eligible, eligible-admitted}
-use Rattle.events.specs.Refusals.{firstThatApplies, isForcedSwitch, lateRefusal}
+use Rattle.numbers.specs.Rows.{firstThatApplies}
+use Rattle.events.specs.Refusals.{isForcedSwitch, lateRefusal}
 
 -- neither candidate is admitted
 pub record Barred (one other : Candidate) : Type 0 where

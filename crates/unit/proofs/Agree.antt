@@ -2,6 +2,7 @@
 -- inputs are the same, and it meets none of rows 14 to 17. Cites `happened` and `demand-1-events`. Assumes nothing.
 use Prim.Native.Nat.{ℕ}
 use mathlib.Core.Bool.{Bool, true, false, not, cond, true≢false}
+use mathlib.Core.List.{_++_}
 use mathlib.Core.Logic.{⊎-elim, _≢_}
 use mathlib.Core.Path.{_≡_, refl, sym, _∙_, ap, subst}
 use native.Mathlib.Omega.{arith}
@@ -16,10 +17,10 @@ use Rattle.numbers.specs.Kind.{kindForced, kindManual, kindInputKind}
 use Rattle.numbers.specs.Profile.{limitsOf}
 use Rattle.numbers.specs.Recorded.{Recorded}
 use Rattle.numbers.specs.Refusal.{accepted}
-use Rattle.frame.specs.Read.{readCode}
+use Rattle.numbers.specs.Rows.{firstThatApplies}
 use Rattle.input.specs.Recorded.{History, isOn, lastArgument, inputKind}
 use Rattle.numbers.proofs.Truth.{byBool}
-use Rattle.events.specs.Refusals.{firstThatApplies, earlyRows}
+use Rattle.events.specs.Refusals.{earlyRows, frameEventRows}
 use Rattle.events.specs.Given.{Given, Sequence, tickAt, asRecorded}
 use Rattle.events.specs.Sequence.{numberAfter}
 use Rattle.events.specs.Past.{Past, earlyBy, lateBy, numberBy, pastOf, recorded}
@@ -104,7 +105,7 @@ module _ (given : Given)
       let early : earlyBy (pastOf one) given ≡ earlyBy (pastOf other) given = λ j.
       firstThatApplies
       (earlyRows (limitsOf (alike .profile j)) (alike .time j) (alike .kinds (given .event .input) j) (given .event)
-      (readCode (given .frame)))
+      ++ frameEventRows (given .event .kind) (given .frame))
       in
       let late : lateBy (pastOf one) given ≡ lateBy (pastOf other) given =
       none-late (pastOf one) ∙ sym (none-late (pastOf other))

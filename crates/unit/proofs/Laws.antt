@@ -14,6 +14,7 @@ use Rattle.numbers.specs.Kind.{kindWord}
 use Rattle.numbers.specs.Profile.{limitsOf, placeOf, startNumber}
 use Rattle.numbers.specs.Quality.{quality}
 use Rattle.numbers.specs.Refusal.{accepted, argumentOutOfRange, frameLength}
+use Rattle.numbers.specs.Rows.{firstThatApplies}
 use Rattle.frame.specs.declared.FrameRead.{FrameRead}
 use Rattle.frame.specs.declared.FrameRead.the-variants as R
 use Rattle.frame.specs.Read.{rightLength, frameNumber, readCode}
@@ -97,7 +98,7 @@ pub ruleset goesTo-laws = (goesTo-both, goesTo-one)
 
 -- what comes with a tick reads as a frame that is too short
 pub readCode-none : readCode [] ≡ R.Refused frameLength
-unfolding readCode frameNumber rightLength
+unfolding readCode frameNumber firstThatApplies rightLength
 readCode-none = refl
 
 module _ (state : Selector) (goes : Bool) (event : Event) (read : FrameRead) (ticked : Stepped) where

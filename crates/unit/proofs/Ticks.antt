@@ -1,30 +1,32 @@
 -- One selector: what a tick and an event are answered with, and what they leave of its time. Cites `happened` and
 -- `demand-1-events`; of a second tick at one time `tick-state` and `ticked-twice`. Assumes nothing.
 use Prim.Native.Nat.{ℕ, _≤_, _<_}
-use mathlib.Core.Bool.{false, cond, true≢false}
-use mathlib.Core.Logic.{inl, inr, ⊎-elim, _≢_}
+use mathlib.Core.Bool.{true, false, cond, true≢false}
+use mathlib.Core.Logic.{_≢_}
 use mathlib.Core.Path.{_≡_, refl, sym, _∙_, ap, subst}
 use native.Mathlib.Omega.{arith}
-use lib.Dec.{leb, ltb}
-use borrow.Author.Tests.{leb-false, ltb-false, ne-eqb, le-ltb}
+use lib.Dec.{eqb, leb, ltb}
+use borrow.Author.Tests.{leb-false, ltb-false, ne-eqb, le-ltb, eqb-true, eqb-false}
 use Rattle.numbers.specs.From.{_following_, profileOf}
 use Rattle.numbers.specs.Inputs.{timeLimit}
 use Rattle.numbers.specs.Kind.{rowOf, isInputOut, isArgumentOut}
 use Rattle.numbers.specs.Profile.{limitsOf}
 use Rattle.numbers.specs.Refusal.{accepted, kindUnknown, timeTooLarge, timeBeforeState}
+use Rattle.numbers.specs.Rows.{RowApplies, firstThatApplies}
 use Rattle.input.specs.Recorded.{timeOf}
 use Rattle.numbers.proofs.Truth.{byBool}
+use Rattle.numbers.proofs.Rows.{testOf, row-exact}
 use Rattle.selector.specs.declared.Selector.{Selector}
 use Rattle.due.specs.Served.{ticked}
 use Rattle.due.proofs.Right.{ticked-twice}
-use Rattle.events.specs.Refusals.{firstThatApplies, isWrongKind, frameRefusal}
+use Rattle.events.specs.Refusals.{isWrongKind}
 use Rattle.events.specs.Given.{Given, Sequence, tickAt}
 use Rattle.events.specs.Sequence.{stateAfter, numberAfter}
 use Rattle.events.specs.Past.{Past, earlyBy, lateBy, numberBy, pastOf, recorded}
-use Rattle.events.specs.Demand1.{RowApplies, rowsOf, OneToThirteen}
+use Rattle.events.specs.Demand1.{rowsOf, OneToThirteen}
 use Rattle.events.proofs.Calm.{accepted-or-not, sequence-calm}
 use Rattle.events.proofs.Happened.{happened}
-use Rattle.events.proofs.Demand1.{tick-state, demand-1-events}
+use Rattle.events.proofs.Demand1.{tick-state, rows-rising, demand-1-events}
 use Rattle.unit.specs.Unit.{timeNumber}
 
 -- ---- timeNumber
@@ -71,7 +73,7 @@ numberBy-early past given number e refused = rw (e, ne-eqb number accepted refus
 
 module _ (past : Past) (time : ℕ) where
   tick-early : earlyBy past (tickAt time) ≡ timeNumber (timeOf (past .history)) time
-  unfolding firstThatApplies rowOf isInputOut isArgumentOut isWrongKind frameRefusal timeNumber
+  unfolding firstThatApplies rowOf isInputOut isArgumentOut isWrongKind timeNumber
   tick-early = refl
 
   tick-late : lateBy past (tickAt time) ≡ accepted
@@ -178,21 +180,25 @@ module _ (own : Sequence) (given : Given) where
 
   -- where the time passes, neither 3 nor 4 is given
   module _ (passes : passing ≡ accepted) where
+    -- row 3 and row 4, by their tests
+    row : (number : ℕ) → RowApplies number (rowsOf (pastOf own) given)
+        → testOf number (rowsOf (pastOf own) given) ≡ true
+    row number = row-exact kindUnknown number (rowsOf (pastOf own) given) (rows-rising (pastOf own) given) .0
+
+    not-large : RowApplies timeTooLarge (rowsOf (pastOf own) given) → ⊥
+    not-large applies = true≢false (sym (row timeTooLarge applies) ∙ timeNumber-limit _ _ passes)
+
+    not-early : RowApplies timeBeforeState (rowsOf (pastOf own) given) → ⊥
+    not-early applies = true≢false (sym (row timeBeforeState applies) ∙ timeNumber-before _ _ passes)
+
     never : (number : ℕ) → timeTooLarge ≤ number → number ≤ timeBeforeState
         → RowApplies number (rowsOf (pastOf own) given) → ⊥
-    never number least most (inl a) = omega (arith, a .1)
-    never number least most (inr (inl a)) = true≢false (sym (a .0) ∙ timeNumber-limit _ _ passes)
-    never number least most (inr (inr (inl a))) = true≢false (sym (a .0) ∙ timeNumber-before _ _ passes)
-    never number least most (inr (inr (inr (inl a)))) = omega (arith, a .1)
-    never number least most (inr (inr (inr (inr (inl a))))) = omega (arith, a .1)
-    never number least most (inr (inr (inr (inr (inr (inl a)))))) = omega (arith, a .1)
-    never number least most (inr (inr (inr (inr (inr (inr (inl a))))))) =
-        ⊎-elim (λ none. omega (arith, a .1, none)) (λ h. omega (arith, a .1, h .0)) (demand-1-events own given .frames)
-    never number least most (inr (inr (inr (inr (inr (inr (inr (inl a)))))))) = omega (arith, a .1)
-    never number least most (inr (inr (inr (inr (inr (inr (inr (inr (inl a))))))))) = omega (arith, a .1)
-    never number least most (inr (inr (inr (inr (inr (inr (inr (inr (inr (inl a)))))))))) = omega (arith, a .1)
-    never number least most (inr (inr (inr (inr (inr (inr (inr (inr (inr (inr (inl a))))))))))) = omega (arith, a .1)
-    never number least most (inr (inr (inr (inr (inr (inr (inr (inr (inr (inr (inr none))))))))))) = none
+    never number least most applies =
+        byBool (eqb number timeTooLarge)
+        (λ e. not-large (subst (λ (n : ℕ). RowApplies n (rowsOf (pastOf own) given)) (eqb-true _ _ e) applies))
+        (λ e.
+        let four : number ≡ timeBeforeState = omega (arith, eqb-false number timeTooLarge e) in
+        not-early (subst (λ (n : ℕ). RowApplies n (rowsOf (pastOf own) given)) four applies))
 
     pub timely-number : (number : ℕ) → timeTooLarge ≤ number → number ≤ timeBeforeState → numberAfter given own ≢ number
     timely-number number least most is =
