@@ -31,8 +31,8 @@ use Rattle.due.specs.Next.{lesser, nextDue}
 use Rattle.events.specs.Given.{recordedArgument, recordedEvent}
 use Rattle.events.specs.Refusals.{earlyRefusal}
 use Rattle.events.specs.Step.{inputAfter, stepRead}
-use Rattle.watch.specs.Watch.{isServed, isAgain, movedTo}
-use Rattle.watch.specs.Own.{againOwn}
+use Rattle.quickstep.specs.Watch.{isServed, isAgain, movedTo}
+use Rattle.quickstep.specs.Own.{againOwn}
 use Rattle.sender.specs.Heartbeat.{codeOfPort}
 use Rattle.card.specs.declared.Card.{Card}
 use Rattle.card.specs.declared.CardAnswer.{CardAnswer}

@@ -26,9 +26,9 @@ use numbers::INPUT_COUNT;
 use numbers::LAST_INPUT;
 use numbers::Profile;
 use selector::Selector;
-use watch::again_own;
-use watch::is_again;
-use watch::is_served;
+use quickstep::again_own;
+use quickstep::is_again;
+use quickstep::is_served;
 ghost use mathlib.Core.Path.{_≡_};
 ghost use Rattle.card.specs.Flat.{profileIn};
 ghost use Rattle.card.specs.Card.{eventOf, readFor, namesInput, isRanged, ownPlace, StandsAt, dueAfter, plainOf, plainCard, isQuick, quickStep, quickCard, dueHeld, isPlain, takenState, chosenCard, wholeCard};
@@ -245,7 +245,7 @@ fn is_plain(state: Selector, due: u64, event: Event, read: FrameRead) -> bool
     ensures { λ answer. ⌜ answer ≡ isPlain state due event read ⌝ }
 {
     let inputs = state.inputs;
-    let place = watch::own_place(inputs, event.input);
+    let place = quickstep::own_place(inputs, event.input);
     let before = state.inputs[place];
     let profile = state.profile;
     let settings = before.settings;
@@ -263,7 +263,7 @@ fn taken_state(state: Selector, event: Event, read: FrameRead) -> Selector
     ensures { λ answer. ⌜ answer ≡ takenState state event read ⌝ }
 {
     let inputs = state.inputs;
-    let place = watch::own_place(inputs, event.input);
+    let place = quickstep::own_place(inputs, event.input);
     let before = state.inputs[place];
     let profile = state.profile;
     let recorded = recorded_event(event, read);
@@ -279,7 +279,7 @@ fn chosen_card(card: Card, number: u8, due: u64, after: Selector) -> Card
     ensures { λ answer. ⌜ answer ≡ chosenCard card (ownPlace number) due after ⌝ }
 {
     let all = after.inputs;
-    let place = watch::own_place(all, number);
+    let place = quickstep::own_place(all, number);
     let mut inputs = card.inputs;
     let input = after.inputs[place];
     let flat = flat_input(input);
