@@ -41,7 +41,7 @@ use Rattle.quickstep.specs.declared.Own.{Own}
 use Rattle.quickstep.specs.declared.Watch.{Watch}
 use Rattle.quickstep.specs.Again.{codeAgain, frameAgain, readAgain, isAgain, saysAgain, repeats, framedInput, againInput, againDue, ownOf, againOwn}
 use Rattle.quickstep.specs.Own.{OwnPlace, isCommand, isServed, seenAlike, ownTake, ownStep}
-use Rattle.quickstep.specs.Watch.{watchOf, numbered, movedTo, dueAnew, dueAfter, servedWatch, completed, ownPlace, ownPut, ownAt, ownMade, watchStep}
+use Rattle.quickstep.specs.Watch.{watchOf, numbered, movedTo, dueAnew, dueAfter, servedWatch, completed, ownPlace, ownPut, ownAt, takeStep, watchStep}
 
 -- ---- dueAnew, dueAfter
 
@@ -231,7 +231,7 @@ pub ruleset repeats-laws = (
   repeats-frame-kind,
   repeats-tick-input,
   repeats-tick,
-  repeats-other
+  repeats-other,
 )
 
 and-no : (test : Bool) → false ≡ (test && false)
@@ -521,20 +521,25 @@ module _ (watch : Watch) (event : Event) (read : FrameRead) (zeroed : Input) (pl
       getD-any (watch .state .inputs) place zeroed freshInput (at .inside) ∙
       ap (λ (n : ℕ). getD (watch .state .inputs) n freshInput) (at .own)
 
+  pub takeStep-own : (due : ℕ) (own : Own) (after : Watch)
+      → due ≡ dueAnew (watch .state .inputs) (watch .state .mode) (watch .state .time) (watch .due) (event .time)
+      → own ≡ ownStep before (watch .state .profile) (watch .state .mode) (watch .state .time) due event read
+      → after ≡ ownPut watch own event read
+      → after ≡ takeStep watch event read
+  unfolding takeStep
+  takeStep-own due own after d o a = a ∙ (rw (o, d, ← own-at))
+
   module _ (again : Bool)
       (s : again ≡ saysAgain before (watch .state .profile) (watch .state .time) (watch .due) event read) where
     pub watchStep-again : (own : Own) (after : Watch) → again ≡ true → own ≡ againOwn before (watch .due) event
         → after ≡ ownPut watch own event read
         → after ≡ watchStep watch event read
-    unfolding watchStep ownMade
+    unfolding watchStep
     watchStep-again own after y o a = a ∙ (rw (o, ← own-at, ← s, y))
 
-    pub watchStep-other : (due : ℕ) (own : Own) (after : Watch) → again ≡ false
-        → due ≡ dueAnew (watch .state .inputs) (watch .state .mode) (watch .state .time) (watch .due) (event .time)
-        → own ≡ ownStep before (watch .state .profile) (watch .state .mode) (watch .state .time) due event read
-        → after ≡ ownPut watch own event read
+    pub watchStep-taken : (after : Watch) → again ≡ false → after ≡ takeStep watch event read
         → after ≡ watchStep watch event read
-    unfolding watchStep ownMade
-    watchStep-other due own after n d o a = a ∙ (rw (o, d, ← own-at, ← s, n))
+    unfolding watchStep
+    watchStep-taken after n a = a ∙ (rw (← own-at, ← s, n))
 
-pub ruleset watchStep-laws = (watchStep-again, watchStep-other)
+pub ruleset watchStep-laws = (watchStep-again, watchStep-taken)

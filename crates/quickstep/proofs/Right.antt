@@ -40,7 +40,7 @@ use Rattle.quickstep.specs.declared.Watch.{Watch}
 use Rattle.quickstep.specs.declared.Left.the-variants.{Nothing}
 use Rattle.quickstep.specs.Again.{isAgain, saysAgain, againInput, againDue, ownOf, againOwn}
 use Rattle.quickstep.specs.Own.{isCommand, isServed, seenAlike, ownTake, ownStep}
-use Rattle.quickstep.specs.Watch.{watchOf, numbered, freshWatch, movedTo, dueAnew, dueAfter, servedWatch, completed, ownPlace, ownPut, ownAt, ownMade, watchStep}
+use Rattle.quickstep.specs.Watch.{watchOf, numbered, freshWatch, movedTo, dueAnew, dueAfter, servedWatch, completed, ownPlace, ownPut, ownAt, takeStep, watchStep}
 use Rattle.quickstep.specs.Sequence.{watchAfter, WatchRight}
 use Rattle.quickstep.proofs.Due.{put-due, again-due, againDue-least, dueAnew-bound, dueAfter-bound}
 use Rattle.quickstep.proofs.Step.{ownBefore, ownAfter, ownTaken, againTaken, decided-same, answer-same, taken-seen, again-same, later, inside, stepRead-own, stepRead-again}
@@ -118,25 +118,24 @@ module _ (watch : Watch) (event : Event) (read : FrameRead) (kept : Kept watch) 
   put-back = set-getD (state .inputs) (ownPlace event) freshInput
 
   -- refused at once
-  refused-made : (earlyNumber state event read ≡ accepted → ⊥)
-      → ownMade watch event read ≡ ownOf (ownAt state event) (state .time) due (earlyNumber state event read) Nothing
-  unfolding ownMade ownStep
-  refused-made given =
-      rw (
-        sym (saysAgain-not (ownAt state event) (state .profile) (state .time) (watch .due) event read (λ e. given (sym own-early ∙ e))),
-        own-early,
-        ne-eqb _ _ given,
-      )
-
-  right-refused : (earlyNumber state event read ≡ accepted → ⊥) → Right plain (watchStep watch event read)
-  unfolding watchStep ownPut completed
+  right-refused : (earlyNumber state event read ≡ accepted → ⊥) → Right plain (takeStep watch event read)
+  unfolding takeStep ownPut completed ownStep
   right-refused given =
-      rw (refused-made given, put-back)
+      rw (own-early, ne-eqb _ _ given, put-back)
       (right-by plain state due (earlyNumber state event read) 0 (numbered (earlyNumber state event read) (watch .answer))
       (kept .calm)
       bound
       (kept .told (earlyNumber state event read))
       (stepRead-refused state event read given))
+
+  -- what is refused does not say again
+  again-not : (earlyNumber state event read ≡ accepted → ⊥) → watchStep watch event read ≡ takeStep watch event read
+  unfolding watchStep
+  again-not given =
+      rw
+      (sym
+      (saysAgain-not (ownAt state event) (state .profile) (state .time) (watch .due) event read
+      (λ e. given (sym own-early ∙ e))))
 
   module _ (none : earlyNumber state event read ≡ accepted) where
     few : event .input < inputCount
@@ -175,15 +174,11 @@ module _ (watch : Watch) (event : Event) (read : FrameRead) (kept : Kept watch) 
       stays : plain ≡ stepped accepted 0 (againTaken state event)
       stays = stepRead-again state event read (watch .due) (kept .calm) (kept .due) none sooner again
 
-      again-made : ownMade watch event read ≡ againOwn (ownBefore state event) (watch .due) event
-      unfolding ownMade
-      again-made = rw (y, own-here few)
-
       right-again : Right plain (watchStep watch event read)
       unfolding watchStep ownPut completed againOwn
       right-again =
           let next = againDue (watch .due) (event .kind) (event .time) in
-          rw (again-made, here)
+          rw (y, own-here few, here)
           (right-by plain (againTaken state event) next accepted 0 (numbered accepted (watch .answer))
           (subst Calm (ap (λ (after : Stepped). after .state) stays) calm-after)
           (put-due state (watch .due) (event .time) (kept .due)
@@ -201,78 +196,83 @@ module _ (watch : Watch) (event : Event) (read : FrameRead) (kept : Kept watch) 
           (kept .told accepted ∙ sym (answer-same state event _ (again-same state event) accepted))
           stays)
 
-    -- anything else
-    module _ (n : says ≡ false) where
-      other-made : ownMade watch event read ≡ ownStep (ownBefore state event) (state .profile) (state .mode) (state .time) due event read
-      unfolding ownMade
-      other-made = rw (n, own-here few)
+    -- served
+    right-served : isServed due (event .kind) (event .time) ≡ true → Right plain (takeStep watch event read)
+    unfolding takeStep ownPut completed servedWatch ownStep
+    right-served serves =
+        rw (own-early, none, serves, put-back)
+        (right-by plain (plain .state) (dueAfter due (event .time) (plain .state)) (plain .number) (plain .count) _ calm-after
+        (dueAfter-bound due (event .time) (plain .state))
+        refl
+        refl)
 
-      -- served
-      right-served : isServed due (event .kind) (event .time) ≡ true → Right plain (watchStep watch event read)
-      unfolding watchStep ownPut completed servedWatch ownStep
-      right-served serves =
-          rw (other-made, early-none, serves, ← own-here few, put-back)
-          (right-by plain (plain .state) (dueAfter due (event .time) (plain .state)) (plain .number) (plain .count) _ calm-after
-          (dueAfter-bound due (event .time) (plain .state))
-          refl
-          refl)
+    -- taken
+    module _ (waits : isServed due (event .kind) (event .time) ≡ false) where
+      soon : event .time < due
+      unfolding isServed
+      soon = leb-false due (event .time) (or-first (leb due (event .time)) (isCommand (event .kind)) waits)
 
-      module _ (waits : isServed due (event .kind) (event .time) ≡ false) where
-        soon : event .time < due
-        unfolding isServed
-        soon = leb-false due (event .time) (or-first (leb due (event .time)) (isCommand (event .kind)) waits)
+      free : isCommand (event .kind) ≡ false
+      unfolding isServed
+      free = or-second (leb due (event .time)) (isCommand (event .kind)) waits
 
-        free : isCommand (event .kind) ≡ false
-        unfolding isServed
-        free = or-second (leb due (event .time)) (isCommand (event .kind)) waits
+      taken : plain ≡ stepped accepted 0 (decided (ownTaken state event read))
+      taken = stepRead-own state event read due (kept .calm) bound none soon free
 
-        taken : plain ≡ stepped accepted 0 (decided (ownTaken state event read))
-        taken = stepRead-own state event read due (kept .calm) bound none soon free
+      abbrev next : ℕ
+      next = lesser due (nextOf (ownAfter state event read) (state .mode) (event .time))
 
-        abbrev next : ℕ
-        next = lesser due (nextOf (ownAfter state event read) (state .mode) (event .time))
+      next-due : next ≤ nextDue (ownTaken state event read)
+      next-due =
+          put-due state due (event .time) bound (later state event read due (kept .calm) bound none) (event .input) next
+          (ownAfter state event read)
+          room
+          (lesser-one due _)
+          (lesser-other due _)
 
-        next-due : next ≤ nextDue (ownTaken state event read)
-        next-due =
-            put-due state due (event .time) bound (later state event read due (kept .calm) bound none) (event .input) next
-            (ownAfter state event read)
-            room
-            (lesser-one due _)
-            (lesser-other due _)
+      calm-taken : Calm (decided (ownTaken state event read))
+      calm-taken = subst Calm (ap (λ (after : Stepped). after .state) taken) calm-after
 
-        calm-taken : Calm (decided (ownTaken state event read))
-        calm-taken = subst Calm (ap (λ (after : Stepped). after .state) taken) calm-after
+      taken-due : next ≤ nextDue (decided (ownTaken state event read))
+      unfolding decided
+      taken-due = next-due
 
-        taken-due : next ≤ nextDue (decided (ownTaken state event read))
-        unfolding decided
-        taken-due = next-due
+      right-taken : Right plain (takeStep watch event read)
+      unfolding takeStep ownPut completed ownStep ownTake
+      right-taken =
+          byBool (seenAlike (ownBefore state event) (ownAfter state event read))
+          (λ alike.
+          let same = taken-seen state event read alike in
+          let stays = decided-same state event (ownAfter state event read) same (kept .calm) in
+          rw (own-early, none, waits, own-here few, alike, here)
+          (right-by plain (ownTaken state event read) next accepted 0 (numbered accepted (watch .answer))
+          (subst Calm stays calm-taken)
+          next-due
+          (kept .told accepted ∙ sym (answer-same state event _ same accepted))
+          (taken ∙ ap (stepped accepted 0) stays)))
+          (λ unlike.
+          rw (own-early, none, waits, own-here few, unlike, here)
+          (right-by plain (decided (ownTaken state event read)) next accepted 0 _ calm-taken taken-due refl taken))
 
-        right-taken : Right plain (watchStep watch event read)
-        unfolding watchStep ownPut completed ownStep ownTake
-        right-taken =
-            byBool (seenAlike (ownBefore state event) (ownAfter state event read))
-            (λ alike.
-            let same = taken-seen state event read alike in
-            let stays = decided-same state event (ownAfter state event read) same (kept .calm) in
-            rw (other-made, early-none, waits, alike, here)
-            (right-by plain (ownTaken state event read) next accepted 0 (numbered accepted (watch .answer))
-            (subst Calm stays calm-taken)
-            next-due
-            (kept .told accepted ∙ sym (answer-same state event _ same accepted))
-            (taken ∙ ap (stepped accepted 0) stays)))
-            (λ unlike.
-            rw (other-made, early-none, waits, unlike, here)
-            (right-by plain (decided (ownTaken state event read)) next accepted 0 _ calm-taken taken-due refl taken))
+    take-accepted : Right plain (takeStep watch event read)
+    take-accepted = byBool (isServed due (event .kind) (event .time)) right-served right-taken
 
-      right-other : Right plain (watchStep watch event read)
-      right-other = byBool (isServed due (event .kind) (event .time)) right-served right-taken
+    unsaid : says ≡ false → watchStep watch event read ≡ takeStep watch event read
+    unfolding watchStep
+    unsaid n = rw n
 
-    right-accepted : Right plain (watchStep watch event read)
-    right-accepted = byBool says right-again right-other
+    step-accepted : Right plain (watchStep watch event read)
+    step-accepted = byBool says right-again (λ n. subst (Right plain) (sym (unsaid n)) take-accepted)
 
-  -- ANY EVENT: a watch has the state, the answer and the count of the plain step.
+  -- AN EVENT TAKEN BY ITS OWN INPUT: the watch has the state, the answer and the count of the plain step.
+  pub takeStep-right : Right (stepRead (watch .state) event read) (takeStep watch event read)
+  takeStep-right = accepted-or-not (earlyNumber state event read) take-accepted right-refused
+
+  -- ANY EVENT: likewise.
   pub watchStep-right : Right (stepRead (watch .state) event read) (watchStep watch event read)
-  watchStep-right = accepted-or-not (earlyNumber state event read) right-accepted right-refused
+  watchStep-right =
+      accepted-or-not (earlyNumber state event read) step-accepted
+      (λ given. subst (Right plain) (sym (again-not given)) (right-refused given))
 
 -- ---- from a fresh start
 

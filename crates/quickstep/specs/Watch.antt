@@ -1,5 +1,5 @@
--- What a watch makes of an event: one that says again what was said before is taken at once, and any other by its own
--- input; what is left is done on all sixteen. Cited by `src/lib.rt`.
+-- What a watch makes of an event: its own input takes it, at once where it says again what was said before, and what is
+-- left is done on all sixteen. Cited by `src/lib.rt`.
 -- Assumes nothing.
 use Prim.Native.Nat.{ℕ, _%_}
 use mathlib.Core.Bool.{Bool, cond}
@@ -101,15 +101,17 @@ ownPut watch own event read =
 abbrev pub ownAt : Selector → Event → Input
 ownAt state event = getD (state .inputs) (ownPlace event) freshInput
 
--- what an event makes of its own input: said again; or any other, once it is known again what is due
-unfoldable pub ownMade : Watch → Event → FrameRead → Own
-ownMade watch event read =
+-- one event, taken by its own input, once it is known again what is due
+unfoldable pub takeStep : Watch → Event → FrameRead → Watch
+takeStep watch event read =
     let state = watch .state in
     let due = dueAnew (state .inputs) (state .mode) (state .time) (watch .due) (event .time) in
-    cond (saysAgain (ownAt state event) (state .profile) (state .time) (watch .due) event read)
-    (againOwn (ownAt state event) (watch .due) event)
-    (ownStep (ownAt state event) (state .profile) (state .mode) (state .time) due event read)
+    ownPut watch (ownStep (ownAt state event) (state .profile) (state .mode) (state .time) due event read) event read
 
--- one event
+-- one event: said again, and put at once; or taken
 unfoldable pub watchStep : Watch → Event → FrameRead → Watch
-watchStep watch event read = ownPut watch (ownMade watch event read) event read
+watchStep watch event read =
+    let state = watch .state in
+    cond (saysAgain (ownAt state event) (state .profile) (state .time) (watch .due) event read)
+    (ownPut watch (againOwn (ownAt state event) (watch .due) event) event read)
+    (takeStep watch event read)
