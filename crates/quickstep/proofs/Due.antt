@@ -7,7 +7,7 @@ use native.Mathlib.Omega.{arith}
 use lib.Dec.{eqb, leb, ltb}
 use lib.ListN.{length, getD, set}
 use lib.Seq.{getD-set-same, getD-set-other}
-use borrow.Author.Tests.{eqb-true, eqb-false, leb-true, leb-false, lt-ltb, ltb-true}
+use borrow.Author.Tests.{eqb-true, eqb-false, leb-true, leb-false, le-leb, lt-ltb, ltb-true}
 use Rattle.numbers.specs.Inputs.{frameLife}
 use Rattle.numbers.specs.Kind.{kindFrame}
 use Rattle.numbers.specs.Quality.{isFailed}
@@ -25,6 +25,10 @@ use Rattle.quickstep.specs.Watch.{movedTo, dueAnew, dueAfter}
 pub lesser-least : (due one other : ℕ) → due ≤ one → due ≤ other → due ≤ lesser one other
 unfolding lesser
 lesser-least due one other a b = byBool (leb one other) (λ y. rw y a) (λ n. rw n b)
+
+pub lesser-same : (one other : ℕ) → one ≤ other → lesser one other ≡ one
+unfolding lesser
+lesser-same one other least = rw (le-leb one other least)
 
 module _ (inputs : List Input) (mode : Bool) where
   nextAmong-never : (time count : ℕ) → nextAmong inputs mode time count ≤ never

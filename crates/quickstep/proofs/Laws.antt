@@ -31,9 +31,11 @@ use Rattle.selector.specs.State.{seenOf, decided}
 use Rattle.selector.specs.Answer.{answerOf}
 use Rattle.selector.proofs.Laws.{getD-any}
 use Rattle.due.specs.Next.{lesser, sumOrNever, nextOf, nextOfAll, nextDue}
+use Rattle.due.specs.Served.{mostServed}
 use Rattle.events.specs.Refusals.{earlyRefusal, firstThatApplies, isWrongKind, frameRefusal}
 use Rattle.events.specs.Step.{inputAfter}
 use Rattle.events.specs.Given.{readEvent, recordedEvent}
+use Rattle.events.proofs.Laws.{stepRead-most}
 use Rattle.events.proofs.Refused.{accepted-limit, accepted-time}
 use Rattle.quickstep.specs.declared.Left.{Left}
 use Rattle.quickstep.specs.declared.Left.the-variants.{Nothing, Choice, Service}
@@ -543,3 +545,21 @@ module _ (watch : Watch) (event : Event) (read : FrameRead) (zeroed : Input) (pl
     watchStep-taken after n a = a ∙ (rw (← own-at, ← s, n))
 
 pub ruleset watchStep-laws = (watchStep-again, watchStep-taken)
+
+-- ---- the count
+
+completed-most : (state : Selector) (due : ℕ) (answer : Answer) (left : Left) (event : Event) (read : FrameRead)
+    → completed state due answer left event read .count ≤ mostServed
+unfolding completed servedWatch
+completed-most state due answer Nothing event read = omega arith
+completed-most state due answer Choice event read = omega arith
+completed-most state due answer Service event read = stepRead-most state event read
+
+-- never more moments are served than a tick serves, whatever the watch
+pub watchStep-most : (watch : Watch) (event : Event) (read : FrameRead) → watchStep watch event read .count ≤ mostServed
+unfolding watchStep takeStep ownPut
+watchStep-most watch event read =
+    byBool
+    (saysAgain (ownAt (watch .state) event) (watch .state .profile) (watch .state .time) (watch .due) event read)
+    (λ y. rw y (completed-most _ _ _ _ event read))
+    (λ n. rw n (completed-most _ _ _ _ event read))

@@ -1,23 +1,25 @@
 -- A watch has the state, the answers and the counts of the plain step, after any sequence of events. Assumes nothing.
 use Prim.Native.Nat.{ℕ, _≤_, _<_, _%_}
-use mathlib.Core.Bool.{Bool, true, false, _&&_, cond}
+use mathlib.Core.Bool.{Bool, true, false, not, _&&_, cond, true≢false}
 use mathlib.Core.List.{List}
 use mathlib.Core.Path.{_≡_, refl, sym, _∙_, ap, subst}
 use native.Mathlib.Omega.{arith}
-use native.Mathlib.Nat.{mod-eq-of-lt}
+use native.Mathlib.Nat.{mod-lt, mod-eq-of-lt}
 use lib.Dec.{eqb, leb, ltb}
 use lib.ListN.{length, getD, set}
 use lib.Seq.{set-getD}
-use borrow.Author.Tests.{eqb-true, ne-eqb, eq-eqb, leb-false, ltb-true, ltb-false}
+use borrow.Author.Tests.{eqb-true, ne-eqb, eq-eqb, leb-false, lt-leb, ltb-true, ltb-false}
 use Rattle.numbers.specs.declared.Answer.{Answer}
 use Rattle.numbers.specs.declared.Event.{Event}
 use Rattle.numbers.specs.declared.Profile.{Profile}
 use Rattle.numbers.specs.From.{started, _following_}
 use Rattle.numbers.specs.Inputs.{inputCount}
+use Rattle.numbers.specs.Kind.{kindFrame}
 use Rattle.numbers.specs.Profile.{limitsOf}
 use Rattle.numbers.specs.Refusal.{accepted}
 use Rattle.numbers.proofs.Truth.{byBool, or-first, or-second}
 use Rattle.frame.specs.declared.FrameRead.{FrameRead}
+use Rattle.frame.specs.declared.FrameRead.the-variants.{Code, Refused}
 use Rattle.frame.specs.Read.{readCode}
 use Rattle.input.specs.declared.Input.{Input}
 use Rattle.input.specs.Record.{freshInput}
@@ -26,6 +28,7 @@ use Rattle.selector.specs.declared.Selector.{Selector}
 use Rattle.selector.specs.State.{freshSelector, decided}
 use Rattle.selector.specs.Answer.{answerOf}
 use Rattle.due.specs.Next.{never, lesser, nextOf, nextDue}
+use Rattle.due.proofs.Every.{every-at, every-replicate}
 use Rattle.due.proofs.Millisecond.{lesser-one, lesser-other}
 use Rattle.due.proofs.Calm.{Calm, calm-fresh}
 use Rattle.events.specs.declared.Stepped.{Stepped}
@@ -38,13 +41,14 @@ use Rattle.events.proofs.Refused.{earlyRefusal-outside}
 use Rattle.quickstep.specs.declared.Own.{Own}
 use Rattle.quickstep.specs.declared.Watch.{Watch}
 use Rattle.quickstep.specs.declared.Left.the-variants.{Nothing}
-use Rattle.quickstep.specs.Again.{isAgain, saysAgain, againInput, againDue, ownOf, againOwn}
+use Rattle.quickstep.specs.Again.{frameAgain, readAgain, isAgain, saysAgain, againInput, againDue, ownOf, againOwn}
 use Rattle.quickstep.specs.Own.{isCommand, isServed, seenAlike, ownTake, ownStep}
 use Rattle.quickstep.specs.Watch.{watchOf, numbered, freshWatch, movedTo, dueAnew, dueAfter, servedWatch, completed, ownPlace, ownPut, ownAt, takeStep, watchStep}
 use Rattle.quickstep.specs.Sequence.{watchAfter, WatchRight}
-use Rattle.quickstep.proofs.Due.{put-due, again-due, againDue-least, dueAnew-bound, dueAfter-bound}
-use Rattle.quickstep.proofs.Step.{ownBefore, ownAfter, ownTaken, againTaken, decided-same, answer-same, taken-seen, again-same, later, inside, stepRead-own, stepRead-again}
-use Rattle.quickstep.proofs.Laws.{saysAgain-not}
+use Rattle.quickstep.proofs.Again.{again-input, again-free}
+use Rattle.quickstep.proofs.Due.{lesser-same, put-due, again-due, againDue-least, againDue-other, dueAnew-bound, dueAfter-bound}
+use Rattle.quickstep.proofs.Step.{ownBefore, ownAfter, ownTaken, againTaken, decided-same, answer-same, taken-seen, again-same, later, inside, settled, stepRead-own, stepRead-again}
+use Rattle.quickstep.proofs.Laws.{dueAnew-before, saysAgain-not}
 
 -- ---- what is answered
 
@@ -257,6 +261,50 @@ module _ (watch : Watch) (event : Event) (read : FrameRead) (kept : Kept watch) 
     take-accepted : Right plain (takeStep watch event read)
     take-accepted = byBool (isServed due (event .kind) (event .time)) right-served right-taken
 
+    -- taken or said again, the watch is the same, where it is no frame
+    module _ (y : says ≡ true) (other : eqb (event .kind) kindFrame ≡ false) where
+      kept-due : watch .due ≡ due
+      kept-due = dueAnew-before (state .inputs) (state .mode) (state .time) (watch .due) (event .time) (sooner y)
+
+      unserved : isServed due (event .kind) (event .time) ≡ false
+      unfolding isServed
+      unserved =
+          rw (
+            lt-leb due (event .time) (subst (λ (when : ℕ). event .time < when) kept-due (sooner y)),
+            again-free (ownBefore state event) (state .profile) event read (again y),
+          )
+
+      own-again : ownAfter state event read ≡ againInput (ownBefore state event) (event .kind) (event .time)
+      own-again =
+          again-input (ownBefore state event) (state .profile) event (state .mode)
+          (settled state event read (watch .due) (kept .calm) (kept .due) none (sooner y)
+          (again-free (ownBefore state event) (state .profile) event read (again y)))
+          read
+          (again y)
+
+      no-sooner : due ≤ nextOf (ownAfter state event read) (state .mode) (event .time)
+      no-sooner =
+          let least =
+          again-due state (watch .due) (event .time) (kept .due)
+          (later state event read (watch .due) (kept .calm) (kept .due) none)
+          (event .kind)
+          (event .input)
+          few
+          in
+          rw (own-again, ← kept-due, ← againDue-other (watch .due) (event .kind) (event .time) other) least
+
+      same-due : takeStep watch event read .due ≡ watchStep watch event read .due
+      unfolding watchStep takeStep ownPut completed ownStep ownTake againOwn
+      same-due =
+          let dues : lesser due (nextOf (ownAfter state event read) (state .mode) (event .time))
+          ≡ againDue (watch .due) (event .kind) (event .time) =
+          lesser-same due _ no-sooner ∙ sym kept-due
+          ∙ sym (againDue-other (watch .due) (event .kind) (event .time) other)
+          in
+          byBool (seenAlike (ownBefore state event) (ownAfter state event read))
+          (λ alike. rw (y, own-early, none, unserved, own-here few, alike) dues)
+          (λ unlike. rw (y, own-early, none, unserved, own-here few, unlike) dues)
+
     unsaid : says ≡ false → watchStep watch event read ≡ takeStep watch event read
     unfolding watchStep
     unsaid n = rw n
@@ -274,6 +322,14 @@ module _ (watch : Watch) (event : Event) (read : FrameRead) (kept : Kept watch) 
       accepted-or-not (earlyNumber state event read) step-accepted
       (λ given. subst (Right plain) (sym (again-not given)) (right-refused given))
 
+-- what leaves the same state, answer and count, and the same time before which nothing is due, is the same watch
+same-watch : (plain : Stepped) (one other : Watch) → Right plain one → Right plain other → one .due ≡ other .due
+    → one ≡ other
+same-watch plain one other first second dues =
+    λ j.
+    watchOf ((first .state ∙ sym (second .state)) j) (dues j) ((first .answer ∙ sym (second .answer)) j)
+    ((first .count ∙ sym (second .count)) j)
+
 -- ---- from a fresh start
 
 pub fresh-kept : (profile : Profile) → Kept (freshWatch profile)
@@ -283,6 +339,57 @@ fresh-kept profile =
       due = omega arith;
       told = λ number. numbered-answer number accepted (freshSelector profile);
     }
+
+-- a fresh input has no good signal, so only a tick says again
+fresh-failing : (profile : Profile) (event : Event) → ownAt (freshSelector profile) event .heard .good ≡ false
+fresh-failing profile event =
+    every-at (λ (input : Input). input .heard .good ≡ false) (freshSelector profile .inputs) (ownPlace event) freshInput
+    (every-replicate (λ (input : Input). input .heard .good ≡ false) 16 freshInput refl)
+    (mod-lt (event .input) (omega arith))
+
+fresh-frame : (input : Input) (profile : Profile) (read : FrameRead) → input .heard .good ≡ false
+    → readAgain input profile read ≡ false
+unfolding readAgain frameAgain
+fresh-frame input profile (Code code) failing =
+    byBool (not (input .run .failed)) (λ y. rw (failing, y)) (λ n. rw (failing, n))
+fresh-frame input profile (Refused number) failing = refl
+
+fresh-said : (input : Input) (profile : Profile) (time due : ℕ) (event : Event) (read : FrameRead)
+    → input .heard .good ≡ false
+    → saysAgain input profile time due event read ≡ true
+    → eqb (event .kind) kindFrame ≡ false
+unfolding saysAgain isAgain
+fresh-said input profile time due event read failing says =
+    byBool (eqb (event .kind) kindFrame)
+    (λ f.
+    let k = eqb-true (event .kind) kindFrame f in
+    let is : readAgain input profile read ≡ true =
+    rw k at
+    (both-second
+    (eqb (earlyRefusal (limitsOf profile) time (input .settings .kind) event read) accepted && ltb (event .time) due)
+    (isAgain input profile event read)
+    says)
+    in
+    absurd (true≢false (sym is ∙ fresh-frame input profile read failing)))
+    (λ n. n)
+
+-- the line that opens a log is taken: from fresh that is the whole step
+pub fresh-taken : (profile : Profile) (event : Event) (read : FrameRead)
+    → takeStep (freshWatch profile) event read ≡ watchStep (freshWatch profile) event read
+unfolding watchStep
+fresh-taken profile event read =
+    let watch = freshWatch profile in
+    let state = watch .state in
+    let says = saysAgain (ownAt state event) profile 0 (watch .due) event read in
+    accepted-or-not (earlyNumber state event read)
+    (λ none. byBool says
+    (λ y. same-watch (stepRead state event read) (takeStep watch event read) (watchStep watch event read)
+    (takeStep-right watch event read (fresh-kept profile))
+    (watchStep-right watch event read (fresh-kept profile))
+    (same-due watch event read (fresh-kept profile) none y
+    (fresh-said (ownAt state event) profile 0 (watch .due) event read (fresh-failing profile event) y)))
+    (λ n. rw n))
+    (λ given. sym (again-not watch event read (fresh-kept profile) given))
 
 -- ---- any sequence of events
 
