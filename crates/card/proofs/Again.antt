@@ -42,8 +42,8 @@ use Rattle.events.specs.Step.{inputsAfter, modeAfter, atItsMoment, stepped, ear
 use Rattle.events.proofs.Laws.{lateRefusal-other}
 use Rattle.events.proofs.Refused.{accepted-input}
 use Rattle.events.proofs.Calm.{accepted-or-not, stepRead-refused, stepRead-barred, stepRead-taken, not-before, not-never, calm-brought, brought-time}
-use Rattle.watch.specs.Watch.{movedTo, ownBefore, ownAfter, ownAgain, isAgain, framedInput, againInput, againDue, againTaken, ownTaken}
-use Rattle.watch.proofs.Again.{again-input, again-seen, againDue-least}
+use Rattle.quickstep.specs.Watch.{movedTo, ownBefore, ownAfter, ownAgain, isAgain, framedInput, againInput, againDue, againTaken, ownTaken}
+use Rattle.quickstep.proofs.Again.{again-input, again-seen, againDue-least}
 
 -- ---- what is next due
 

@@ -43,8 +43,8 @@ use Rattle.events.specs.Given.{recordedEvent}
 use Rattle.events.specs.Step.{inputAfter, stepped, earlyNumber, stepRead}
 use Rattle.events.proofs.Calm.{accepted-or-not, stepRead-refused, not-never}
 use Rattle.events.proofs.Refused.{earlyRefusal-outside, accepted-input}
-use Rattle.watch.specs.Watch.{isCommand, isServed, movedTo, ownBefore, ownAfter, ownAgain, againInput, againDue, againTaken, ownTaken}
-use Rattle.watch.specs.Own.{againOwn}
+use Rattle.quickstep.specs.Watch.{isCommand, isServed, movedTo, ownBefore, ownAfter, ownAgain, againInput, againDue, againTaken, ownTaken}
+use Rattle.quickstep.specs.Own.{againOwn}
 use Rattle.card.specs.declared.Card.{Card}
 use Rattle.card.specs.declared.CardInput.{CardInput}
 use Rattle.card.specs.declared.quick.Quick.{Quick}

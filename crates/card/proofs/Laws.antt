@@ -40,9 +40,9 @@ use Rattle.numbers.specs.Recorded.{saidEvent}
 use Rattle.events.specs.Given.{readEvent, recordedArgument, recordedEvent}
 use Rattle.events.specs.Refusals.{earlyRefusal}
 use Rattle.events.specs.Step.{inputAfter}
-use Rattle.watch.specs.declared.Own.{Own}
-use Rattle.watch.specs.Watch.{isServed, isAgain, movedTo}
-use Rattle.watch.specs.Own.{OwnPlace, againOwn}
+use Rattle.quickstep.specs.declared.Own.{Own}
+use Rattle.quickstep.specs.Watch.{isServed, isAgain, movedTo}
+use Rattle.quickstep.specs.Own.{OwnPlace, againOwn}
 use Rattle.numbers.specs.Inputs.{lastInput}
 use Rattle.status.specs.declared.Status.{Status}
 use Rattle.status.specs.Kept.{inputStatus}

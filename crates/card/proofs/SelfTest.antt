@@ -23,8 +23,8 @@ use Rattle.events.specs.Refusals.{isWrongKind, frameRefusal, earlyRefusal, isFo
 use Rattle.events.specs.Step.{isHeldInByte, heldArgument, inputAfter, inputsAfter, modeAfter, atItsMoment, stepRead}
 use Rattle.events.specs.Given.{recordedArgument}
 use Rattle.card.specs.Flat.{inputOf, flatInput, switchOf, selectionOf, isSelected, profileIn, optionOf, selectorOf, cardOf}
-use Rattle.watch.specs.Watch.{isCommand, isServed, codeAgain, frameAgain, isAgain, againInput, againDue}
-use Rattle.watch.specs.Own.{againOwn}
+use Rattle.quickstep.specs.Watch.{isCommand, isServed, codeAgain, frameAgain, isAgain, againInput, againDue}
+use Rattle.quickstep.specs.Own.{againOwn}
 use Rattle.card.specs.Card.{freshCard, dueAfter, plainOf, isRanged, isQuick, quickStep, dueHeld, isPlain, takenState, wholeCard, eventCard, readFor, stepCard}
 use Rattle.card.specs.SelfTest.{lentOctets, testFrame, testedCard, isTold, answeredRight, selfTest, SelfTestRight}
 

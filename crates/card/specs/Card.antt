@@ -20,19 +20,18 @@ use Rattle.frame.specs.declared.FrameWrite.{FrameWrite}
 use Rattle.frame.specs.declared.FrameWrite.the-variants.{Written, Refused}
 use Rattle.frame.specs.Read.{numberOfRead, codeOfRead, readCode, readFrame}
 use Rattle.frame.specs.Write.{writeAnswer, contentAfter}
-use Rattle.input.specs.declared.Input.{Input}
 use Rattle.input.specs.Record.{freshInput}
 use Rattle.selector.specs.declared.Selector.{Selector}
 use Rattle.selector.specs.Clock.{noInput, locked, switchManual, selectedNumber, switchNumber, switchInput}
-use Rattle.selector.specs.State.{freshSelector, decided}
+use Rattle.selector.specs.State.{freshSelector}
 use Rattle.selector.specs.Answer.{answerOf, outgoingCodes, outgoingWords}
 use Rattle.events.specs.declared.Stepped.{Stepped}
-use Rattle.due.specs.Next.{lesser, nextDue}
-use Rattle.events.specs.Given.{recordedArgument, recordedEvent}
+use Rattle.due.specs.Next.{nextDue}
 use Rattle.events.specs.Refusals.{earlyRefusal}
-use Rattle.events.specs.Step.{inputAfter, stepRead}
-use Rattle.watch.specs.Watch.{isServed, isAgain, movedTo}
-use Rattle.watch.specs.Own.{againOwn}
+use Rattle.events.specs.Step.{stepRead}
+use Rattle.quickstep.specs.declared.Watch.{Watch}
+use Rattle.quickstep.specs.Again.{saysAgain, againOwn}
+use Rattle.quickstep.specs.Watch.{watchOf, dueAfter, takeStep}
 use Rattle.sender.specs.Heartbeat.{codeOfPort}
 use Rattle.card.specs.declared.Card.{Card}
 use Rattle.card.specs.declared.CardAnswer.{CardAnswer}
@@ -73,20 +72,11 @@ eventOf kind time input argument = record { kind = kind; time = time; input = in
 abbrev pub steppedCard : ℕ → Stepped → Card
 steppedCard due stepped = cardOf (stepped .number) (stepped .count) due (stepped .state)
 
--- a time before which nothing is due of the state that an event left, of such a time before the event: made anew once
--- it has come
-unfoldable pub dueAfter : ℕ → ℕ → Selector → ℕ
-dueAfter due time state = cond (ltb time due) (lesser due (nextDue state)) (nextDue state)
-
--- all of the plain step, of a selector with such a time
-unfoldable pub plainOf : Selector → ℕ → Event → FrameRead → Card
-plainOf state due event read =
-    let stepped = stepRead state event read in
-    steppedCard (dueAfter due (event .time) (stepped .state)) stepped
-
--- of a card
-abbrev pub plainCard : Card → Event → FrameRead → Card
-plainCard card event read = plainOf (selectorOf card) (card .due) event read
+-- the plain step of a card, whatever is due: what a kept card is judged by
+unfoldable pub plainCard : Card → Event → FrameRead → Card
+plainCard card event read =
+    let stepped = stepRead (selectorOf card) event read in
+    steppedCard (dueAfter (card .due) (event .time) (stepped .state)) stepped
 
 -- what a lent frame says to an event: it is looked at for a frame event alone
 unfoldable pub readFor : ℕ → List ℕ → FrameRead
@@ -118,12 +108,6 @@ pub record StandsAt (inputs : List CardInput) (number place : ℕ) : Type 0 wher
 abbrev pub ownFlat : Card → Event → CardInput
 ownFlat card event = getD (card .inputs) (ownPlace (event .input)) (flatInput freshInput)
 
--- before anything is due, an event says again what its own input heard before; a tick says nothing
-unfoldable pub isQuick : Input → Profile → ℕ → Event → FrameRead → Bool
-isQuick before profile due event read =
-    ltb (event .time) due &&
-    isAgain before profile (event .kind) (recordedArgument (event .kind) (event .argument) read)
-
 -- whether an event is quick, and what one that is writes
 abbrev pub quickOf : Bool → ℕ → ℕ → ℕ → ℕ → Quick
 quickOf is framed time due number = record { is = is; framed = framed; time = time; due = due; number = number }
@@ -132,16 +116,16 @@ quickOf is framed time due number = record { is = is; framed = framed; time = ti
 abbrev pub notQuick : Quick
 notQuick = quickOf false 0 0 0 accepted
 
--- an event on a card whose answer names what is there, of its own input's record: refused at once; or said again, as
--- crate `watch` has it; no other is quick
+-- an event on a card whose answer names what is there, of its own input's record: said again, as crate `quickstep` has
+-- it; or refused at once; no other is quick
 unfoldable pub quickStep : CardInput → CardAnswer → Profile → ℕ → ℕ → Event → FrameRead → Quick
 quickStep flat told profile time due event read =
     let early = earlyRefusal (limitsOf profile) time (inputOf flat .settings .kind) event read in
     let own = againOwn (inputOf flat) due event in
     cond (not (isRanged told)) notQuick
-    (cond (not (eqb early accepted)) (quickOf true (flat .framed) time due early)
-    (cond (isQuick (inputOf flat) profile due event read)
+    (cond (saysAgain (inputOf flat) profile time due event read)
     (quickOf true (own .input .heard .framed) (own .time) (own .due) (own .number))
+    (cond (not (eqb early accepted)) (quickOf true (flat .framed) time due early)
     notQuick))
 
 -- a record whose last frame came at another time
@@ -203,52 +187,15 @@ quickCard card place quick =
       spare = card .spare;
     }
 
--- a time before which nothing is due: the one that is kept; once it has come, when something is next due
-unfoldable pub dueHeld : ℕ → ℕ → Selector → ℕ
-dueHeld due time state = cond (ltb time due) due (nextDue state)
+-- the watch that a card holds
+abbrev pub watchIn : Card → Watch
+watchIn card = watchOf (selectorOf card) (card .due) (answerOf accepted (selectorOf card)) 0
 
--- an event takes the plain step: refused at once; or something is due by its time, or it commands, as crate `watch` has it
-unfoldable pub isPlain : Selector → ℕ → Event → FrameRead → Bool
-isPlain state due event read =
-    let before = getD (state .inputs) (ownPlace (event .input)) freshInput in
-    not (eqb (earlyRefusal (limitsOf (state .profile)) (state .time) (before .settings .kind) event read) accepted) ||
-    isServed (dueHeld due (event .time) state) (event .kind) (event .time)
-
--- any other is taken by its own input, and a choice is made
-unfoldable pub takenState : Selector → Event → FrameRead → Selector
-takenState state event read =
-    let place = ownPlace (event .input) in
-    let own = inputAfter (getD (state .inputs) place freshInput) (recordedEvent (state .profile) event read) (state .mode) in
-    decided (movedTo state (set (state .inputs) place own) (event .time))
-
--- the card after it: its own input's record, the time and what a choice changes are written, and nothing was served
-abbrev pub chosenCard : Card → ℕ → ℕ → Selector → Card
-chosenCard card place due after =
-    record {
-      inputs = set (card .inputs) place (flatInput (getD (after .inputs) place freshInput));
-      time = after .time;
-      due = due;
-      mode = card .mode;
-      held = flag (after .held);
-      switch = switchNumber (after .switch);
-      on = switchInput (after .switch);
-      selection = isSelected (after .selection);
-      selected = selectedNumber (after .selection);
-      answer = flatAnswer (answerOf accepted after);
-      served = 0;
-      option = card .option;
-      place = card .place;
-      marks = card .marks;
-      spare = card .spare;
-    }
-
--- the card after an event that is not quick
+-- the card after any other event: taken by its watch
 unfoldable pub wholeCard : Card → Event → FrameRead → Card
 wholeCard card event read =
-    let state = selectorOf card in
-    let after = takenState state event read in
-    cond (isPlain state (card .due) event read) (plainOf state (card .due) event read)
-    (chosenCard card (ownPlace (event .input)) (dueAfter (card .due) (event .time) after) after)
+    let after = takeStep (watchIn card) event read in
+    cardOf (after .answer .number) (after .count) (after .due) (after .state)
 
 -- the card after one event
 unfoldable pub eventCard : Card → Event → FrameRead → Card

@@ -1,37 +1,30 @@
-// One event on a card. Before anything is due, one that says again what its own input heard before
-// touches that input alone; so does one that is refused at once. Such an event is quick: what it
-// writes is little, and nothing else of the card is looked at. Of the others, one that has nothing to
-// be served is taken by its own input, and a choice is made; what is left takes the plain step.
+// One event on a card. One that says again what its own input heard before, with nothing due, touches
+// that input alone, and one that is refused at once nothing: such an event is quick, what it writes is
+// little, and nothing else of the card is looked at. Any other is taken by the card's watch.
 use crate::Card;
 use crate::CardAnswer;
 use crate::CardInput;
 use crate::card_of;
-use crate::flat_input;
 use crate::input_of;
-use crate::is_selected;
 use crate::profile_in;
 use crate::read_for;
 use crate::selector_of;
-use due::next_due;
 use events::early_refusal;
-use events::input_after;
-use events::recorded_argument;
-use events::recorded_event;
 use events::step_read;
 use frame::FrameRead;
-use input::Input;
 use numbers::ACCEPTED;
 use numbers::Event;
 use numbers::INPUT_COUNT;
 use numbers::LAST_INPUT;
 use numbers::Profile;
+use quickstep::Watch;
+use quickstep::again_own;
+use quickstep::due_after;
+use quickstep::says_again;
 use selector::Selector;
-use watch::again_own;
-use watch::is_again;
-use watch::is_served;
 ghost use mathlib.Core.Path.{_≡_};
 ghost use Rattle.card.specs.Flat.{profileIn};
-ghost use Rattle.card.specs.Card.{eventOf, readFor, namesInput, isRanged, ownPlace, StandsAt, dueAfter, plainOf, plainCard, isQuick, quickStep, quickCard, dueHeld, isPlain, takenState, chosenCard, wholeCard};
+ghost use Rattle.card.specs.Card.{eventOf, readFor, namesInput, isRanged, ownPlace, StandsAt, plainCard, quickStep, quickCard, wholeCard};
 
 // Stands for no input in an answer.
 const NO_INPUT: u8 = 255;
@@ -79,51 +72,18 @@ pub fn own_place(inputs: [CardInput; 16], number: u8) -> usize
     (number % INPUT_COUNT) as usize
 }
 
-// A time before which nothing is due of the state that an event left: made anew once it has come.
-fn due_after(due: u64, time: u64, state: Selector) -> u64
-    ensures { λ answer. ⌜ answer ≡ dueAfter due time state ⌝ }
-{
-    let next = next_due(state);
-    if time < due {
-        if due <= next {
-            return due;
-        }
-        return next;
-    }
-    next
-}
-
-// All of the plain step, of a selector with such a time.
-fn plain_of(state: Selector, due: u64, event: Event, read: FrameRead) -> Card
-    ensures { λ answer. ⌜ answer ≡ plainOf state due event read ⌝ }
-{
-    let stepped = step_read(state, event, read);
-    let after = stepped.state;
-    let next = due_after(due, event.time, after);
-    card_of(stepped.number, stepped.count, next, after)
-}
-
-// Of a card.
+// The plain step, whatever is due: what a kept card is judged by.
 pub fn plain_card(card: Card, event: Event, read: FrameRead) -> Card
     ensures { λ answer. ⌜ answer ≡ plainCard card event read ⌝ }
 {
     let state = selector_of(card);
-    plain_of(state, card.due, event, read)
+    let stepped = step_read(state, event, read);
+    let after = stepped.state;
+    let next = due_after(card.due, event.time, after);
+    card_of(stepped.number, stepped.count, next, after)
 }
 
-// Whether an event says again what its own input heard before, and nothing is due by its time; a tick
-// says nothing.
-fn is_quick(before: Input, profile: Profile, due: u64, event: Event, read: FrameRead) -> bool
-    ensures { λ answer. ⌜ answer ≡ isQuick before profile due event read ⌝ }
-{
-    if event.time < due {
-        let argument = recorded_argument(event.kind, event.argument, read);
-        return is_again(before, profile, event.kind, argument);
-    }
-    false
-}
-
-// An event, as far as it is quick: refused at once, or said again. None is on a card whose answer
+// An event, as far as it is quick: said again, or refused at once. None is on a card whose answer
 // names what is not there.
 fn quick_step(
     flat: CardInput,
@@ -146,6 +106,18 @@ fn quick_step(
         };
     }
     let before = input_of(flat);
+    if says_again(before, profile, time, due, event, read) {
+        let own = again_own(before, due, event);
+        let input = own.input;
+        let heard = input.heard;
+        return Quick {
+            is: true,
+            framed: heard.framed,
+            time: own.time,
+            due: own.due,
+            number: own.number,
+        };
+    }
     let settings = before.settings;
     let at = settings.kind;
     let early = early_refusal(profile, time, at, event, read);
@@ -156,18 +128,6 @@ fn quick_step(
             time,
             due,
             number: early,
-        };
-    }
-    if is_quick(before, profile, due, event, read) {
-        let own = again_own(before, due, event);
-        let input = own.input;
-        let heard = input.heard;
-        return Quick {
-            is: true,
-            framed: heard.framed,
-            time: own.time,
-            due: own.due,
-            number: own.number,
         };
     }
     Quick {
@@ -229,100 +189,22 @@ pub fn quick_call(
     quick_step(flat, told, profile, last, due, event, read)
 }
 
-// A time before which nothing is due; once it has come, when something is next due.
-fn due_held(due: u64, time: u64, state: Selector) -> u64
-    ensures { λ answer. ⌜ answer ≡ dueHeld due time state ⌝ }
-{
-    if time < due {
-        return due;
-    }
-    next_due(state)
-}
-
-// Whether an event takes the plain step: refused at once, or something is due by its time, or it
-// commands.
-fn is_plain(state: Selector, due: u64, event: Event, read: FrameRead) -> bool
-    ensures { λ answer. ⌜ answer ≡ isPlain state due event read ⌝ }
-{
-    let inputs = state.inputs;
-    let place = watch::own_place(inputs, event.input);
-    let before = state.inputs[place];
-    let profile = state.profile;
-    let settings = before.settings;
-    let at = settings.kind;
-    let early = early_refusal(profile, state.time, at, event, read);
-    if early != ACCEPTED {
-        return true;
-    }
-    let held = due_held(due, event.time, state);
-    is_served(held, event.kind, event.time)
-}
-
-// Any other is taken by its own input, and a choice is made.
-fn taken_state(state: Selector, event: Event, read: FrameRead) -> Selector
-    ensures { λ answer. ⌜ answer ≡ takenState state event read ⌝ }
-{
-    let inputs = state.inputs;
-    let place = watch::own_place(inputs, event.input);
-    let before = state.inputs[place];
-    let profile = state.profile;
-    let recorded = recorded_event(event, read);
-    let input = input_after(before, profile, recorded, state.mode);
-    let mut taken = state;
-    taken.inputs[place] = input;
-    taken.time = event.time;
-    taken.decided()
-}
-
-// The card after it: its own input's record, the time and what a choice changes are written.
-fn chosen_card(card: Card, number: u8, due: u64, after: Selector) -> Card
-    ensures { λ answer. ⌜ answer ≡ chosenCard card (ownPlace number) due after ⌝ }
-{
-    let all = after.inputs;
-    let place = watch::own_place(all, number);
-    let mut inputs = card.inputs;
-    let input = after.inputs[place];
-    let flat = flat_input(input);
-    let selection = after.selection;
-    let answer = after.answer(ACCEPTED);
-    inputs[place] = flat;
-    Card {
-        inputs,
-        time: after.time,
-        due,
-        mode: card.mode,
-        held: after.held as u8,
-        switch: answer.switch,
-        on: answer.on,
-        selection: is_selected(selection),
-        selected: answer.selected,
-        answer: CardAnswer {
-            number: answer.number,
-            selected: answer.selected,
-            state: answer.state,
-            quality: answer.quality,
-            switch: answer.switch,
-            on: answer.on,
-        },
-        served: 0,
-        option: card.option,
-        place: card.place,
-        marks: card.marks,
-        spare: card.spare,
-    }
-}
-
-// The card after an event that is not quick.
+// The card after any other event: taken by the watch that it holds.
 fn whole_card(card: Card, event: Event, read: FrameRead) -> Card
     ensures { λ answer. ⌜ answer ≡ wholeCard card event read ⌝ }
 {
     let state = selector_of(card);
-    if is_plain(state, card.due, event, read) {
-        return plain_of(state, card.due, event, read);
-    }
-    let after = taken_state(state, event, read);
-    let due = due_after(card.due, event.time, after);
-    chosen_card(card, event.input, due, after)
+    let answer = state.answer(ACCEPTED);
+    let watch = Watch {
+        state,
+        due: card.due,
+        answer,
+        count: 0,
+    };
+    let after = watch.take(event, read);
+    let told = after.answer;
+    let held = after.state;
+    card_of(told.number, after.count, after.due, held)
 }
 
 // The same, of an event that C gives, with a lent frame.

@@ -1,0 +1,22 @@
+-- `quickstep::served` meets its contract: it is the definition, call by call.
+-- Assumes nothing.
+use Rattle.quickstep.specs.Watch.{servedWatch}
+use borrow.Author.Needs.{needs}
+use Rattle.quickstep.proofs.served.Statement.{statement}
+use Rattle.quickstep.proofs.served.Tie as tie
+
+step-read-requires : tie.Need-step-read-requires
+step-read-requires c κs = search needs
+
+due-after-requires : tie.Need-due-after-requires
+due-after-requires c κs = search needs
+
+answer-requires : tie.Need-answer-requires
+answer-requires c κs = search needs
+
+returns : tie.Need-returns
+unfolding servedWatch
+returns c = cc
+
+pub served-spec : {M : Type 1} → statement M
+served-spec = tie.close (tie.spec step-read-requires due-after-requires answer-requires returns)
