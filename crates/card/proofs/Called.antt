@@ -1,21 +1,20 @@
 -- A selector comes back from its numbers, and so a call on the card of a selector is a step of that selector; nothing is due
 -- before the time that the card keeps. Assumes nothing.
-use Prim.Native.Nat.{ℕ, zero, suc, _≤_, _<_}
-use mathlib.Core.Bool.{Bool, true, false, not, _||_, true≢false}
+use Prim.Native.Nat.{ℕ, _≤_, _<_}
+use mathlib.Core.Bool.{Bool, true, false, _&&_}
 use mathlib.Core.List.{List, [], _∷_, map}
-use mathlib.Core.Logic.{_⊎_, inl, inr}
+use mathlib.Core.Logic.{inl, inr}
 use mathlib.Core.Path.{_≡_, refl, sym, _∙_, ap, subst}
 use native.Mathlib.Nat.{mod-lt, mod-eq-of-lt}
 use native.Mathlib.Omega.{arith}
-use lib.Dec.{eqb, leb, ltb}
-use lib.ListN.{length, getD, set, length-map, List·getD-map}
-use lib.Seq.{getD-set-same}
-use borrow.Author.Tests.{eq-eqb, ne-eqb, le-leb, leb-false, le-ltb, ltb-true, ltb-false}
+use lib.Dec.{eqb, ltb}
+use lib.ListN.{getD, set, length-map, List·getD-map}
+use borrow.Author.Tests.{ne-eqb, le-leb, le-ltb, lt-ltb, ltb-true}
 use Rattle.numbers.specs.declared.Event.{Event}
 use Rattle.numbers.specs.declared.Profile.{Profile}
 use Rattle.numbers.specs.declared.Profile.the-variants as P
 use Rattle.numbers.specs.Inputs.{lastInput, inputCount}
-use Rattle.numbers.specs.Kind.{flag, kindFrame, kindForced, kindManual, kindClearSwitch, kindQualityMode}
+use Rattle.numbers.specs.Kind.{flag, kindFrame}
 use Rattle.numbers.specs.Profile.{placeOf, marksOf, limitsOf}
 use Rattle.numbers.specs.Refusal.{accepted}
 use Rattle.frame.specs.declared.FrameRead.{FrameRead}
@@ -31,30 +30,30 @@ use Rattle.decision.specs.declared.Switch.{Switch}
 use Rattle.decision.specs.declared.Switch.the-variants as W
 use Rattle.selector.specs.declared.Selector.{Selector}
 use Rattle.selector.specs.Clock.{selectedNumber, switchNumber, switchInput, locked, switchManual}
-use Rattle.selector.specs.State.{decided}
 use Rattle.selector.specs.Answer.{answerOf}
-use Rattle.due.specs.Next.{never, lesser, nextDue}
-use Rattle.due.proofs.Millisecond.{lesser-other}
+use Rattle.due.specs.Next.{nextDue}
 use Rattle.due.proofs.Calm.{Calm}
-use Rattle.due.proofs.Jump.{nextDue-later}
 use Rattle.events.specs.declared.Stepped.{Stepped}
 use Rattle.events.specs.Refusals.{frameRefusal, earlyRefusal}
-use Rattle.events.specs.Given.{recordedEvent}
-use Rattle.events.specs.Step.{inputAfter, stepped, earlyNumber, stepRead}
-use Rattle.events.proofs.Calm.{accepted-or-not, stepRead-refused, not-never}
-use Rattle.events.proofs.Refused.{earlyRefusal-outside, accepted-input}
-use Rattle.quickstep.specs.Watch.{isCommand, isServed, movedTo, ownBefore, ownAfter, ownAgain, againInput, againDue, againTaken, ownTaken}
-use Rattle.quickstep.specs.Own.{againOwn}
+use Rattle.events.specs.Step.{earlyNumber, stepRead, stepped}
+use Rattle.events.proofs.Calm.{accepted-or-not, stepRead-refused}
+use Rattle.quickstep.specs.declared.Watch.{Watch}
+use Rattle.quickstep.specs.Again.{isAgain, saysAgain, againInput, againDue, againOwn}
+use Rattle.quickstep.specs.Watch.{watchOf, dueAnew, dueAfter, takeStep}
+use Rattle.quickstep.proofs.Laws.{saysAgain-not}
+use Rattle.quickstep.proofs.Due.{put-due, again-due, againDue-least, againDue-other, againDue-later}
+use Rattle.quickstep.proofs.Step.{ownBefore, againTaken, answer-same, again-same, later, ever, inside, stepRead-again}
+use Rattle.quickstep.proofs.Right.{Kept, numbered-answer, own-early, takeStep-right}
 use Rattle.card.specs.declared.Card.{Card}
 use Rattle.card.specs.declared.CardInput.{CardInput}
 use Rattle.card.specs.declared.quick.Quick.{Quick}
 use Rattle.card.specs.Flat.{isSet, inputOf, flatInput, flatAnswer, switchOf, selectionOf, isSelected, profileIn, optionOf, selectorOf, cardOf, withNumber}
-use Rattle.card.specs.Card.{steppedCard, dueAfter, plainOf, namesInput, isRanged, profileHeld, ownPlace, StandsAt, ownFlat, isQuick, quickOf, notQuick, quickStep, framedFlat, numbered, quickCard, dueHeld, isPlain, takenState, chosenCard, wholeCard, eventCard, readFor}
+use Rattle.card.specs.Card.{steppedCard, namesInput, isRanged, profileHeld, ownPlace, StandsAt, ownFlat, quickOf, notQuick, quickStep, framedFlat, numbered, quickCard, watchIn, wholeCard, eventCard, readFor}
 use Rattle.card.specs.Range.{IsInput, InRange}
-use Rattle.card.proofs.Laws.{dueAfter-kept, quickStep-refused, quickStep-again, quickStep-slow, eventCard-quick, eventCard-whole}
+use Rattle.card.proofs.Laws.{quickStep-refused, quickStep-again, quickStep-slow, eventCard-quick, eventCard-whole}
 use Rattle.card.proofs.Element.{set-same, set-map}
 use Rattle.card.proofs.Range.{On, Named, cardOf-inRange}
-use Rattle.card.proofs.Again.{againDue-other, again-bound, againDue-later, Free, stepRead-own, stepRead-again, again-ends, answer-again, stepRead-time}
+use Rattle.card.proofs.Due.{anew, dueAfter-kept, takeStep-due, takeStep-later}
 
 -- ---- back from its numbers
 
@@ -108,20 +107,6 @@ pub withNumber-cardOf : (number other count later due : ℕ) (state : Selector)
 unfolding cardOf answerOf
 withNumber-cardOf number other count later due state = refl
 
--- a time before which nothing is due
-dueAfter-bound : (due time : ℕ) (state : Selector) → dueAfter due time state ≤ nextDue state
-unfolding dueAfter
-dueAfter-bound due time state =
-    byBool (ltb time due) (λ y. rw y (lesser-other due (nextDue state))) (λ n. rw n (omega arith))
-
-dueAfter-later : (due time : ℕ) (state : Selector) (now : ℕ) → now ≤ time → now < nextDue state → now < dueAfter due time state
-unfolding dueAfter lesser
-dueAfter-later due time state now here next =
-    byBool (ltb time due)
-    (λ y. rw y
-    (byBool (leb due (nextDue state)) (λ m. rw m (omega (arith, ltb-true time due y))) (λ m. rw m next)))
-    (λ n. rw n next)
-
 -- what a card of a selector is asked before an event is what the selector is
 isRanged-inRange : (card : Card) → InRange card → isRanged (card .answer) ≡ true
 unfolding isRanged
@@ -142,33 +127,6 @@ framed-again : (input : Input) (kind time : ℕ)
     → framedFlat (flatInput input) (againInput input kind time .heard .framed) ≡ flatInput (againInput input kind time)
 unfolding flatInput againInput
 framed-again input kind time = byBool (eqb kind kindFrame) (λ y. rw y) (λ n. rw n)
-
--- an event that is not served commands nothing
-served-free : (due kind time : ℕ) → isServed due kind time ≡ false → (time < due) × Free kind
-unfolding isServed isCommand
-served-free due kind time is =
-    byBool (leb due time) (λ y. absurd (true≢false (rw y at is)))
-    (λ n. (
-      leb-false due time n,
-      four (eqb kind kindForced) (eqb kind kindManual) (eqb kind kindClearSwitch) (eqb kind kindQualityMode) (rw n at is),
-    ))
-  where
-    four : (a b c d : Bool) → (a || b || c || d) ≡ false → (a ≡ false) × (b ≡ false) × (c ≡ false) × (d ≡ false)
-    four false false false false e = (refl, refl, refl, refl)
-    four false false false true e = absurd (true≢false e)
-    four false false true d e = absurd (true≢false e)
-    four false true c d e = absurd (true≢false e)
-    four true b c d e = absurd (true≢false e)
-
-dueHeld-bound : (due time : ℕ) (state : Selector) → due ≤ nextDue state → dueHeld due time state ≤ nextDue state
-unfolding dueHeld
-dueHeld-bound due time state bound = byBool (ltb time due) (λ y. rw y bound) (λ n. rw n (omega arith))
-
--- what does not take the plain step is accepted at once, and is not served
-isPlain-not : (refused served : Bool) → (not refused || served) ≡ false → (refused ≡ true) × (served ≡ false)
-isPlain-not true false e = (refl, refl)
-isPlain-not true true e = absurd (true≢false e)
-isPlain-not false served e = absurd (true≢false e)
 
 module _ (number count due : ℕ) (state : Selector) (event : Event) (read : FrameRead) (named : Named state)
     (calm : Calm state) (ahead : state .time < due) (bound : due ≤ nextDue state) where
@@ -204,31 +162,35 @@ module _ (number count due : ℕ) (state : Selector) (event : Event) (read : Fra
   own-before : event .input < inputCount → inputOf (ownFlat card event) ≡ ownBefore state event
   own-before few = own-back ∙ ap (λ (place : ℕ). getD (state .inputs) place freshInput) (own-number few)
 
+  -- the watch that the card holds
+  abbrev held : Watch
+  held = watchOf state due (answerOf accepted state) 0
+
+  kept : Kept held
+  kept = record { calm = calm; due = bound; told = λ other. numbered-answer other accepted state }
+
+  held-back : watchIn card ≡ held
+  unfolding cardOf
+  held-back =
+      ap (λ (back : Selector). watchOf back due (answerOf accepted back) 0) (selectorOf-cardOf number count due state named)
+
   -- the number that it is refused with at once, by the input at its place
   abbrev earlyAt : Profile → Input → ℕ
   earlyAt profile input = earlyRefusal (limitsOf profile) (state .time) (input .settings .kind) event read
-
-  early-place : earlyAt (state .profile) (getD (state .inputs) (ownPlace (event .input)) freshInput) ≡ earlyNumber state event read
-  early-place =
-      byBool (ltb (event .input) inputCount)
-      (λ y. ap (λ (place : ℕ). earlyAt (state .profile) (getD (state .inputs) place freshInput)) (own-number (ltb-true _ _ y)))
-      (λ n. earlyRefusal-outside (limitsOf (state .profile)) (state .time) event read (ltb-false _ _ n) _ _)
 
   early-back : earlyAt (profileHeld card) (inputOf (ownFlat card event)) ≡ earlyNumber state event read
   early-back =
       ap (λ (profile : Profile). earlyAt profile (inputOf (ownFlat card event))) profile-back
       ∙ ap (earlyAt (state .profile)) own-back
-      ∙ early-place
+      ∙ own-early held event read kept
+
+  -- whether it says again what was said before
+  abbrev says : Bool
+  says = saysAgain (inputOf (ownFlat card event)) (profileHeld card) (state .time) due event read
 
   -- what it is asked as a quick one
   abbrev quick : Quick
   quick = quickStep (ownFlat card event) (card .answer) (profileHeld card) (card .time) (card .due) event read
-
-  quick-back : event .input < inputCount
-      → isQuick (inputOf (ownFlat card event)) (profileHeld card) due event read ≡ isQuick (ownBefore state event) (state .profile) due event read
-  quick-back few =
-      ap (λ (input : Input). isQuick input (profileHeld card) due event read) (own-before few)
-      ∙ ap (λ (profile : Profile). isQuick (ownBefore state event) profile due event read) profile-back
 
   -- refused at once: the card is as it was, but for the number
   pub called-refused : (earlyNumber state event read ≡ accepted → ⊥)
@@ -237,7 +199,9 @@ module _ (number count due : ℕ) (state : Selector) (event : Event) (read : Fra
   called-refused given =
       let told : quickOf true (ownFlat card event .framed) (card .time) (card .due) (earlyAt (profileHeld card) (inputOf (ownFlat card event))) ≡ quick =
       quickStep-refused (ownFlat card event) (card .answer) (profileHeld card) (card .time) (card .due) event read true
-      (sym ranged) refl (inputOf (ownFlat card event)) _ refl refl (λ e. given (sym early-back ∙ e)) in
+      (sym ranged) refl (inputOf (ownFlat card event)) refl false
+      (saysAgain-not (inputOf (ownFlat card event)) (profileHeld card) (state .time) due event read (λ e. given (sym early-back ∙ e)))
+      refl _ refl (λ e. given (sym early-back ∙ e)) in
       sym
       (eventCard-quick card event read (ownPlace (event .input)) (flatInput freshInput) stands quick refl
       (sym (ap (λ (one : Quick). one .is) told)) _ refl)
@@ -267,101 +231,57 @@ module _ (number count due : ℕ) (state : Selector) (event : Event) (read : Fra
 
   module _ (none : earlyNumber state event read ≡ accepted) where
     few : event .input < inputCount
-    few = accepted-input (limitsOf (state .profile)) (state .time) _ event read none
+    few = inside state event read due calm bound none
 
-    -- what does not take the plain step, before a time before which nothing is due
-    module _ (taken : isPlain state due event read ≡ false) where
-      unserved : isServed (dueHeld due (event .time) state) (event .kind) (event .time) ≡ false
-      unfolding isPlain
-      unserved =
-          isPlain-not (eqb (earlyAt (state .profile) (getD (state .inputs) (ownPlace (event .input)) freshInput)) accepted)
-          (isServed (dueHeld due (event .time) state) (event .kind) (event .time))
-          taken .1
-
-      whole-own : stepRead state event read ≡ stepped accepted 0 (decided (ownTaken state event read))
-      whole-own =
-          let free = served-free (dueHeld due (event .time) state) (event .kind) (event .time) unserved in
-          stepRead-own state event read (dueHeld due (event .time) state) calm (dueHeld-bound due (event .time) state bound) none
-          (free .0) (free .1)
-
-      chosen-inputs : set (map flatInput (state .inputs)) (event .input)
-          (flatInput (getD (set (state .inputs) (event .input) (ownAfter state event read)) (event .input) freshInput))
-          ≡ map flatInput (set (state .inputs) (event .input) (ownAfter state event read))
-      chosen-inputs =
-          ap (λ (input : Input). set (map flatInput (state .inputs)) (event .input) (flatInput input))
-          (getD-set-same (state .inputs) (event .input) (ownAfter state event read) freshInput (omega (arith, few, calm .count)))
-          ∙ set-map flatInput (state .inputs) (event .input) (ownAfter state event read)
-
-      chosen-card : (new : ℕ) → chosenCard card (event .input) new (decided (ownTaken state event read))
-          ≡ cardOf accepted 0 new (decided (ownTaken state event read))
-      unfolding cardOf decided
-      chosen-card new = rw chosen-inputs
-
-      taken-own : takenState state event read ≡ decided (ownTaken state event read)
-      unfolding takenState
-      taken-own =
-          ap
-          (λ (place : ℕ). decided
-          (movedTo state
-          (set (state .inputs) place
-          (inputAfter (getD (state .inputs) place freshInput) (recordedEvent (state .profile) event read) (state .mode)))
-          (event .time)))
-          (own-number few)
-
-      whole-taken : chosenCard card (ownPlace (event .input))
-          (dueAfter due (event .time) (takenState (selectorOf card) event read))
-          (takenState (selectorOf card) event read)
-          ≡ plainOf state due event read
-      unfolding plainOf
-      whole-taken =
-          ap
-          (λ (held : Selector). chosenCard card (ownPlace (event .input)) (dueAfter due (event .time) (takenState held event read))
-          (takenState held event read))
-          (selectorOf-cardOf number count due state named)
-          ∙ ap
-          (λ (after : Selector). chosenCard card (ownPlace (event .input)) (dueAfter due (event .time) after) after)
-          taken-own
-          ∙ ap
-          (λ (place : ℕ). chosenCard card place (dueAfter due (event .time) (decided (ownTaken state event read)))
-          (decided (ownTaken state event read)))
-          (own-number few)
-          ∙ chosen-card (dueAfter due (event .time) (decided (ownTaken state event read)))
-          ∙ sym
-          (ap (λ (after : Stepped). steppedCard (dueAfter due (event .time) (after .state)) after) whole-own)
-
-    -- what is not quick comes to the plain step, taken by its own input or not
-    whole-plain : wholeCard card event read ≡ plainOf state due event read
-    unfolding wholeCard cardOf
+    -- taken by the watch: what the plain step leaves
+    whole-plain : wholeCard card event read ≡ steppedCard (takeStep held event read .due) (stepRead state event read)
+    unfolding wholeCard answerOf
     whole-plain =
-        let back : isPlain (selectorOf card) due event read ≡ isPlain state due event read =
-        ap (λ (held : Selector). isPlain held due event read) (selectorOf-cardOf number count due state named) in
-        byBool (isPlain state due event read)
-        (λ y. rw (back, y) (ap (λ (held : Selector). plainOf held due event read) (selectorOf-cardOf number count due state named)))
-        (λ n. rw (back, n) (whole-taken n))
+        let right = takeStep-right held event read kept in
+        ap
+        (λ (watch : Watch).
+        let after = takeStep watch event read in
+        cardOf (after .answer .number) (after .count) (after .due) (after .state))
+        held-back
+        ∙ (λ j. cardOf (right .answer j .number) (right .count j) (takeStep held event read .due) (right .state j))
 
-    -- anything new: the plain step
-    called-plain : isQuick (ownBefore state event) (state .profile) due event read ≡ false
-        → eventCard card event read
-        ≡ steppedCard (dueAfter due (event .time) (stepRead state event read .state)) (stepRead state event read)
-    unfolding plainOf cardOf
+    -- anything new
+    called-plain : says ≡ false
+        → eventCard card event read ≡ steppedCard (takeStep held event read .due) (stepRead state event read)
+    unfolding cardOf
     called-plain new =
         let told : notQuick ≡ quick =
         quickStep-slow (ownFlat card event) (card .answer) (profileHeld card) (card .time) (card .due) event read true
-        (sym ranged) refl (inputOf (ownFlat card event)) _ refl refl (early-back ∙ none)
-        (isQuick (inputOf (ownFlat card event)) (profileHeld card) due event read) refl (quick-back few ∙ new) in
+        (sym ranged) refl (inputOf (ownFlat card event)) refl says refl new _ refl (early-back ∙ none) in
         sym
         (eventCard-whole card event read (ownPlace (event .input)) (flatInput freshInput) stands quick refl
         (sym (ap (λ (one : Quick). one .is) told)) _ refl)
         ∙ whole-plain
 
-    module _ (quickly : isQuick (ownBefore state event) (state .profile) due event read ≡ true) where
-      sooner : event .time < due
-      unfolding isQuick
-      sooner = ltb-true (event .time) due (both-first (ltb (event .time) due) (ownAgain state event read) quickly)
+    -- said again, by the selector's own input
+    says-parts : says ≡ (ltb (event .time) due && isAgain (ownBefore state event) (state .profile) event read)
+    unfolding saysAgain
+    says-parts = rw (early-back, none, own-before few, profile-back)
 
-      again : ownAgain state event read ≡ true
-      unfolding isQuick
-      again = both-second (ltb (event .time) due) (ownAgain state event read) quickly
+    module _ (said : says ≡ true) where
+      both : (ltb (event .time) due && isAgain (ownBefore state event) (state .profile) event read) ≡ true
+      both = sym says-parts ∙ said
+
+      sooner : event .time < due
+      sooner = ltb-true (event .time) due (both-first (ltb (event .time) due) _ both)
+
+      stays : stepRead state event read ≡ stepped accepted 0 (againTaken state event)
+      stays =
+          stepRead-again state event read due calm bound none sooner (both-second (ltb (event .time) due) _ both)
+
+      again-bound : againDue due (event .kind) (event .time) ≤ nextDue (againTaken state event)
+      again-bound =
+          let follows = later state event read due calm bound none in
+          put-due state due (event .time) bound follows (event .input) (againDue due (event .kind) (event .time))
+          (againInput (ownBefore state event) (event .kind) (event .time))
+          (omega (arith, few, calm .count))
+          (againDue-least due (event .kind) (event .time))
+          (again-due state due (event .time) bound follows (event .kind) (event .input) few)
 
       -- what is written of the own input
       abbrev framed : ℕ
@@ -394,7 +314,7 @@ module _ (number count due : ℕ) (state : Selector) (event : Event) (read : Fra
             on = switchInput (state .switch);
             selection = isSelected (state .selection);
             selected = selectedNumber (state .selection);
-            answer = flatAnswer (sym (answer-again accepted state event) j);
+            answer = flatAnswer (sym (answer-same state event _ (again-same state event) accepted) j);
             served = 0;
             option = optionOf (state .profile);
             place = placeOf (state .profile);
@@ -409,8 +329,7 @@ module _ (number count due : ℕ) (state : Selector) (event : Event) (read : Fra
           (λ (input : Input). quickOf true (againOwn input due event .input .heard .framed) (event .time) (againDue due (event .kind) (event .time)) accepted)
           (sym (own-before few))
           ∙ quickStep-again (ownFlat card event) (card .answer) (profileHeld card) (card .time) (card .due) event read true
-          (sym ranged) refl (inputOf (ownFlat card event)) _ refl refl (early-back ∙ none)
-          (isQuick (inputOf (ownFlat card event)) (profileHeld card) due event read) refl (quick-back few ∙ quickly)
+          (sym ranged) refl (inputOf (ownFlat card event)) refl says refl said
           (againOwn (inputOf (ownFlat card event)) due event) refl
 
       -- said again: what the plain step leaves
@@ -424,7 +343,7 @@ module _ (number count due : ℕ) (state : Selector) (event : Event) (read : Fra
           ∙ ap (quickCard card (ownPlace (event .input))) (sym quick-told)
           ∙ ap (λ (place : ℕ). quickCard card place written) (own-number few)
           ∙ again-card
-          ∙ sym (ap (steppedCard (againDue due (event .kind) (event .time))) (stepRead-again state event read due calm bound none sooner again))
+          ∙ sym (ap (steppedCard (againDue due (event .kind) (event .time))) stays)
 
   -- the selector after the event
   abbrev after : Selector
@@ -435,10 +354,8 @@ module _ (number count due : ℕ) (state : Selector) (event : Event) (read : Fra
       × (stepRead state event read .state .time < new) × (new ≤ nextDue (stepRead state event read .state))
   called-right =
       accepted-or-not (earlyNumber state event read)
-      (λ none. byBool (isQuick (ownBefore state event) (state .profile) due event read)
-      (λ quick. said-again none quick)
-      (λ new. plain none new))
-      (λ given. refused given)
+      (λ none. byBool says (said-again none) (plain none))
+      refused
     where
       refused : (earlyNumber state event read ≡ accepted → ⊥)
           → (new : ℕ) × (eventCard card event read ≡ steppedCard new (stepRead state event read)) × (after .time < new) × (new ≤ nextDue after)
@@ -452,61 +369,61 @@ module _ (number count due : ℕ) (state : Selector) (event : Event) (read : Fra
             subst (λ (step : Stepped). due ≤ nextDue (step .state)) (sym stays) bound,
           )
 
-      said-again : (none : earlyNumber state event read ≡ accepted)
-          → isQuick (ownBefore state event) (state .profile) due event read ≡ true
+      said-again : (none : earlyNumber state event read ≡ accepted) → says ≡ true
           → (new : ℕ) × (eventCard card event read ≡ steppedCard new (stepRead state event read)) × (after .time < new) × (new ≤ nextDue after)
-      said-again none quick =
-          let stays = stepRead-again state event read due calm bound none (sooner none quick) (again none quick) in
-          let ends = again-ends state event read due calm bound none (sooner none quick) (again none quick) in (
-            againDue due (event .kind) (event .time),
-            called-again none quick,
-            subst (λ (step : Stepped). step .state .time < againDue due (event .kind) (event .time)) (sym stays)
-                (againDue-later due (event .kind) (event .time) (sooner none quick) (ends .2)),
-            subst (λ (step : Stepped). againDue due (event .kind) (event .time) ≤ nextDue (step .state)) (sym stays)
-                (again-bound state event due bound (ends .1) (ends .0)),
-          )
+      said-again none said = (
+        againDue due (event .kind) (event .time),
+        called-again none said,
+        subst (λ (step : Stepped). step .state .time < againDue due (event .kind) (event .time)) (sym (stays none said))
+            (againDue-later due (event .kind) (event .time) (sooner none said) (ever state event read due calm bound none)),
+        subst (λ (step : Stepped). againDue due (event .kind) (event .time) ≤ nextDue (step .state)) (sym (stays none said))
+            (again-bound none said),
+      )
 
-      plain : (none : earlyNumber state event read ≡ accepted)
-          → isQuick (ownBefore state event) (state .profile) due event read ≡ false
+      plain : (none : earlyNumber state event read ≡ accepted) → says ≡ false
           → (new : ℕ) × (eventCard card event read ≡ steppedCard new (stepRead state event read)) × (after .time < new) × (new ≤ nextDue after)
       plain none new =
-          let there : after .time ≡ event .time = stepRead-time state event read calm none in
-          let ever : event .time < never = not-never state event read calm none in (
-            dueAfter due (event .time) after,
+          let right = takeStep-right held event read kept in (
+            takeStep held event read .due,
             called-plain none new,
-            dueAfter-later due (event .time) after (after .time) (omega (arith, there)) (nextDue-later after (omega (arith, there, ever))),
-            dueAfter-bound due (event .time) after,
+            takeStep-later held event read kept none,
+            subst (λ (then : Selector). takeStep held event read .due ≤ nextDue then) (right .state) (right .kept .due),
           )
 
--- where an event is no frame, the time that is kept is that of the plain step
+-- where an event is no frame, the time that is kept is that of the state after it
 module _ (number count due : ℕ) (state : Selector) (event : Event) (read : FrameRead) (named : Named state)
     (calm : Calm state) (ahead : state .time < due) (bound : due ≤ nextDue state)
     (none : earlyNumber state event read ≡ accepted) (other : (event .kind ≡ kindFrame → ⊥)) where
+  abbrev asks : Bool
+  asks = says number count due state event read named calm ahead bound
+
+  said-due : asks ≡ true
+      → againDue due (event .kind) (event .time)
+      ≡ dueAfter (anew state due (event .time)) (event .time) (stepRead state event read .state)
+  unfolding dueAnew
+  said-due said =
+      let soon = sooner number count due state event read named calm ahead bound none said in
+      let same = againDue-other due (event .kind) (event .time) (ne-eqb _ _ other) in
+      let kept : due ≤ nextDue (stepRead state event read .state) =
+      subst (λ (next : ℕ). next ≤ nextDue (stepRead state event read .state)) same
+      (subst (λ (step : Stepped). againDue due (event .kind) (event .time) ≤ nextDue (step .state))
+      (sym (stays number count due state event read named calm ahead bound none said))
+      (again-bound number count due state event read named calm ahead bound none said)) in
+      rw (same, lt-ltb (event .time) due soon)
+      (sym (dueAfter-kept due (event .time) (stepRead state event read .state) soon kept))
+
   pub called-due : eventCard (cardOf number count due state) event read .due
-      ≡ dueAfter due (event .time) (stepRead state event read .state)
+      ≡ dueAfter (anew state due (event .time)) (event .time) (stepRead state event read .state)
   unfolding cardOf
   called-due =
-      byBool (isQuick (ownBefore state event) (state .profile) due event read)
-      (λ quick. ap (λ (card : Card). card .due) (called-again number count due state event read named calm ahead bound none quick)
-      ∙ kept quick
-      ∙ dueAfter-kept due (event .time) (stepRead state event read .state) _ refl
-      (sooner number count due state event read named calm ahead bound none quick)
-      (stays-due quick))
-      (λ new. ap (λ (card : Card). card .due) (called-plain number count due state event read named calm ahead bound none new))
-    where
-      kept : isQuick (ownBefore state event) (state .profile) due event read ≡ true
-          → againDue due (event .kind) (event .time) ≡ due
-      kept quick = againDue-other due (event .kind) (event .time) (ne-eqb _ _ other)
-
-      stays-due : isQuick (ownBefore state event) (state .profile) due event read ≡ true
-          → due ≤ nextDue (stepRead state event read .state)
-      stays-due quick =
-          let before = sooner number count due state event read named calm ahead bound none quick in
-          let said = again number count due state event read named calm ahead bound none quick in
-          let ends = again-ends state event read due calm bound none before said in
-          subst (λ (step : Stepped). due ≤ nextDue (step .state)) (sym (stepRead-again state event read due calm bound none before said))
-          (subst (λ (next : ℕ). next ≤ nextDue (againTaken state event)) (kept quick)
-          (again-bound state event due bound (ends .1) (ends .0)))
+      byBool asks
+      (λ said.
+      ap (λ (card : Card). card .due) (called-again number count due state event read named calm ahead bound none said)
+      ∙ said-due said)
+      (λ new.
+      ap (λ (card : Card). card .due) (called-plain number count due state event read named calm ahead bound none new)
+      ∙ takeStep-due (held number count due state event read named calm ahead bound) event read
+      (kept number count due state event read named calm ahead bound) none)
 
 -- a frame is looked at for a frame event alone: so is its refusal
 pub early-readFor : (state : Selector) (event : Event) (frame : List ℕ)

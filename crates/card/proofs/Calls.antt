@@ -45,13 +45,15 @@ use Rattle.events.proofs.NextDue.{next-right}
 use Rattle.events.proofs.Demand2.{demand-2-answers}
 use Rattle.events.proofs.Demand3.{demand-3}
 use Rattle.events.proofs.Demand4.{demand-4}
+use Rattle.quickstep.specs.Watch.{dueAfter}
 use Rattle.card.specs.declared.Card.{Card}
 use Rattle.card.specs.declared.CardAnswer.{CardAnswer}
 use Rattle.card.specs.Flat.{isSet, inputOf, flatInput, flatAnswer, switchOf, selectionOf, isSelected, optionTwo, profileIn, optionOf, selectorOf, cardOf, withNumber}
-use Rattle.card.specs.Card.{freshCard, startCard, dueAfter, steppedCard, eventCard, readFor, stepCard, cardCodes, cardWords, cardDue}
+use Rattle.card.specs.Card.{freshCard, startCard, steppedCard, eventCard, readFor, stepCard, cardCodes, cardWords, cardDue}
 use Rattle.card.specs.Calls.{called, cardAfter, latestNumber, latestCount, latestBy, StartRight, CardRight, Demand1Card, Demand2Card, Demand3Card, Demand4Card, NextDueCard}
 use Rattle.card.proofs.Ports.{port-written}
 use Rattle.card.proofs.Range.{stepRead-readFor, sequence-named}
+use Rattle.card.proofs.Due.{anew}
 use Rattle.card.proofs.Called.{selectorOf-cardOf, withNumber-cardOf, called-refused, called-right, called-due, early-readFor}
 
 -- No call reads the answer in a card.
@@ -182,7 +184,8 @@ module _ (sequence : Sequence) (given : Given) where
   -- the time that is kept after an event that is no frame
   cardAfter-due : early ≡ accepted → (given .event .kind ≡ kindFrame → ⊥)
       → cardAfter (given following sequence) .due
-      ≡ dueAfter (cardAfter sequence .due) (given .event .time) (stateAfter (given following sequence))
+      ≡ dueAfter (anew (stateAfter sequence) (cardAfter sequence .due) (given .event .time)) (given .event .time)
+      (stateAfter (given following sequence))
   unfolding cardAfter stateAfter stepCard
   cardAfter-due none other =
       let reached = cardAfter-reached sequence in
@@ -190,7 +193,8 @@ module _ (sequence : Sequence) (given : Given) where
       ∙ called-due (latestNumber sequence) (latestCount sequence) (cardAfter sequence .due) (stateAfter sequence) (given .event)
       (readFor (given .event .kind) (given .frame)) (sequence-named sequence) (sequence-calm sequence) (reached .1) (reached .2)
       none other
-      ∙ ap (λ (after : Stepped). dueAfter (cardAfter sequence .due) (given .event .time) (after .state))
+      ∙ ap
+      (λ (after : Stepped). dueAfter (anew (stateAfter sequence) (cardAfter sequence .due) (given .event .time)) (given .event .time) (after .state))
       (stepRead-readFor (stateAfter sequence) (given .event) (given .frame))
 
 -- refused with 14 to 17: what is kept is what a tick keeps
@@ -224,7 +228,9 @@ module _ (sequence : Sequence) (given : Given) (high : FourteenToSeventeen (numb
       accepted-limit (limitsOf (stateAfter sequence .profile)) (stateAfter sequence .time) (kindAt (stateAfter sequence .inputs) (given .event .input))
       (given .event) (readCode (given .frame)) none in
       cardAfter-due sequence given high-early high-frame
-      ∙ ap (dueAfter (cardAfter sequence .due) (given .event .time)) same
+      ∙ ap
+      (dueAfter (anew (stateAfter sequence) (cardAfter sequence .due) (given .event .time)) (given .event .time))
+      same
       ∙ sym
       (cardAfter-due sequence (tickAt (given .event .time))
       (tick-early (stateAfter sequence) (given .event .time) _ later below) (λ e. omega (arith, e)))

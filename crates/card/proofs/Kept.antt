@@ -32,15 +32,16 @@ use Rattle.events.specs.Sequence.{stateAfter, numberAfter}
 use Rattle.events.proofs.Refused.{accepted-limit}
 use Rattle.events.proofs.Calm.{accepted-or-not, stepRead-refused, stepRead-barred, stepRead-taken, brought-time, sequence-calm}
 use Rattle.events.proofs.Extra.{sequence-ever}
+use Rattle.quickstep.specs.Watch.{dueAfter}
 use Rattle.card.specs.declared.Card.{Card}
 use Rattle.card.specs.declared.CardInput.{CardInput}
 use Rattle.card.specs.Flat.{flatInput, selectorOf, cardOf}
-use Rattle.card.specs.Card.{eventOf, readFor, dueAfter, steppedCard, plainOf}
+use Rattle.card.specs.Card.{eventOf, readFor, steppedCard, plainCard}
 use Rattle.card.specs.Calls.{cardAfter, latestNumber, latestCount}
 use Rattle.card.specs.Range.{IsInput, InRange}
 use Rattle.card.specs.Sound.{sameInput, sameAmong, sameInputs, sameAnswer, sameCard, tickedAgain, cardSound, SoundRight}
 use Rattle.card.proofs.Calls.{card-right, moved, accepts}
-use Rattle.card.proofs.Laws.{dueAfter-kept}
+use Rattle.card.proofs.Due.{dueAfter-kept}
 use Rattle.card.proofs.Called.{selectorOf-cardOf}
 use Rattle.card.proofs.Range.{stepRead-readFor, sequence-named, plainCard-inRange}
 
@@ -117,7 +118,7 @@ module _ (sequence : Sequence) (number count due : ℕ) (ahead : stateAfter sequ
 
   -- that of the card is that of the sequence
   again : tickedAgain kept ≡ steppedCard (dueAfter due (state .time) (ticking .state)) ticking
-  unfolding plainOf readFor cardOf
+  unfolding plainCard readFor cardOf
   again =
       ap
       (λ (held : Selector).
@@ -142,7 +143,7 @@ module _ (sequence : Sequence) (number count due : ℕ) (ahead : stateAfter sequ
   due-same : dueAfter due (state .time) (ticking .state) ≡ due
   due-same =
       ap (dueAfter due (state .time)) stays
-      ∙ sym (dueAfter-kept due (state .time) state (nextDue state) refl ahead within)
+      ∙ dueAfter-kept due (state .time) state ahead within
 
   again-whole : tickedAgain kept ≡ cardOf accepted (ticking .count) due state
   again-whole =

@@ -8,7 +8,7 @@ use native.Mathlib.Omega.{arith}
 use lib.Dec.{eqb}
 use lib.ListN.{length, getD, set}
 use mir.Val.{boolByte}
-use borrow.Author.Tests.{eq-eqb, ne-eqb, lt-ltb, le-ltb, le-leb, lt-leb}
+use borrow.Author.Tests.{eq-eqb, ne-eqb, lt-ltb, le-ltb}
 use Rattle.numbers.specs.declared.Answer.{Answer}
 use Rattle.numbers.specs.declared.Event.{Event}
 use Rattle.numbers.specs.declared.InputKind.{InputKind}
@@ -32,17 +32,11 @@ use Rattle.choice.specs.declared.Selection.the-variants as S
 use Rattle.decision.specs.declared.Switch.the-variants as W
 use Rattle.selector.specs.declared.Selector.{Selector}
 use Rattle.selector.specs.Clock.{switchForced, switchManual}
-use Rattle.selector.specs.State.{decided}
 use Rattle.selector.specs.Answer.{answerOf, outgoingCodes}
 use Rattle.selector.proofs.Laws.{getD-any}
-use Rattle.due.specs.Next.{lesser, nextDue}
-use Rattle.numbers.specs.Recorded.{saidEvent}
-use Rattle.events.specs.Given.{readEvent, recordedArgument, recordedEvent}
 use Rattle.events.specs.Refusals.{earlyRefusal}
-use Rattle.events.specs.Step.{inputAfter}
 use Rattle.quickstep.specs.declared.Own.{Own}
-use Rattle.quickstep.specs.Watch.{isServed, isAgain, movedTo}
-use Rattle.quickstep.specs.Own.{OwnPlace, againOwn}
+use Rattle.quickstep.specs.Again.{saysAgain, againOwn}
 use Rattle.numbers.specs.Inputs.{lastInput}
 use Rattle.status.specs.declared.Status.{Status}
 use Rattle.status.specs.Kept.{inputStatus}
@@ -52,7 +46,7 @@ use Rattle.card.specs.declared.CardInput.{CardInput}
 use Rattle.card.specs.declared.quick.Quick.{Quick}
 use Rattle.card.specs.declared.known.CardStatus.{CardStatus}
 use Rattle.card.specs.Flat.{isSet, inputOf, flatInput, flatAnswer, switchOf, selectionOf, isSelected, optionTwo, profileIn, optionOf, selectorOf, cardOf, withNumber}
-use Rattle.card.specs.Card.{freshCard, startCard, dueAfter, plainOf, isRanged, profileHeld, ownPlace, StandsAt, ownFlat, isQuick, quickOf, notQuick, quickStep, framedFlat, numbered, quickCard, dueHeld, isPlain, takenState, chosenCard, wholeCard, eventCard, readFor, portCode, numberOfWrite, WritePort}
+use Rattle.card.specs.Card.{freshCard, startCard, isRanged, profileHeld, ownPlace, StandsAt, ownFlat, quickOf, notQuick, quickStep, framedFlat, numbered, quickCard, wholeCard, eventCard, readFor, portCode, numberOfWrite, WritePort}
 use Rattle.card.specs.Status.{noStatus, cardStatus}
 use Rattle.card.specs.Sound.{sameInput, sameAmong, sameInputs, sameCard, tickedAgain, cardSound}
 
@@ -382,93 +376,6 @@ unfolding cardSound
 cardSound-told card ticked same t s =
     rw (s, t) (boolByte-flag (eqb (tickedAgain card .answer .number) accepted && sameCard (tickedAgain card) card))
 
--- ---- dueAfter
-
-module _ (due time : ℕ) (state : Selector) (next : ℕ) (n : next ≡ nextDue state) where
-  pub dueAfter-kept : time < due → due ≤ next → due ≡ dueAfter due time state
-  unfolding dueAfter lesser
-  dueAfter-kept before kept = rw (lt-ltb _ _ before, ← n, le-leb _ _ kept)
-
-  pub dueAfter-sooner : time < due → next < due → next ≡ dueAfter due time state
-  unfolding dueAfter lesser
-  dueAfter-sooner before sooner = rw (lt-ltb _ _ before, ← n, lt-leb _ _ sooner)
-
-  pub dueAfter-anew : due ≤ time → next ≡ dueAfter due time state
-  unfolding dueAfter
-  dueAfter-anew come = rw (le-ltb _ _ come, n)
-
-pub ruleset dueAfter-laws = (dueAfter-kept, dueAfter-sooner, dueAfter-anew)
-
--- ---- dueHeld
-
-module _ (due time : ℕ) (state : Selector) where
-  pub dueHeld-kept : time < due → due ≡ dueHeld due time state
-  unfolding dueHeld
-  dueHeld-kept before = rw (lt-ltb _ _ before)
-
-  pub dueHeld-anew : (next : ℕ) → due ≤ time → next ≡ nextDue state → next ≡ dueHeld due time state
-  unfolding dueHeld
-  dueHeld-anew next come n = rw (le-ltb _ _ come, n)
-
-pub ruleset dueHeld-laws = (dueHeld-kept, dueHeld-anew)
-
--- ---- an input that stands at its place
-
-own-there : (inputs : List Input) (number place : ℕ) (zeroed : Input) → OwnPlace inputs number place
-    → getD inputs place zeroed ≡ getD inputs (ownPlace number) freshInput
-own-there inputs number place zeroed at =
-    getD-any inputs place zeroed freshInput (at .inside)
-    ∙ ap (λ (here : ℕ). getD inputs here freshInput) (at .own)
-
--- ---- isPlain
-
-module _ (state : Selector) (due : ℕ) (event : Event) (read : FrameRead) (place : ℕ) (zeroed : Input)
-    (at : OwnPlace (state .inputs) (event .input) place) (early : ℕ)
-    (e : early
-    ≡ earlyRefusal (limitsOf (state .profile)) (state .time) (getD (state .inputs) place zeroed .settings .kind) event read) where
-  early-there : early
-      ≡ earlyRefusal (limitsOf (state .profile)) (state .time)
-      (getD (state .inputs) (ownPlace (event .input)) freshInput .settings .kind)
-      event
-      read
-  early-there =
-      e ∙ ap
-      (λ (input : Input). earlyRefusal (limitsOf (state .profile)) (state .time) (input .settings .kind) event read)
-      (own-there (state .inputs) (event .input) place zeroed at)
-
-  pub isPlain-refused : (early ≡ accepted → ⊥) → true ≡ isPlain state due event read
-  unfolding isPlain
-  isPlain-refused given = rw (← early-there, ne-eqb _ _ given)
-
-  pub isPlain-served : early ≡ accepted → (held : ℕ) → held ≡ dueHeld due (event .time) state → (served : Bool)
-      → served ≡ isServed held (event .kind) (event .time)
-      → served ≡ isPlain state due event read
-  unfolding isPlain
-  isPlain-served none held h served s = s ∙ (rw (← early-there, eq-eqb _ _ none, h))
-
--- ---- takenState
-
-pub takenState-by : (state : Selector) (event : Event) (read : FrameRead) (place : ℕ) (zeroed : Input)
-    → OwnPlace (state .inputs) (event .input) place
-    → (recorded : Event) → recorded ≡ readEvent event read
-    → (own : Input)
-    → own ≡ inputAfter (getD (state .inputs) place zeroed) (saidEvent (state .profile) recorded) (state .mode)
-    → (after : Selector) → after ≡ decided (movedTo state (set (state .inputs) place own) (event .time))
-    → after ≡ takenState state event read
-unfolding takenState
-takenState-by state event read place zeroed at recorded g own o after a =
-    a ∙ ap (λ (input : Input). decided (movedTo state (set (state .inputs) place input) (event .time)))
-    (o ∙ ap (λ (one : Event). inputAfter (getD (state .inputs) place zeroed) (saidEvent (state .profile) one) (state .mode)) g
-    ∙ ap (λ (input : Input). inputAfter input (recordedEvent (state .profile) event read) (state .mode))
-    (own-there (state .inputs) (event .input) place zeroed at))
-    ∙ ap
-    (λ (number : ℕ). decided
-    (movedTo state
-    (set (state .inputs) number
-    (inputAfter (getD (state .inputs) (ownPlace (event .input)) freshInput) (recordedEvent (state .profile) event read) (state .mode)))
-    (event .time)))
-    (at .own)
-
 -- ---- quickCard
 
 -- with its own input's record read from where it stands
@@ -495,60 +402,6 @@ pub quickCard-at : (card : Card) (number : ℕ) (quick : Quick) (place : ℕ) (z
 quickCard-at card number quick place zeroed at =
     (rw (getD-any (card .inputs) place zeroed (flatInput freshInput) (at .inside)))
     ∙ ap (λ (here : ℕ). quickCard card here quick) (at .own)
-
--- ---- chosenCard
-
-pub chosenCard-at : (card : Card) (number due : ℕ) (after : Selector) (place : ℕ) (zeroed : Input)
-    → OwnPlace (after .inputs) number place
-    → (flat : CardInput) → flat ≡ flatInput (getD (after .inputs) place zeroed)
-    → (told : Answer) → told ≡ answerOf accepted after
-    → (selection : ℕ) → selection ≡ isSelected (after .selection)
-    → record {
-      inputs = set (card .inputs) place flat;
-      time = after .time;
-      due = due;
-      mode = card .mode;
-      held = boolByte (after .held);
-      switch = told .switch;
-      on = told .on;
-      selection = selection;
-      selected = told .selected;
-      answer = flatAnswer told;
-      served = 0;
-      option = card .option;
-      place = card .place;
-      marks = card .marks;
-      spare = card .spare;
-    }
-    ≡ chosenCard card (ownPlace number) due after
-unfolding answerOf
-chosenCard-at card number due after place zeroed at flat f told t selection s =
-    (rw (f, t, s, getD-any (after .inputs) place zeroed freshInput (at .inside), boolByte-flag (after .held)))
-    ∙ ap (λ (here : ℕ). chosenCard card here due after) (at .own)
-
--- ---- wholeCard
-
-module _ (card : Card) (event : Event) (read : FrameRead) (state : Selector) (s : state ≡ selectorOf card) (plain : Bool)
-    (p : plain ≡ isPlain state (card .due) event read) where
-  plain-here : plain ≡ isPlain (selectorOf card) (card .due) event read
-  plain-here = p ∙ (rw s)
-
-  pub wholeCard-plain : plain ≡ true → (after : Card) → after ≡ plainOf state (card .due) event read
-      → after ≡ wholeCard card event read
-  unfolding wholeCard
-  wholeCard-plain is after a =
-      a ∙ ap (λ (held : Selector). plainOf held (card .due) event read) s ∙ (rw (← plain-here, is))
-
-  pub wholeCard-taken : plain ≡ false → (taken : Selector) → taken ≡ takenState state event read → (due : ℕ)
-      → due ≡ dueAfter (card .due) (event .time) taken
-      → (after : Card) → after ≡ chosenCard card (ownPlace (event .input)) due taken
-      → after ≡ wholeCard card event read
-  unfolding wholeCard
-  wholeCard-taken is taken t due d after a =
-      let here : taken ≡ takenState (selectorOf card) event read = t ∙ (rw s) in
-      a ∙ ap (λ (kept : ℕ). chosenCard card (ownPlace (event .input)) kept taken) d
-      ∙ ap (λ (then : Selector). chosenCard card (ownPlace (event .input)) (dueAfter (card .due) (event .time) then) then) here
-      ∙ (rw (← plain-here, is))
 
 -- ---- eventCard
 
@@ -584,48 +437,33 @@ module _ (flat : CardInput) (told : CardAnswer) (profile : Profile) (time due : 
   unfolding quickStep
   quickStep-unranged n = rw (← r, n)
 
-  module _ (y : ranged ≡ true) (before : Input) (early : ℕ) (b : before ≡ inputOf flat)
-      (e : early ≡ earlyRefusal (limitsOf profile) time (before .settings .kind) event read) where
-    early-here : early ≡ earlyRefusal (limitsOf profile) time (inputOf flat .settings .kind) event read
-    early-here = e ∙ (rw b)
+  module _ (y : ranged ≡ true) (before : Input) (b : before ≡ inputOf flat) (again : Bool)
+      (a : again ≡ saysAgain before profile time due event read) where
+    again-here : again ≡ saysAgain (inputOf flat) profile time due event read
+    again-here = a ∙ (rw b)
 
-    pub quickStep-refused : (early ≡ accepted → ⊥)
-        → quickOf true (flat .framed) time due early ≡ quickStep flat told profile time due event read
+    pub quickStep-again : again ≡ true → (own : Own) → own ≡ againOwn before due event
+        → quickOf true (own .input .heard .framed) (own .time) (own .due) (own .number)
+        ≡ quickStep flat told profile time due event read
     unfolding quickStep
-    quickStep-refused given = rw (← r, y, ← early-here, ne-eqb _ _ given)
+    quickStep-again is own o =
+        ap (λ (one : Own). quickOf true (one .input .heard .framed) (one .time) (one .due) (one .number))
+        (o ∙ ap (λ (input : Input). againOwn input due event) b)
+        ∙ (rw (← r, y, ← again-here, is))
 
-    module _ (none : early ≡ accepted) (quick : Bool) (q : quick ≡ isQuick before profile due event read) where
-      again-here : quick ≡ isQuick (inputOf flat) profile due event read
-      again-here = q ∙ (rw b)
+    module _ (new : again ≡ false) (early : ℕ)
+        (e : early ≡ earlyRefusal (limitsOf profile) time (before .settings .kind) event read) where
+      early-here : early ≡ earlyRefusal (limitsOf profile) time (inputOf flat .settings .kind) event read
+      early-here = e ∙ (rw b)
 
-      pub quickStep-again : quick ≡ true → (own : Own) → own ≡ againOwn before due event
-          → quickOf true (own .input .heard .framed) (own .time) (own .due) (own .number)
-          ≡ quickStep flat told profile time due event read
+      pub quickStep-refused : (early ≡ accepted → ⊥)
+          → quickOf true (flat .framed) time due early ≡ quickStep flat told profile time due event read
       unfolding quickStep
-      quickStep-again is own o =
-          ap (λ (one : Own). quickOf true (one .input .heard .framed) (one .time) (one .due) (one .number))
-          (o ∙ ap (λ (input : Input). againOwn input due event) b)
-          ∙ (rw (← r, y, ← early-here, eq-eqb _ _ none, ← again-here, is))
+      quickStep-refused given = rw (← r, y, ← again-here, new, ← early-here, ne-eqb _ _ given)
 
-      pub quickStep-slow : quick ≡ false → notQuick ≡ quickStep flat told profile time due event read
+      pub quickStep-slow : early ≡ accepted → notQuick ≡ quickStep flat told profile time due event read
       unfolding quickStep
-      quickStep-slow is = rw (← r, y, ← early-here, eq-eqb _ _ none, ← again-here, is)
-
--- ---- isQuick
-
-module _ (before : Input) (profile : Profile) (due : ℕ) (event : Event) (read : FrameRead) where
-  pub isQuick-late : due ≤ event .time → false ≡ isQuick before profile due event read
-  unfolding isQuick
-  isQuick-late come = rw (le-ltb _ _ come)
-
-  pub isQuick-again : (argument : ℕ) (again : Bool) → event .time < due
-      → argument ≡ recordedArgument (event .kind) (event .argument) read
-      → again ≡ isAgain before profile (event .kind) argument
-      → again ≡ isQuick before profile due event read
-  unfolding isQuick
-  isQuick-again argument again sooner g h = h ∙ (rw (lt-ltb _ _ sooner, g))
-
-pub ruleset isQuick-laws = (isQuick-late, isQuick-again)
+      quickStep-slow none = rw (← r, y, ← again-here, new, ← early-here, eq-eqb _ _ none)
 
 -- a test and its contrary
 pub not-true : (test : Bool) → not test ≡ true → test ≡ false

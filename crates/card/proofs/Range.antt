@@ -7,6 +7,7 @@ use mathlib.Core.Path.{_≡_, refl, sym, _∙_, ap, subst}
 use native.Mathlib.Omega.{arith}
 use lib.Dec.{eqb, leb, ltb}
 use borrow.Author.Tests.{ltb-false, ne-eqb, leb-true, eqb-true}
+use Rattle.numbers.specs.declared.Answer.{Answer}
 use Rattle.numbers.specs.declared.Event.{Event}
 use Rattle.numbers.specs.declared.InputNumber.{InputNumber}
 use Rattle.numbers.specs.declared.Profile.{Profile}
@@ -15,7 +16,6 @@ use Rattle.numbers.specs.From.{started, _following_}
 use Rattle.numbers.specs.Profile.{limitsOf}
 use Rattle.numbers.specs.Inputs.{lastInput, inputCount}
 use Rattle.numbers.specs.Kind.{kindFrame, kindForced, kindManual, kindClearSwitch}
-use Rattle.numbers.specs.Refusal.{accepted}
 use Rattle.frame.specs.declared.FrameRead.{FrameRead}
 use Rattle.frame.specs.Read.{readCode}
 use Rattle.numbers.proofs.Truth.{byBool}
@@ -42,11 +42,15 @@ use Rattle.events.specs.Step.{recordedArgument, recordedEvent, eventTaken, atIt
 use Rattle.events.specs.Sequence.{stateAfter}
 use Rattle.events.proofs.Refused.{accepted-input}
 use Rattle.events.proofs.Calm.{accepted-or-not, stepRead-refused, stepRead-barred, stepRead-taken}
+use Rattle.quickstep.specs.declared.Left.{Left}
+use Rattle.quickstep.specs.declared.Left.the-variants as L
+use Rattle.quickstep.specs.declared.Watch.{Watch}
+use Rattle.quickstep.specs.Watch.{servedWatch, completed, ownPut, takeStep}
 use Rattle.card.specs.declared.Card.{Card}
 use Rattle.card.specs.Flat.{switchOf, selectionOf, selectorOf, cardOf}
 use Rattle.card.specs.declared.CardAnswer.{CardAnswer}
 use Rattle.card.specs.declared.CardInput.{CardInput}
-use Rattle.card.specs.Card.{eventOf, plainOf, plainCard, namesInput, isRanged, profileHeld, ownFlat, quickStep, isPlain, takenState, wholeCard, eventCard, readFor, stepCard}
+use Rattle.card.specs.Card.{eventOf, plainCard, namesInput, isRanged, profileHeld, ownFlat, quickStep, watchIn, wholeCard, eventCard, readFor, stepCard}
 use Rattle.card.specs.Range.{IsInput, InRange, AnyCard}
 
 -- ---- a frame is looked at for a frame event alone
@@ -252,29 +256,35 @@ isRanged-range card is =
 
 -- the plain step, on any card
 pub plainCard-inRange : (card : Card) (event : Event) (read : FrameRead) → InRange (plainCard card event read)
-unfolding plainOf
+unfolding plainCard
 plainCard-inRange card event read =
     let after = stepRead (selectorOf card) event read in
     cardOf-inRange (after .number) (after .count) _ (after .state)
     (stepRead-named (selectorOf card) event read (selectorOf-named card))
 
--- what an own input takes before a choice
-takenState-named : (state : Selector) (event : Event) (read : FrameRead) → Named state
-    → Named (takenState state event read)
-unfolding takenState
-takenState-named state event read named = decided-named _ (named .switch)
+-- what is left to do once an own input has taken an event
+completed-named : (state : Selector) (due : ℕ) (answer : Answer) (left : Left) (event : Event) (read : FrameRead)
+    → Named state
+    → Named (completed state due answer left event read .state)
+unfolding completed servedWatch
+completed-named state due answer L.Nothing event read named = named
+completed-named state due answer L.Choice event read named = decided-named state (named .switch)
+completed-named state due answer L.Service event read named = stepRead-named state event read named
+
+-- a watch whose state's names are inputs takes any event and leaves such a one
+takeStep-named : (watch : Watch) (event : Event) (read : FrameRead) → Named (watch .state)
+    → Named (takeStep watch event read .state)
+unfolding takeStep ownPut
+takeStep-named watch event read named =
+    completed-named _ _ _ _ event read (record { switch = named .switch; selection = named .selection })
 
 -- what is not quick
 wholeCard-inRange : (card : Card) (event : Event) (read : FrameRead) → InRange (wholeCard card event read)
-unfolding wholeCard cardOf
+unfolding wholeCard
 wholeCard-inRange card event read =
-    let state = selectorOf card in
-    let after = takenState state event read in
-    byBool (isPlain state (card .due) event read)
-    (λ y. rw y (plainCard-inRange card event read))
-    (λ n. rw n
-    (let range = cardOf-inRange accepted 0 0 after (takenState-named state event read (selectorOf-named card)) in
-    record { selected = range .selected; on = range .on; state = range .state; switch = range .switch }))
+    let after = takeStep (watchIn card) event read in
+    cardOf-inRange (after .answer .number) (after .count) (after .due) (after .state)
+    (takeStep-named (watchIn card) event read (selectorOf-named card))
 
 -- only on a card whose answer names what is there is an event quick
 quick-ranged : (flat : CardInput) (told : CardAnswer) (profile : Profile) (time due : ℕ) (event : Event) (read : FrameRead)

@@ -9,7 +9,7 @@ use Rattle.frame.specs.Read.{rightLength, rightDestination, rightProtocol, righ
 use Rattle.frame.specs.Write.{headerOctets, dataOctets, frameOctets, writeAnswer}
 use Rattle.run.specs.Run.{isExpired, rawAt, runStart, isUpAfter, lastGood, atMoment, upBefore, broughtTo, passedQuality}
 use Rattle.input.specs.Record.{countAfter, lineAfter, heardAfter, settingsAfter, qualityNow, canExpire, forecast, settle, tick, afterEvent, takes, recordAfter}
-use Rattle.choice.specs.Candidate.{isUsable, isAdmitted, rankedQuality, candidateOf, isEligible, isBetter, isLower, lowerAmong}
+use Rattle.choice.specs.Candidate.{isUsable, isAdmitted, rankedQuality, candidateOf, isEligible, isBetter, isLower, lowerAmong, isLike}
 use Rattle.choice.specs.Rank.{isPlaced, rankOf}
 use Rattle.choice.specs.Choice.{seeded, offered, scanned, choose}
 use Rattle.decision.specs.Choices.{commanded}
@@ -23,15 +23,17 @@ use Rattle.events.specs.Refusals.{isWrongKind, frameRefusal, earlyRefusal, isFo
 use Rattle.events.specs.Step.{isHeldInByte, heldArgument, inputAfter, inputsAfter, modeAfter, atItsMoment, stepRead}
 use Rattle.events.specs.Given.{recordedArgument}
 use Rattle.card.specs.Flat.{inputOf, flatInput, switchOf, selectionOf, isSelected, profileIn, optionOf, selectorOf, cardOf}
-use Rattle.quickstep.specs.Watch.{isCommand, isServed, codeAgain, frameAgain, isAgain, againInput, againDue}
-use Rattle.quickstep.specs.Own.{againOwn}
-use Rattle.card.specs.Card.{freshCard, dueAfter, plainOf, isRanged, isQuick, quickStep, dueHeld, isPlain, takenState, wholeCard, eventCard, readFor, stepCard}
+use Rattle.quickstep.specs.Again.{codeAgain, frameAgain, readAgain, isAgain, saysAgain, againInput, againDue, againOwn}
+use Rattle.quickstep.specs.Own.{isCommand, isServed, seenAlike, ownTake, ownStep}
+use Rattle.quickstep.specs.Watch.{dueAnew, dueAfter, servedWatch, completed, ownPut, takeStep}
+use Rattle.card.specs.Card.{freshCard, isRanged, quickStep, wholeCard, eventCard, readFor, stepCard}
 use Rattle.card.specs.SelfTest.{lentOctets, testFrame, testedCard, isTold, answeredRight, selfTest, SelfTestRight}
 
 passed : selfTest ≡ 1
 unfolding
     selfTest answeredRight isTold testedCard testFrame lentOctets
-    stepCard eventCard quickStep wholeCard isPlain dueHeld takenState isServed isCommand isRanged isQuick plainOf dueAfter isAgain codeAgain frameAgain againOwn againInput againDue
+    stepCard eventCard quickStep isRanged wholeCard takeStep ownPut completed servedWatch dueAnew dueAfter
+    ownStep ownTake seenAlike isServed isCommand againOwn againInput againDue saysAgain isAgain readAgain codeAgain frameAgain
     readFor freshCard cardOf selectorOf optionOf profileIn isSelected selectionOf switchOf flatInput inputOf
     writeAnswer frameOctets dataOctets headerOctets
     readCode frameNumber rightLength rightDestination rightProtocol rightOrganisation rightVersion rightTlv same
@@ -40,7 +42,7 @@ unfolding
     answerOf switchInput switchNumber selectedNumber clockQuality clockState selectedCandidate
     served servedFrom nextAmong nextOf frameDue timerDue ifLater sumOrNever lesser
     ticked decided candidateFor decide isHeld isClockLocked selectedBy judged manualMayStand
-    choose scanned offered seeded lowerAmong isLower isBetter isEligible candidateOf rankedQuality isAdmitted isUsable isPlaced rankOf
+    isLike choose scanned offered seeded lowerAmong isLower isBetter isEligible candidateOf rankedQuality isAdmitted isUsable isPlaced rankOf
     recordAfter takes afterEvent tick settle forecast canExpire qualityNow settingsAfter heardAfter lineAfter countAfter
     passedQuality broughtTo upBefore atMoment lastGood isUpAfter runStart rawAt isExpired
     saidIn qualityOfCode qualityOfWord saidBy limitsOf placeOf marksOf floorIn inputKindOf

@@ -21,8 +21,7 @@ use Rattle.frame.specs.declared.FrameWrite.the-variants.{Written, Refused}
 use Rattle.frame.specs.Read.{numberOfRead, codeOfRead, readCode, readFrame}
 use Rattle.frame.specs.Write.{writeAnswer, contentAfter}
 use Rattle.input.specs.Record.{freshInput}
-use Rattle.selector.specs.declared.Selector.{Selector}
-use Rattle.selector.specs.Clock.{noInput, locked, switchManual, selectedNumber, switchNumber, switchInput}
+use Rattle.selector.specs.Clock.{noInput, locked, switchManual}
 use Rattle.selector.specs.State.{freshSelector}
 use Rattle.selector.specs.Answer.{answerOf, outgoingCodes, outgoingWords}
 use Rattle.events.specs.declared.Stepped.{Stepped}
@@ -40,7 +39,7 @@ use Rattle.card.specs.declared.CardFrame.{CardFrame}
 use Rattle.card.specs.declared.CardInput.{CardInput}
 use Rattle.card.specs.declared.CardWords.{CardWords}
 use Rattle.card.specs.declared.quick.Quick.{Quick}
-use Rattle.card.specs.Flat.{inputOf, flatInput, isSelected, profileIn, selectorOf, flatAnswer, cardOf, withNumber}
+use Rattle.card.specs.Flat.{inputOf, flatInput, profileIn, selectorOf, cardOf, withNumber}
 
 -- the header's version
 abbrev pub version : ℕ

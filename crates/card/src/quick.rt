@@ -21,7 +21,6 @@ use quickstep::Watch;
 use quickstep::again_own;
 use quickstep::due_after;
 use quickstep::says_again;
-use selector::Selector;
 ghost use mathlib.Core.Path.{_≡_};
 ghost use Rattle.card.specs.Flat.{profileIn};
 ghost use Rattle.card.specs.Card.{eventOf, readFor, namesInput, isRanged, ownPlace, StandsAt, plainCard, quickStep, quickCard, wholeCard};

@@ -42,7 +42,7 @@ module _ (inputs : List Input) (mode : Bool) where
       )
 
   -- it is due of none earlier
-  nextAmong-least : (time count number : ℕ) → number < count
+  pub nextAmong-least : (time count number : ℕ) → number < count
       → nextAmong inputs mode time count ≤ nextOf (getD inputs number freshInput) mode time
   unfolding nextAmong
   nextAmong-least time zero number h = absurd (omega arith)

@@ -109,16 +109,16 @@ module _ (watch : Watch) (event : Event) (read : FrameRead) (kept : Kept watch) 
   earlyAt input = earlyRefusal (limitsOf (state .profile)) (state .time) (input .settings .kind) event read
 
   -- one of the sixteen stands at its own number
-  own-here : event .input < inputCount → ownAt state event ≡ ownBefore state event
+  pub own-here : event .input < inputCount → ownAt state event ≡ ownBefore state event
   own-here few = ap (λ (place : ℕ). getD (state .inputs) place freshInput) (mod-eq-of-lt few)
 
-  own-early : earlyAt (ownAt state event) ≡ earlyNumber state event read
+  pub own-early : earlyAt (ownAt state event) ≡ earlyNumber state event read
   own-early =
       byBool (ltb (event .input) inputCount)
       (λ few. ap earlyAt (own-here (ltb-true _ _ few)))
       (λ out. earlyRefusal-outside (limitsOf (state .profile)) (state .time) event read (ltb-false _ _ out) _ _)
 
-  put-back : set (state .inputs) (ownPlace event) (ownAt state event) ≡ state .inputs
+  pub put-back : set (state .inputs) (ownPlace event) (ownAt state event) ≡ state .inputs
   put-back = set-getD (state .inputs) (ownPlace event) freshInput
 
   -- refused at once
