@@ -103,7 +103,9 @@ heartbeat-right place marks ended run =
     ended-right (sendersDesk place marks) (heartbeats place marks) (heartbeats-right place marks) ended run
 
 -- WHAT `replay_unit` WRITES IS RIGHT, however it ended.
-pub unit-right : (profile : Profile) (minimum : Quality) (ended : Ended) (run : InputEnded (unitDesk profile minimum) ended)
+pub unit-right : (profile : Profile) (minimum : Quality) (ended : Ended)
+    (run : InputEnded (unitDesk profile minimum) ended)
     → UnitRight profile minimum ended run
 unit-right profile minimum ended run =
-    ended-right (unitDesk profile minimum) (replayedUnit profile minimum) (replayed-unit-right profile minimum) ended run
+    ended-right (unitDesk profile minimum) (replayedUnit profile minimum)
+    (replayed-unit-right profile minimum) ended run

@@ -122,7 +122,8 @@ selected-admitted [] number x = absurd (nothing-selected number x)
 selected-admitted (choice ∷ earlier) number x = go (decidedOver (choice ∷ earlier) .switch) refl
   where
     chosen : (selection : Selection) → selection ≡ selected number
-        → Chosen (eligibleAmong (choice .candidates)) (betterAmong (choice .candidates)) (decidedOver earlier .selection) selection
+        → Chosen (eligibleAmong (choice .candidates)) (betterAmong (choice .candidates))
+        (decidedOver earlier .selection) selection
         → forcedMayStand (choice .candidates) number ≡ true
     chosen Nothing y best = absurd (nothing-selected number y)
     chosen (At other) y best =
@@ -148,7 +149,8 @@ held-some : (choices : Choices) → decidedOver choices .held ≡ true → (back
 unfolding decidedOver choicesAgo decide isHeld
 held-some [] x = absurd (false≢true x)
 held-some (choice ∷ earlier) x =
-    go (isClockLocked (choice .candidates) (decidedOver (choice ∷ earlier) .selection)) refl x (λ z. held-some earlier z)
+    go (isClockLocked (choice .candidates) (decidedOver (choice ∷ earlier) .selection)) refl x
+    (λ z. held-some earlier z)
   where
     go : (locked : Bool) → isClockLocked (choice .candidates) (decidedOver (choice ∷ earlier) .selection) ≡ locked
         → cond locked true (decidedOver earlier .held) ≡ true

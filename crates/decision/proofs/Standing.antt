@@ -158,7 +158,8 @@ module _ (kind : ℕ) (test : List Candidate → ℕ → Bool) (switchOn : ℕ �
           )
 
   -- the switch that is there stands
-  switch-stands : (choices : Choices) (on : ℕ) → decidedOver choices .switch ≡ switchOn on → StandsAmong kind test on choices
+  switch-stands : (choices : Choices) (on : ℕ) → decidedOver choices .switch ≡ switchOn on
+      → StandsAmong kind test on choices
   unfolding decidedOver decide choicesAgo
   switch-stands [] on x = absurd (setting .notNothing on x)
   switch-stands (choice ∷ earlier) on x =
@@ -179,7 +180,8 @@ module _ (kind : ℕ) (test : List Candidate → ℕ → Bool) (switchOn : ℕ �
             unbroken = elim [ zero ↦ λ h. judgedHere .1 | suc back ↦ λ h. absurd (omega arith) ];
           }
 
-      later : (Command (choice .kind) → ⊥) → StandsAmong kind test on earlier → StandsAmong kind test on (choice ∷ earlier)
+      later : (Command (choice .kind) → ⊥) → StandsAmong kind test on earlier
+          → StandsAmong kind test on (choice ∷ earlier)
       later n s =
           record {
             count = suc (s .count);

@@ -204,7 +204,8 @@ module _ (number : ℕ) (text : List ℕ) (start rest : ℕ) (so-far : SoFar num
 
 -- ---- where a number's digits stand
 
-module _ (number : ℕ) (places : ℕ) (answer : DecimalText) (is : answer ≡ decimal number) (below : number < tens (suc places))
+module _ (number : ℕ) (places : ℕ) (answer : DecimalText) (is : answer ≡ decimal number)
+    (below : number < tens (suc places))
     (few : suc places ≤ decimalPlaces) where
   pub decimal-start : answer .start ≤ decimalPlaces
   unfolding decimal

@@ -39,7 +39,8 @@ settled-moments input (event following earlier) =
 
 -- no event until a time: one step comes to every moment in between
 pub kept-until : (input : ℕ) (history : History) (time : ℕ) → timeOf history ≤ time
-    → kept (eachMillisecond (momentOf input history false) (timeOf history) (time - timeOf history) (moments input history)) ≡
+    → kept (eachMillisecond (momentOf input history false) (timeOf history) (time - timeOf history)
+    (moments input history)) ≡
     broughtTo (kept (moments input history)) (forecastAfter input history) time
 kept-until input history time later =
     let z : timeOf history + (time - timeOf history) ≡ time = omega arith in
@@ -51,7 +52,8 @@ kept-until input history time later =
 -- whichever input the event is on, its moment is taken with the forecast after it
 takes-run : (input : ℕ) (event : Recorded) (mode : Bool) (before : Input)
     → takes input event mode before .run ≡
-    atMoment (before .run) (forecast (takes input event mode before) mode) (event .time) (isOn input kindClearWait event)
+    atMoment (before .run) (forecast (takes input event mode before) mode) (event .time)
+    (isOn input kindClearWait event)
 unfolding takes afterEvent settle isOn forecast
 takes-run input event mode before = byBool (eqb (event .input) input) (λ e. rw e) (λ e. rw e)
 
@@ -68,19 +70,25 @@ run-moments input (started profile) ordered = refl
 run-moments input (event following earlier) ordered =
     let clears = isOn input kindClearWait event in
     let forecasts = forecastAfter input (event following earlier) in
-    takes-run input event (modeOn (event following earlier)) (tick (recordAfter input earlier) (event .time) (modeOn earlier)) ∙
+    takes-run input event (modeOn (event following earlier))
+    (tick (recordAfter input earlier) (event .time) (modeOn earlier)) ∙
     ap (λ (run : Run). atMoment run forecasts (event .time) clears)
     (tick-run (recordAfter input earlier) (event .time) (modeOn earlier) ∙
-    ap (λ (run : Run). broughtTo run (forecastAfter input earlier) (event .time)) (run-moments input earlier (ordered .1)) ∙
+    ap (λ (run : Run). broughtTo run (forecastAfter input earlier) (event .time))
+    (run-moments input earlier (ordered .1)) ∙
     sym (kept-until input earlier (event .time) (ordered .0))) ∙
     atMoment-taken _ forecasts (event .time) clears ∙
-    ap (λ (shown : ℕ → Moment). taken (shown (event .time)) (kept (eachMillisecond (momentOf input earlier false) (timeOf earlier) (event .time - timeOf earlier) (moments input earlier)))) (sym (moment-recalled input (event following earlier) clears))
+    ap (λ (shown : ℕ → Moment). taken (shown (event .time))
+    (kept (eachMillisecond (momentOf input earlier false) (timeOf earlier) (event .time - timeOf earlier)
+    (moments input earlier))))
+    (sym (moment-recalled input (event following earlier) clears))
 
 -- nothing is due at the time of the last event
 pub settled-record : (input : ℕ) (history : History) → Ordered history
     → Settled (forecastAfter input history) (recordAfter input history .run) (timeOf history)
 settled-record input history ordered =
-    subst (λ (run : Run). Settled (forecastAfter input history) run (timeOf history)) (sym (run-moments input history ordered))
+    subst (λ (run : Run). Settled (forecastAfter input history) run (timeOf history))
+    (sym (run-moments input history ordered))
     (settled-moments input history)
 
 -- the record's passed quality is the one computed of the recorded events
@@ -103,12 +111,14 @@ pub tick-now : (input : ℕ) (history : History) → Ordered history
 unfolding tick
 tick-now input history ordered =
     withRun-same (recordAfter input history) _
-    (broughtTo-settled (recordAfter input history .run) (forecastAfter input history) (timeOf history) (settled-record input history ordered))
+    (broughtTo-settled (recordAfter input history .run) (forecastAfter input history) (timeOf history)
+    (settled-record input history ordered))
 
 pub passed-now : (input : ℕ) (history : History) → Ordered history
     → passedOf (recordAfter input history) ≡ passedAt input history (timeOf history)
 passed-now input history ordered =
-    ap passedOf (sym (tick-now input history ordered)) ∙ passed-tick input history (timeOf history) ordered (omega arith)
+    ap passedOf (sym (tick-now input history ordered)) ∙
+    passed-tick input history (timeOf history) ordered (omega arith)
 
 -- ---- an event that the input does not hear
 
@@ -123,7 +133,8 @@ settle-tick : (input : ℕ) (history : History) (time : ℕ) → Ordered history
 unfolding settle tick forecast
 settle-tick input history time ordered later =
     ap (withRun (recordAfter input history))
-    (atMoment-settled (broughtTo (recordAfter input history .run) (forecastAfter input history) time) (forecastAfter input history) time
+    (atMoment-settled (broughtTo (recordAfter input history .run) (forecastAfter input history) time)
+    (forecastAfter input history) time
     (settled-broughtTo (recordAfter input history .run) (forecastAfter input history) (timeOf history) time later
     (settled-record input history ordered)))
 
@@ -154,13 +165,17 @@ unfolding passedAt
 demand-2-passed-quality input history time ordered later =
     record {
       passes = rw (passed-tick input history time ordered later) (passed-exact (momentsUntil input history time));
-      only = λ quality says. passed-unique (momentsUntil input history time) quality says ∙ sym (passed-tick input history time ordered later);
+      only = λ quality says.
+          passed-unique (momentsUntil input history time) quality says ∙
+          sym (passed-tick input history time ordered later);
     }
 
 pub demand-2-passed-at-once : (input : ℕ) (history : History) → Ordered history → PassesAtOnce input history
 unfolding passedAt
 demand-2-passed-at-once input history ordered =
-    record { passes = rw (passed-now input history ordered) (passed-exact (momentsUntil input history (timeOf history))) }
+    record {
+      passes = rw (passed-now input history ordered) (passed-exact (momentsUntil input history (timeOf history)));
+    }
 
 -- DEMAND 2: time going by in two pieces equals one piece.
 pub demand-2-two-pieces : (input : ℕ) (history : History) (time later : ℕ) → Ordered history → timeOf history ≤ time
@@ -179,6 +194,7 @@ pub demand-2-tick-adds-nothing : (input : ℕ) (history : History) (time later :
 unfolding lastArgument isOn
 demand-2-tick-adds-nothing input history time later ordered i j =
     sym (passed-tick input (tickEvent time following history) later (i, ordered) j) ∙
-    ap (λ (after : Input). passedOf (tick after later (modeOn (tickEvent time following history)))) (takes-tick input history time ordered i) ∙
+    ap (λ (after : Input). passedOf (tick after later (modeOn (tickEvent time following history))))
+    (takes-tick input history time ordered i) ∙
     ap passedOf (demand-2-two-pieces input history time later ordered i j) ∙
     passed-tick input history later ordered (omega arith)

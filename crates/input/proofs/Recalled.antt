@@ -103,7 +103,8 @@ priority-cond false x y = refl
 
 module _ (input : ℕ) (event : Recorded) (earlier : History) where
   heard-on : eqb (event .input) input ≡ true
-      → heardAfter (heardBy input earlier) (event .kind) (event .argument) (event .said) (event .time) ≡ heardBy input (event following earlier)
+      → heardAfter (heardBy input earlier) (event .kind) (event .argument) (event .said) (event .time)
+      ≡ heardBy input (event following earlier)
   unfolding heardAfter heardBy heard lastArgument isOn lastCode codeCount lineSaid frameTime frameSaid
   heard-on on =
       let kind = event .kind in
@@ -128,7 +129,8 @@ module _ (input : ℕ) (event : Recorded) (earlier : History) where
   heard-off off = rw off
 
   settings-on : eqb (event .input) input ≡ true
-      → settingsAfter (settingsBy input earlier) (event .kind) (event .argument) ≡ settingsBy input (event following earlier)
+      → settingsAfter (settingsBy input earlier) (event .kind) (event .argument)
+      ≡ settingsBy input (event following earlier)
   unfolding settingsAfter settingsBy lastArgument isOn
   settings-on on =
       let kind = event .kind in
@@ -145,7 +147,8 @@ module _ (input : ℕ) (event : Recorded) (earlier : History) where
         sending = set-cond (eqb kind kindSending) a (lastArgument input kindSending 1 earlier) j;
       })
 
-  settings-off : eqb (event .input) input ≡ false → settingsBy input earlier ≡ settingsBy input (event following earlier)
+  settings-off : eqb (event .input) input ≡ false
+      → settingsBy input earlier ≡ settingsBy input (event following earlier)
   unfolding settingsBy lastArgument isOn
   settings-off off = rw off
 
@@ -214,7 +217,8 @@ count-third third second first count least =
     (λ k. rw (countAfter-other second first count k, e, k) (count-second third second)))
     (λ e. rw (countAfter-other third second (countAfter second first count) e, e))
 
-counted : (report : Recorded) (earlier : List Recorded) → ltb (codeCount (report ∷ earlier)) 3 ≡ not (isThird report earlier)
+counted : (report : Recorded) (earlier : List Recorded)
+    → ltb (codeCount (report ∷ earlier)) 3 ≡ not (isThird report earlier)
 unfolding codeCount isThird lastCode
 counted report [] = rw (count-first (report .argument))
 counted report (before ∷ []) = rw (count-first (before .argument)) (count-second (report .argument) (before .argument))
@@ -269,7 +273,8 @@ pub raw-recalled : (input : ℕ) (history : History) (time : ℕ)
 unfolding rawQualityAt rawAt isExpired forecast qualityNow canExpire heardBy settingsBy
 raw-recalled input history time =
     rw (heard-recalled input history, settings-recalled input history, frame-said, ← line-said)
-    (raw-any (signalGood input history) (modeOn history) (eqb (fixedOf input history) 0) (takesFrames (inputKind input history))
+    (raw-any (signalGood input history) (modeOn history) (eqb (fixedOf input history) 0)
+    (takesFrames (inputKind input history))
     (leb (frameTime (heard input isFrame history) + frameLife) time)
     (frameSaid (heard input isFrame history))
     (lineSaid (heard input isCounted history))

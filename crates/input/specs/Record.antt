@@ -147,4 +147,5 @@ takes number event mode input =
 unfoldable pub recordAfter : ℕ → History → Input
 recordAfter number (started profile) = freshInput
 recordAfter number (event following earlier) =
-    takes number event (modeOn (event following earlier)) (tick (recordAfter number earlier) (event .time) (modeOn earlier))
+    takes number event (modeOn (event following earlier))
+    (tick (recordAfter number earlier) (event .time) (modeOn earlier))

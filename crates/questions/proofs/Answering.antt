@@ -65,7 +65,8 @@ module _ (senders : Senders) (state : Selector) (port time room : ℕ) (source :
       (ap (λ (rest : List ℕ). after ++ rest) none ∙ append-nil after ∙ content))
       (λ other.
       let refused = asked-refused senders put (eqb-false _ _ other) in
-      ap (λ (answer : Asked). heartbeatText (answer .heartbeat) (after ++ drop (lentRoom room) (replicate writtenLength 0)))
+      ap (λ (answer : Asked). heartbeatText (answer .heartbeat)
+      (after ++ drop (lentRoom room) (replicate writtenLength 0)))
       refused
       ∙ sym (ap (λ (answer : Asked). heartbeatText (answer .heartbeat) (contentOf senders put)) refused))
 
@@ -205,7 +206,8 @@ module _ (line : List ℕ) (port time room start : ℕ) (is : readQuestion line 
       isMarked line && hasMore line && isNumberPart first && isNumberPart second && isNumberPart third in
       byBool (parts && isSource source)
       (λ yes.
-      let same : Q.Question (numberSaid (firstPart first)) (numberSaid (firstPart second)) (numberSaid (firstPart third))
+      let same : Q.Question (numberSaid (firstPart first)) (numberSaid (firstPart second))
+      (numberSaid (firstPart third))
       (length line - length source)
       ≡ Q.Question port time room start = rw yes at is in
       record { place = cc; address = and-true-right parts (isSource source) yes })

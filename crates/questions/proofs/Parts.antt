@@ -51,7 +51,8 @@ partEnd-le text start inside = omega (arith, partLength-le (drop start text), le
 -- what the digits that are left make of the number read so far
 abbrev pub numberAfter : ℕ → List ℕ → NumberRead
 numberAfter value rest =
-    cond (allNumerals rest && ltb (numberSaidAfter value rest) (2 ^ 64)) (N.Number (numberSaidAfter value rest)) N.Nothing
+    cond (allNumerals rest && ltb (numberSaidAfter value rest) (2 ^ 64))
+    (N.Number (numberSaidAfter value rest)) N.Nothing
 
 -- digits only add to it
 numberSaidAfter-grows : (value : ℕ) (rest : List ℕ) → value ≤ numberSaidAfter value rest
@@ -95,7 +96,8 @@ module _ (text : List ℕ) where
     numberAfter-high inside high =
         rw (drop-cons text passed 0, le-leb numeral0 (getD text passed 0) (omega arith), lt-leb _ _ high)
 
-    module _ (inside : passed < length text) (low : numeral0 ≤ getD text passed 0) (high : getD text passed 0 ≤ numeral9) where
+    module _ (inside : passed < length text) (low : numeral0 ≤ getD text passed 0)
+        (high : getD text passed 0 ≤ numeral9) where
       pub numberAfter-next : numberAfter (value * 10 + (getD text passed 0 - numeral0)) (drop (passed + 1) text)
           ≡ numberAfter value (drop passed text)
       unfolding allNumerals numberSaidAfter
@@ -113,12 +115,14 @@ module _ (text : List ℕ) where
 pub times-ten-fits : (value unit : ℕ) → unit ≤ 9 → value ≤ (18446744073709551615 - unit) / 10
     → value * 10 + unit < 2 ^ 64
 times-ten-fits value unit small fits =
-    let room : value * 10 ≤ 18446744073709551615 - unit = le-div-iff-mul-le {k = 10} (omega arith) .0 fits in omega arith
+    let room : value * 10 ≤ 18446744073709551615 - unit = le-div-iff-mul-le {k = 10} (omega arith) .0 fits in
+    omega arith
 
 pub times-ten-large : (value unit : ℕ) → unit ≤ 9 → (18446744073709551615 - unit) / 10 < value
     → 2 ^ 64 ≤ value * 10 + unit
 times-ten-large value unit small large =
-    let over : 18446744073709551615 - unit < value * 10 = div-lt-iff-lt-mul {k = 10} (omega arith) .0 large in omega arith
+    let over : 18446744073709551615 - unit < value * 10 = div-lt-iff-lt-mul {k = 10} (omega arith) .0 large in
+    omega arith
 
 -- ---- isSource
 
@@ -179,11 +183,13 @@ module _ (line : List ℕ) (start : ℕ) (inside : start ≤ length line) where
   unfolding readPart
   readPart-last end found over =
       let all : length (drop start line) ≤ partLength (drop start line) = omega (arith, length-drop start line) in
-      rw (le-ltb (partLength (drop start line)) (length (drop start line)) all) (go (isNumber (firstPart (drop start line))))
+      rw (le-ltb (partLength (drop start line)) (length (drop start line)) all)
+      (go (isNumber (firstPart (drop start line))))
     where
       go : (test : Bool)
           → P.Nothing
-          ≡ cond (test && false) (P.Number (numberSaid (firstPart (drop start line))) (partEnd line start + 1)) P.Nothing
+          ≡ cond (test && false) (P.Number (numberSaid (firstPart (drop start line))) (partEnd line start + 1))
+          P.Nothing
       go true = refl
       go false = refl
 

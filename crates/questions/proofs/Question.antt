@@ -213,7 +213,8 @@ module _ (line : List ℕ) (long : 2 ≤ length line) (marked : getD line 0 0 �
                     → Q.Question port time room start ≡ readQuestion line
                 unfolding readQuestion
                 question-is source judged right =
-                    let size : start ≡ length line - length (drop start line) = omega (arith, length-drop start line, start-inside) in
+                    let size : start ≡ length line - length (drop start line) =
+                    omega (arith, length-drop start line, start-inside) in
                     rw (
                       marked-begins,
                       first-is,

@@ -125,7 +125,8 @@ module _ (frame : List ℕ) (passed : ℕ) (sixty : length frame ≡ 60) where
       let whole : set text 120 lineFeed ≡ padded 121 (frameText frame) =
       ap (λ (one : List ℕ). set one 120 lineFeed) (holds ∙ ap (λ (one : List ℕ). padded 121 (digitsOf one)) all)
       ∙ padded-next 121 (digitsOf frame) 120 lineFeed (sym size) (omega arith) in
-      let count : 121 ≡ length (frameText frame) = sym (length-append (digitsOf frame) (lineFeed ∷ []) ∙ (omega arith)) in
+      let count : 121 ≡ length (frameText frame) =
+      sym (length-append (digitsOf frame) (lineFeed ∷ []) ∙ (omega arith)) in
       λ j. record { octets = whole j; count = count j }
 
 -- ---- the octets of a source address

@@ -1,5 +1,5 @@
--- The question that a line says, and the line that answers it: the paper of readings of document 02, "Programs". `Asked`
--- has what the code does. Assumes nothing.
+-- The question that a line says, and the line that answers it: the paper of readings of document 02, "Programs".
+-- `Asked` has what the code does. Assumes nothing.
 use Prim.Native.Nat.{ℕ}
 use mathlib.Core.Bool.{cond}
 use mathlib.Core.List.{List, [], _∷_, _++_}

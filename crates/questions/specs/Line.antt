@@ -87,7 +87,8 @@ readQuestion line =
     let third = otherParts second in
     let source = otherParts third in
     cond
-    (isMarked line && hasMore line && isNumberPart first && isNumberPart second && isNumberPart third && isSource source)
+    (isMarked line && hasMore line && isNumberPart first && isNumberPart second && isNumberPart third
+    && isSource source)
     (Q.Question (numberSaid (firstPart first)) (numberSaid (firstPart second)) (numberSaid (firstPart third))
     (length line - length source))
     Q.Nothing

@@ -7,8 +7,8 @@ use Rattle.console.specs.Said.{octetsOfText, startSaid}
 use Rattle.unitstart.specs.declared.UnitStart.{UnitStart}
 use Rattle.unitstart.specs.declared.UnitStart.the-variants.{Started, Refused, NoStart}
 
--- "A refused start prints `06` and nothing else.", as START's does; and one line that says what the words are where they
--- are none; nothing of a start
+-- "A refused start prints `06` and nothing else.", as START's does; and one line that says what the words are where
+-- they are none; nothing of a start
 unfoldable pub unitStartSaid : UnitStart → List ℕ
 unitStartSaid (Started profile minimum) = []
 unitStartSaid Refused = startSaid S.Refused

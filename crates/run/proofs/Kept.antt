@@ -76,7 +76,8 @@ kept-defined (moment ∷ earlier) = ap (taken moment) (kept-defined earlier) ∙
 
 pub passed-defined : (moments : Moments) → passedQuality (kept moments) ≡ passed moments
 unfolding defined passedQuality
-passed-defined moments = rw (kept-defined moments) (ap (λ (quality : Quality). cond (wasUp moments) quality failed) (good-now moments))
+passed-defined moments =
+    rw (kept-defined moments) (ap (λ (quality : Quality). cond (wasUp moments) quality failed) (good-now moments))
   where
     twice : (test : Bool) (x y : Quality) → cond test x y ≡ cond test (cond test x y) y
     twice true x y = refl
@@ -126,17 +127,20 @@ module _ (f h w : ℕ) (q : Quality) (s : ℕ) (g : Quality) (time : ℕ) (u : B
   more-counts x e k a b = rw (a, b, e, k) (ap (λ (b : Bool). runOf s q false b) (timer (s + w) time true u))
 
   more-gone : leb (f + frameLife) time ≡ true → leb (f + frameLife) (suc time) ≡ true
-      → atMoment (broughtTo (runOf s g false u) (forecastOf f h w q true) time) (forecastOf f h w q true) (suc time) false ≡
+      → atMoment (broughtTo (runOf s g false u) (forecastOf f h w q true) time) (forecastOf f h w q true)
+      (suc time) false ≡
       broughtTo (runOf s g false u) (forecastOf f h w q true) (suc time)
   unfolding atMoment broughtTo runStart lastGood isUpAfter isExpired rawAt
   more-gone a b = rw (a, b) (ap (λ (b : Bool). runOf (f + frameLife) g true b) (timer (f + frameLife + h) time false _))
 
   more-expires : leb (f + frameLife) time ≡ false → leb (f + frameLife) (suc time) ≡ true
-      → atMoment (broughtTo (runOf s g false u) (forecastOf f h w q true) time) (forecastOf f h w q true) (suc time) false ≡
+      → atMoment (broughtTo (runOf s g false u) (forecastOf f h w q true) time) (forecastOf f h w q true)
+      (suc time) false ≡
       broughtTo (runOf s g false u) (forecastOf f h w q true) (suc time)
   unfolding atMoment broughtTo runStart lastGood isUpAfter isExpired rawAt upBefore
   more-expires a b =
-      let i : f + frameLife ≡ suc time = omega (arith, leb-true (f + frameLife) (suc time) b, leb-false (f + frameLife) time a) in
+      let i : f + frameLife ≡ suc time =
+      omega (arith, leb-true (f + frameLife) (suc time) b, leb-false (f + frameLife) time a) in
       rw (a, b, i, leb·suc-suc (s + w) time) refl
 
 stays-failed : (forecast : Forecast) (from time : ℕ) → from ≤ time → true ≡ isFailed (rawAt forecast from)
@@ -149,7 +153,9 @@ stays-failed forecast from time later e = go (forecast .expires) e
     go false k = sym k
     go true k =
         byBool (leb (forecast .framed + frameLife) time) (λ y. rw y)
-        (λ y. let z : leb (forecast .framed + frameLife) from ≡ false = lt-leb (forecast .framed + frameLife) from (omega (arith, leb-false (forecast .framed + frameLife) time y)) in
+        (λ y. let z : leb (forecast .framed + frameLife) from ≡ false =
+        lt-leb (forecast .framed + frameLife) from
+        (omega (arith, leb-false (forecast .framed + frameLife) time y)) in
         let k' : true ≡ isFailed (forecast .quality) = rw z at k in rw y (sym k'))
 
 not-failed : (x : Bool) (q : Quality) → false ≡ isFailed (cond x failed q) → isFailed q ≡ false
@@ -168,15 +174,18 @@ brought-any f h w q false s g false u from time later fit =
     more-counts f h w q s g time u false (not-failed false q (fit .fails)) (fit .good refl) refl refl
 brought-any f h w q true s g false u from time later fit =
     byBool (leb (f + frameLife) time)
-    (λ a. more-gone f h w q s g time u a (le-leb (f + frameLife) (suc time) (omega (arith, leb-true (f + frameLife) time a))))
+    (λ a. more-gone f h w q s g time u a
+    (le-leb (f + frameLife) (suc time) (omega (arith, leb-true (f + frameLife) time a))))
     (λ a. byBool (leb (f + frameLife) (suc time))
     (λ b. more-expires f h w q s g time u a b)
-    (λ b. more-counts f h w q s g time u true (not-failed (leb (f + frameLife) from) q (fit .fails)) (fit .good refl) a b))
+    (λ b. more-counts f h w q s g time u true (not-failed (leb (f + frameLife) from) q (fit .fails))
+    (fit .good refl) a b))
 
 pub broughtTo-suc : (run : Run) (forecast : Forecast) (from time : ℕ) → from ≤ time → Fits forecast run from
     → atMoment (broughtTo run forecast time) forecast (suc time) false ≡ broughtTo run forecast (suc time)
 broughtTo-suc run forecast from time later fit =
-    brought-any (forecast .framed) (forecast .holdoff) (forecast .wait) (forecast .quality) (forecast .expires) (run .start) (run .good)
+    brought-any (forecast .framed) (forecast .holdoff) (forecast .wait) (forecast .quality) (forecast .expires)
+    (run .start) (run .good)
     (run .failed)
     (run .up)
     from
@@ -202,19 +211,23 @@ zero-any : (f h w : ℕ) (q : Quality) (x : Bool) (s : ℕ) (g : Quality) (b u :
     → broughtTo (runOf s g b u) (forecastOf f h w q x) time ≡ runOf s g b u
 unfolding broughtTo isUpAfter isExpired rawAt
 zero-any f h w q x s g true u time c =
-    ap (λ (b : Bool). runOf s g true b) (judged (leb (s + h) time) false u (λ e. c .heldOff refl (leb-true (s + h) time e)))
+    ap (λ (b : Bool). runOf s g true b)
+    (judged (leb (s + h) time) false u (λ e. c .heldOff refl (leb-true (s + h) time e)))
 zero-any f h w q false s g false u time c =
-    ap (λ (b : Bool). runOf s g false b) (judged (leb (s + w) time) true u (λ e. c .waited refl (leb-true (s + w) time e)))
+    ap (λ (b : Bool). runOf s g false b)
+    (judged (leb (s + w) time) true u (λ e. c .waited refl (leb-true (s + w) time e)))
 zero-any f h w q true s g false u time c =
     byBool (leb (f + frameLife) time)
     (λ e. let z : false ≡ true = rw e at (c .fits .fails) in absurd (false≢true z))
     (λ e. rw e
-    (ap (λ (b : Bool). runOf s g false b) (judged (leb (s + w) time) true u (λ k. c .waited refl (leb-true (s + w) time k)))))
+    (ap (λ (b : Bool). runOf s g false b)
+    (judged (leb (s + w) time) true u (λ k. c .waited refl (leb-true (s + w) time k)))))
 
 pub broughtTo-settled : (run : Run) (forecast : Forecast) (time : ℕ) → Settled forecast run time
     → broughtTo run forecast time ≡ run
 broughtTo-settled run forecast time c =
-    zero-any (forecast .framed) (forecast .holdoff) (forecast .wait) (forecast .quality) (forecast .expires) (run .start) (run .good)
+    zero-any (forecast .framed) (forecast .holdoff) (forecast .wait) (forecast .quality) (forecast .expires)
+    (run .start) (run .good)
     (run .failed)
     (run .up)
     time
@@ -247,7 +260,8 @@ pub settled-atMoment : (run : Run) (forecast : Forecast) (time : ℕ) (clears : 
 unfolding atMoment lastGood isUpAfter rawAt
 settled-atMoment run forecast time clears =
     record {
-      fits = record { fails = refl; good = λ e. good-taken (isExpired forecast time) (run .good) (forecast .quality) e };
+      fits =
+          record { fails = refl; good = λ e. good-taken (isExpired forecast time) (run .good) (forecast .quality) e };
       heldOff = λ e k. heldOff-taken _ _ _ _ e (le-leb _ time k);
       waited = λ e k. waited-taken _ _ clears _ _ e (le-leb _ time k);
     }
@@ -258,7 +272,8 @@ again-any : (f h w : ℕ) (q : Quality) (x : Bool) (s : ℕ) (g : Quality) (b u 
 unfolding atMoment runStart lastGood isUpAfter
 again-any f h w q x s g true u time c =
     rw (← c .fits .fails)
-    (ap (λ (b : Bool). runOf s g true b) (judged (leb (s + h) time) false u (λ e. c .heldOff refl (leb-true (s + h) time e))))
+    (ap (λ (b : Bool). runOf s g true b)
+    (judged (leb (s + h) time) false u (λ e. c .heldOff refl (leb-true (s + h) time e))))
 again-any f h w q x s g false u time c =
     let k : rawAt (forecastOf f h w q x) time ≡ g = good-now (sym (c .fits .fails)) ∙ sym (c .fits .good refl) in
     rw (← c .fits .fails)
@@ -271,7 +286,8 @@ again-any f h w q x s g false u time c =
 pub atMoment-settled : (run : Run) (forecast : Forecast) (time : ℕ) → Settled forecast run time
     → atMoment run forecast time false ≡ run
 atMoment-settled run forecast time c =
-    again-any (forecast .framed) (forecast .holdoff) (forecast .wait) (forecast .quality) (forecast .expires) (run .start) (run .good)
+    again-any (forecast .framed) (forecast .holdoff) (forecast .wait) (forecast .quality) (forecast .expires)
+    (run .start) (run .good)
     (run .failed)
     (run .up)
     time
@@ -290,7 +306,8 @@ settled-fresh forecast e =
 
 -- milliseconds one by one come to one step
 pub kept-each : (forecast : Forecast) (time count : ℕ) (moments : Moments) → Settled forecast (kept moments) time
-    → kept (eachMillisecond (momentAt forecast false) time count moments) ≡ broughtTo (kept moments) forecast (time + count)
+    → kept (eachMillisecond (momentAt forecast false) time count moments)
+    ≡ broughtTo (kept moments) forecast (time + count)
 unfolding kept eachMillisecond
 kept-each forecast time zero moments c = rw add-zero (sym (broughtTo-settled (kept moments) forecast time c))
 kept-each forecast time (suc count) moments c =
@@ -317,7 +334,8 @@ settled-broughtTo run forecast from time later c =
 twice-add : (run : Run) (forecast : Forecast) (from time count : ℕ) → from ≤ time → Settled forecast run from
     → broughtTo (broughtTo run forecast time) forecast (time + count) ≡ broughtTo run forecast (time + count)
 twice-add run forecast from time zero later c =
-    rw add-zero (broughtTo-settled (broughtTo run forecast time) forecast time (settled-broughtTo run forecast from time later c))
+    rw add-zero (broughtTo-settled (broughtTo run forecast time) forecast time
+    (settled-broughtTo run forecast from time later c))
 twice-add run forecast from time (suc count) later c =
     rw (add-suc time count)
     (sym

@@ -20,8 +20,10 @@ use Rattle.run.specs.Run.{runOf, isExpired, rawAt, runStart, isUpAfter, 
 pub elapsed-within : (start length time : ℕ) → start ≤ time → leb length (time - start) ≡ leb (start + length) time
 elapsed-within start length time within =
     byBool (leb (start + length) time)
-    (λ e. let k : start + length ≤ time = leb-true _ _ e in let m : length ≤ time - start = omega arith in le-leb _ _ m ∙ sym e)
-    (λ e. let k : time < start + length = leb-false _ _ e in let m : time - start < length = omega arith in lt-leb _ _ m ∙ sym e)
+    (λ e. let k : start + length ≤ time = leb-true _ _ e in
+    let m : length ≤ time - start = omega arith in le-leb _ _ m ∙ sym e)
+    (λ e. let k : time < start + length = leb-false _ _ e in
+    let m : time - start < length = omega arith in lt-leb _ _ m ∙ sym e)
 
 pub elapsed-not : (start length time : ℕ) → time < start → false ≡ leb (start + length) time
 elapsed-not start length time later = let m : time < start + length = omega arith in sym (lt-leb _ _ m)

@@ -57,7 +57,8 @@ unfoldable pub atMoment : Run → Forecast → ℕ → Bool → Run
 atMoment run forecast time clears =
     let raw = rawAt forecast time in
     let start = runStart (run .failed) (run .start) (isFailed raw) time in
-    runOf start (lastGood (run .good) raw) (isFailed raw) (isUpAfter (run .up) (isFailed raw) start forecast time clears)
+    runOf start (lastGood (run .good) raw) (isFailed raw)
+    (isUpAfter (run .up) (isFailed raw) start forecast time clears)
 
 -- whether the last down or up moment before `end` was up, in a run that is not failed and ends there
 unfoldable pub upBefore : Bool → ℕ → ℕ → ℕ → Bool

@@ -48,7 +48,8 @@ module _ (inputs : List Input) (number : ℕ) where
 
   pub inputAt-past : (found : Input) → 16 ≤ number → length inputs ≡ 16 → found ≡ freshInput
       → found ≡ getD inputs number freshInput
-  inputAt-past found h k e = let m : length inputs ≤ number = omega arith in e ∙ sym (getD-past inputs number freshInput m)
+  inputAt-past found h k e =
+      let m : length inputs ≤ number = omega arith in e ∙ sym (getD-past inputs number freshInput m)
 
 pub ruleset inputAt-laws = (inputAt-inside, inputAt-past)
 
@@ -89,7 +90,8 @@ module _ (own : Quality) (mode : Bool) (candidate : Candidate) where
   unfolding clockQuality
   clockQuality-off m = rw m
 
-  pub clockQuality-locked : mode ≡ true → candidate .usable ≡ true → candidate .quality ≡ clockQuality own mode candidate
+  pub clockQuality-locked : mode ≡ true → candidate .usable ≡ true
+      → candidate .quality ≡ clockQuality own mode candidate
   unfolding clockQuality
   clockQuality-locked m u = rw (m, u)
 
@@ -186,7 +188,8 @@ pub ruleset switchInput-laws = (switchInput-nothing, switchInput-forced, switchI
 -- ---- signFor, for codes and for words
 
 -- a turn of the loop over the ports
-pub signFor-turn : (rule : Bool → Bool → Bool → ℕ → ℕ) (inputs : List Input) (mode : Bool) (selected marks sign first port rest : ℕ) (into now : List ℕ)
+pub signFor-turn : (rule : Bool → Bool → Bool → ℕ → ℕ) (inputs : List Input) (mode : Bool)
+    (selected marks sign first port rest : ℕ) (into now : List ℕ)
     (chosen told : ℕ) (zeroed : Input)
     → now ≡ filled (signFor rule inputs mode selected marks sign first) port ports into
     → rest ≡ halved port marks

@@ -18,7 +18,8 @@ unfolding numbersFrom
 numbersFrom-at first zero number h = absurd (omega arith)
 numbersFrom-at first (suc count) zero h = omega arith
 numbersFrom-at first (suc count) (suc number) h =
-    let e : suc first + number ≡ first + suc number = omega arith in numbersFrom-at (suc first) count number (omega arith) ∙ e
+    let e : suc first + number ≡ first + suc number = omega arith in
+    numbersFrom-at (suc first) count number (omega arith) ∙ e
 
 -- the ports are their own numbers
 pub port-number : (port : ℕ) → port < 16 → getD ports port 0 ≡ port
@@ -52,7 +53,8 @@ module _ {A : Type 0} (f : ℕ → A) (x : A) where
       let k : suc first + number ≡ first + suc number = omega arith in
       rw e
       (ap (λ (rest : List A). f first ∷ rest)
-      (set-from (suc first) count number (omega arith) ∙ ap (λ (place : ℕ). map (butAt place) (numbersFrom (suc first) count)) k))
+      (set-from (suc first) count number (omega arith) ∙
+      ap (λ (place : ℕ). map (butAt place) (numbersFrom (suc first) count)) k))
 
   pub set-ports : (number : ℕ) → number < 16 → set (map f ports) number x ≡ map (butAt number) ports
   unfolding numbersFrom
@@ -67,7 +69,8 @@ unfolding numbersFrom
 getD-from f d first zero number h = absurd (omega arith)
 getD-from f d first (suc count) zero h = let e : first ≡ first + 0 = omega arith in ap f e
 getD-from f d first (suc count) (suc number) h =
-    let e : suc first + number ≡ first + suc number = omega arith in getD-from f d (suc first) count number (omega arith) ∙ ap f e
+    let e : suc first + number ≡ first + suc number = omega arith in
+    getD-from f d (suc first) count number (omega arith) ∙ ap f e
 
 pub getD-ports : {A : Type 0} (f : ℕ → A) (d : A) (number : ℕ) → number < 16 → getD (map f ports) number d ≡ f number
 unfolding numbersFrom

@@ -28,8 +28,8 @@ holdover = 1
 abbrev pub locked : ℕ
 locked = 2
 
--- "02 locked if an input is selected and its passed quality is usable ..; otherwise 01 holdover if it was locked after any
--- earlier choice, 00 free run if not"
+-- "02 locked if an input is selected and its passed quality is usable ..; otherwise 01 holdover if it was locked after
+-- any earlier choice, 00 free run if not"
 unfoldable pub clockState : Bool → Bool → ℕ
 clockState isClockLocked held =
     cond isClockLocked locked

@@ -69,7 +69,8 @@ withDecision state decision =
 -- what the switch judged and the choice made come to
 abbrev pub decisionOf : Selector → Decision
 decisionOf state =
-    decide (candidatesOf (state .profile) (state .inputs) (state .mode)) (state .switch) (state .selection) (state .held)
+    decide (candidatesOf (state .profile) (state .inputs) (state .mode)) (state .switch)
+    (state .selection) (state .held)
 
 -- "the switch judged, the choice made"
 unfoldable pub decided : Selector → Selector

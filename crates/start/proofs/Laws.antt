@@ -184,17 +184,20 @@ module _ (place : List ℕ) (marks most : ℕ) (decimal : isDecimal place ≡ tr
 -- ---- startIn
 
 module _ (option place marks : List ℕ) where
-  pub startIn-option : (two : Bool) → two ≡ isOptionWord numeral2 option → not two ≡ true → NoStart ≡ startIn option place marks
+  pub startIn-option : (two : Bool) → two ≡ isOptionWord numeral2 option → not two ≡ true
+      → NoStart ≡ startIn option place marks
   unfolding startIn
   startIn-option two is none = rw (sym is ∙ not-true two none)
 
-  pub startIn-place : (two decimal : Bool) → two ≡ isOptionWord numeral2 option → not two ≡ false → decimal ≡ isDecimal place
+  pub startIn-place : (two decimal : Bool) → two ≡ isOptionWord numeral2 option → not two ≡ false
+      → decimal ≡ isDecimal place
       → not decimal ≡ true
       → NoStart ≡ startIn option place marks
   unfolding startIn
   startIn-place two decimal is taken test none = rw (sym is ∙ not-false two taken, sym test ∙ not-true decimal none)
 
-  pub startIn-marks : (two decimal four : Bool) → two ≡ isOptionWord numeral2 option → not two ≡ false → decimal ≡ isDecimal place
+  pub startIn-marks : (two decimal four : Bool) → two ≡ isOptionWord numeral2 option → not two ≡ false
+      → decimal ≡ isDecimal place
       → not decimal ≡ false
       → four ≡ isMarks marks
       → not four ≡ true
@@ -203,7 +206,8 @@ module _ (option place marks : List ℕ) where
   startIn-marks two decimal four is taken test also digits none =
       rw (sym is ∙ not-false two taken, sym test ∙ not-false decimal also, sym digits ∙ not-true four none)
 
-  pub startIn-start : (read : StartRead) (value : ℕ) (two decimal four : Bool) → two ≡ isOptionWord numeral2 option → not two ≡ false
+  pub startIn-start : (read : StartRead) (value : ℕ) (two decimal four : Bool) → two ≡ isOptionWord numeral2 option
+      → not two ≡ false
       → decimal ≡ isDecimal place
       → not decimal ≡ false
       → four ≡ isMarks marks

@@ -47,7 +47,8 @@ startIn option place marks =
     (startOf (decimalValue 0 place) (digitsValue 0 marks))
     NoStart
 
--- "nothing, or `2 PLACE MARKS`"; "with nothing they are L11's: unplaced, no marks": so many words, of which the first three are given
+-- "nothing, or `2 PLACE MARKS`"; "with nothing they are L11's: unplaced, no marks": so many words, of which the first
+-- three are given
 unfoldable pub startBy : ℕ → List ℕ → List ℕ → List ℕ → StartRead
 startBy count option place marks =
     cond (eqb count 0) (Started 0 0)

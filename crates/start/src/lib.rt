@@ -1,10 +1,10 @@
 // START, with which a program is started: document 02, L10 and L11, "Programs" of its readings.
-// Nothing, or `2 PLACE MARKS`: the place of PROV and the marks with which a log of option II starts;
-// which option a log means its lines say.
+// Nothing, or `2 PLACE MARKS`: the place of PROV and the marks with which a log of option II
+// starts; which option a log means its lines say.
 //
-// What the system hands over as arguments no contract can say: `read_start` promises that its answer
-// is that of some words, and `start_by` which answer they have. No public function has a `requires`:
-// a word may have any length and any content.
+// What the system hands over as arguments no contract can say: `read_start` promises that its
+// answer is that of some words, and `start_by` which answer they have. No public function has a
+// `requires`: a word may have any length and any content.
 use numbers::ACCEPTED;
 use numbers::Profile;
 use numbers::start_number;

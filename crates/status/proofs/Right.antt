@@ -41,7 +41,8 @@ frame-right : (number : ℕ) (history : History) (time : ℕ) → Told history
     → frameAhead (recordAfter number history .heard) time ≡ frameBy (heard number isFrame history) time
 unfolding frameAhead heardBy
 frame-right number history time told =
-    ap (λ (heard : Heard). cond (isFailed (heard .frame)) 0 (endAhead (heard .framed) frameLife time)) (heard-recalled number history) ∙
+    ap (λ (heard : Heard). cond (isFailed (heard .frame)) 0 (endAhead (heard .framed) frameLife time))
+    (heard-recalled number history) ∙
     frame-same (heard number isFrame history) time (heard-told number history told)
 
 -- ---- the timer
@@ -64,7 +65,8 @@ either false start holdoff wait time = refl
 
 -- the timer of the run that the moments define
 timer-defined : (number : ℕ) (history : History) (time : ℕ)
-    → timerAhead (defined (moments number history)) (forecastAfter number history) time ≡ timerBy (moments number history) time
+    → timerAhead (defined (moments number history)) (forecastAfter number history) time
+    ≡ timerBy (moments number history) time
 unfolding timerAhead defined forecast settingsBy
 timer-defined number history time =
     rw (settings-recalled number history, ← holdoff-now number history, ← wait-now number history)
@@ -73,7 +75,8 @@ timer-defined number history time =
     time)
 
 timer-right : (number : ℕ) (history : History) (time : ℕ) → Ordered history
-    → timerAhead (recordAfter number history .run) (forecastAfter number history) time ≡ timerBy (moments number history) time
+    → timerAhead (recordAfter number history .run) (forecastAfter number history) time
+    ≡ timerBy (moments number history) time
 timer-right number history time ordered =
     ap (λ (run : Run). timerAhead run (forecastAfter number history) time)
     (run-moments number history ordered ∙ kept-defined (moments number history)) ∙
@@ -82,7 +85,8 @@ timer-right number history time ordered =
 -- ---- all that is known
 
 status-recorded : (number : ℕ) (history : History) → Ordered history → Told history
-    → statusOf (profileOf history) (recordAfter number history) (modeOn history) (timeOf history) ≡ statusBy history number
+    → statusOf (profileOf history) (recordAfter number history) (modeOn history) (timeOf history)
+    ≡ statusBy history number
 unfolding statusOf statusBy heardBy settingsBy
 status-recorded number history ordered told = λ j.
     record {
@@ -90,7 +94,8 @@ status-recorded number history ordered told = λ j.
       passed = passed-now number history ordered j;
       eligible =
           isEligible
-          (candidate-recorded number (timeOf history) history (recordAfter number history) (passed-now number history ordered)
+          (candidate-recorded number (timeOf history) history (recordAfter number history)
+          (passed-now number history ordered)
           (settings-recalled number history)
           j);
       timer = timer-right number history (timeOf history) ordered j;

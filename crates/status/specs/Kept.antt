@@ -46,4 +46,5 @@ statusOf profile input mode time =
 
 -- an input of a state, at the state's time
 abbrev pub inputStatus : Selector → ℕ → Status
-inputStatus state number = statusOf (state .profile) (getD (state .inputs) number freshInput) (state .mode) (state .time)
+inputStatus state number =
+    statusOf (state .profile) (getD (state .inputs) number freshInput) (state .mode) (state .time)

@@ -1,5 +1,5 @@
--- `Laws`: the code's definitions, way by way. `Ticks`: a tick and an event of one selector. `Halves`, `Times`, `Output`,
--- `Runs`, `Agree`, `Cases`: the theorems.
+-- `Laws`: the code's definitions, way by way. `Ticks`: a tick and an event of one selector. `Halves`, `Times`,
+-- `Output`, `Runs`, `Agree`, `Cases`: the theorems.
 pub mod Laws
 pub mod Ticks
 pub mod Halves

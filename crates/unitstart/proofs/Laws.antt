@@ -64,7 +64,8 @@ module _ (profile : Profile) (minimum : List ℕ) (decimal : isDecimal minimum �
       → start ≡ unitStartOf profile (quality number)
       → start ≡ unitStartOf profile (quality (decimalValue 0 minimum))
   with-number start read number reads told is =
-      is ∙ ap (λ (value : ℕ). unitStartOf profile (quality value)) (place-is minimum 0 255 decimal read number reads told)
+      is ∙
+      ap (λ (value : ℕ). unitStartOf profile (quality value)) (place-is minimum 0 255 decimal read number reads told)
 
 -- ---- unitStartTwo
 

@@ -1,5 +1,5 @@
--- OPTION PLACE MARKS MINIMUM: document 02, L13, and the paper of its readings, "Programs". `startIn` of crate `start` has
--- `2 PLACE MARKS`. Cited by `src/lib.rt`. Assumes nothing.
+-- OPTION PLACE MARKS MINIMUM: document 02, L13, and the paper of its readings, "Programs". `startIn` of crate `start`
+-- has `2 PLACE MARKS`. Cited by `src/lib.rt`. Assumes nothing.
 use Prim.Native.Nat.{ℕ}
 use mathlib.Core.Bool.{cond}
 use mathlib.Core.List.{List}
@@ -38,7 +38,8 @@ unfoldable pub unitStartIn : List ℕ → List ℕ → List ℕ → List ℕ →
 unitStartIn option place marks minimum =
     let least = quality (decimalValue 0 minimum) in
     cond (isDecimal minimum)
-    (cond (isOptionWord numeral1 option) (unitStartOf P.OptionOne least) (unitStartTwo (startIn option place marks) least))
+    (cond (isOptionWord numeral1 option) (unitStartOf P.OptionOne least)
+    (unitStartTwo (startIn option place marks) least))
     NoStart
 
 -- so many arguments, the program's name before the four words

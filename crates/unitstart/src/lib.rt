@@ -3,8 +3,8 @@
 // at.
 //
 // What the system hands over as arguments no contract can say: `read_unit_start` promises that its
-// answer is that of some words, and `unit_start_by` which answer they have. No public function has a
-// `requires`: a word may have any length and any content.
+// answer is that of some words, and `unit_start_by` which answer they have. No public function has
+// a `requires`: a word may have any length and any content.
 use numbers::ACCEPTED;
 use numbers::Profile;
 use numbers::Quality;
@@ -80,7 +80,8 @@ fn start_two(start: StartRead, minimum: &[u8]) -> UnitStart
 // What four words say: OPTION PLACE MARKS MINIMUM.
 pub fn unit_start_in(option: &[u8], place: &[u8], marks: &[u8], minimum: &[u8]) -> UnitStart
     ensures { λ start. ⌜
-        start ≡ unitStartIn (now (option .entry)) (now (place .entry)) (now (marks .entry)) (now (minimum .entry)) ⌝ }
+        start ≡ unitStartIn (now (option .entry)) (now (place .entry)) (now (marks .entry))
+        (now (minimum .entry)) ⌝ }
 {
     if !is_decimal(minimum) {
         return UnitStart::NoStart;
@@ -100,7 +101,8 @@ pub fn unit_start_by(
     minimum: &[u8],
 ) -> UnitStart
     ensures { λ start. ⌜
-        start ≡ unitStartBy count (now (option .entry)) (now (place .entry)) (now (marks .entry)) (now (minimum .entry)) ⌝ }
+        start ≡ unitStartBy count (now (option .entry)) (now (place .entry)) (now (marks .entry))
+        (now (minimum .entry)) ⌝ }
 {
     if count != ARGUMENTS {
         return UnitStart::NoStart;

@@ -38,17 +38,20 @@ returns-2 c =
     (c .before .before .enum-told .given .1) (c .held-line2 .ensures)
 
 sub-source-octets : tie.Need-sub-source-octets
-sub-source-octets c = start-lent _ _ _ _ _ _ (c .before .before .before .read-question .ensures) (c .before .port .given .1)
+sub-source-octets c =
+    start-lent _ _ _ _ _ _ (c .before .before .before .read-question .ensures) (c .before .port .given .1)
 
 part-source-octets-start : tie.Need-part-source-octets-start
-part-source-octets-start c = start-lent _ _ _ _ _ _ (c .before .before .before .read-question .ensures) (c .before .port .given .1)
+part-source-octets-start c =
+    start-lent _ _ _ _ _ _ (c .before .before .before .read-question .ensures) (c .before .port .given .1)
 
 part-source-octets-end : tie.Need-part-source-octets-end
 part-source-octets-end c = search needs
 
 source-octets-requires : tie.Need-source-octets-requires
 source-octets-requires c κs =
-    source-lent _ _ _ _ _ _ (c .before .before .before .before .read-question .ensures) (c .before .before .port .given .1)
+    source-lent _ _ _ _ _ _ (c .before .before .before .before .read-question .ensures)
+    (c .before .before .port .given .1)
 
 array-share-prefix-octets : tie.Need-array-share-prefix-octets
 array-share-prefix-octets c =

@@ -19,7 +19,9 @@ held-line-requires : tie.Need-held-line-requires
 held-line-requires c κs = search needs
 
 returns : tie.Need-returns
-returns c = c .held-line .ensures ∙ number-digits _ _ _ (c .before .before .before .upper-digit .ensures) (c .before .before .lower-digit .ensures)
+returns c =
+    c .held-line .ensures ∙
+    number-digits _ _ _ (c .before .before .before .upper-digit .ensures) (c .before .before .lower-digit .ensures)
 
 pub number-text-spec : {M : Type 1} → statement M
 number-text-spec =

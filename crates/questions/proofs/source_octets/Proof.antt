@@ -63,7 +63,8 @@ loop-again c =
     let l = c .before .before .before .before in
     let text = l .before .before .args .text .now in (
       omega arith,
-      source-turn text (l .loop .count) (l .before .before .pre) _ _ (l .loop .inv .1) (omega arith) (c .octet-of .ensures),
+      source-turn text (l .loop .count) (l .before .before .pre) _ _ (l .loop .inv .1) (omega arith)
+          (c .octet-of .ensures),
     )
 
 returns : tie.Need-returns Inv-loop μ-loop

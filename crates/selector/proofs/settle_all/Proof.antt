@@ -12,7 +12,8 @@ use Rattle.selector.proofs.settle_all.Statement.{statement}
 use Rattle.selector.proofs.settle_all.Tie as tie
 
 abbrev Inv-loop : tie.InvT-loop
-Inv-loop time mode all₀ at₀ all at = (at ≤ 16) × (length all₀ ≡ 16) × (all ≡ filled (λ (input : Input). settle input time mode false) at all₀ all₀)
+Inv-loop time mode all₀ at₀ all at =
+    (at ≤ 16) × (length all₀ ≡ 16) × (all ≡ filled (λ (input : Input). settle input time mode false) at all₀ all₀)
 
 abbrev μ-loop : tie.MeasureT-loop
 μ-loop time mode all₀ at₀ all at = 16 - at

@@ -11,7 +11,8 @@ use Rattle.selector.proofs.tick_all.Statement.{statement}
 use Rattle.selector.proofs.tick_all.Tie as tie
 
 abbrev Inv-loop : tie.InvT-loop
-Inv-loop time mode all₀ at₀ all at = (at ≤ 16) × (length all₀ ≡ 16) × (all ≡ filled (λ (input : Input). tick input time mode) at all₀ all₀)
+Inv-loop time mode all₀ at₀ all at =
+    (at ≤ 16) × (length all₀ ≡ 16) × (all ≡ filled (λ (input : Input). tick input time mode) at all₀ all₀)
 
 abbrev μ-loop : tie.MeasureT-loop
 μ-loop time mode all₀ at₀ all at = 16 - at

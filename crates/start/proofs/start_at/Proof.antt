@@ -21,7 +21,14 @@ returns : tie.Need-returns
 returns c = search (place-above, needs)
 
 cast-start-of : tie.Need-cast-start-of
-cast-start-of c = record { fits = omega (arith, readNumber-most _ _ _ (sym (c .before .read .given .1) ∙ c .before .before .before .read-number .ensures)) }
+cast-start-of c =
+    record {
+      fits = omega (
+        arith,
+        readNumber-most _ _ _
+            (sym (c .before .read .given .1) ∙ c .before .before .before .read-number .ensures),
+      );
+    }
 
 start-of-requires : tie.Need-start-of-requires
 start-of-requires c κs = search needs

@@ -44,7 +44,8 @@ returns c =
       c .before .before .before .before .before .candidate-for .ensures,
       c .before .before .before .before .before .before .floor-in .ensures,
       c .before .before .before .before .before .before .before .before .limits-of .ensures,
-      c .before .before .before .before .before .before .before .before .before .before .before .before .before .forecast .ensures,
+      c .before .before .before .before .before .before .before .before .before .before .before .before
+          .before .forecast .ensures,
     )
 
 pub status-of-spec : {M : Type 1} → statement M

@@ -15,7 +15,8 @@ is-option-word-requires : tie.Need-is-option-word-requires
 is-option-word-requires c κs = search needs
 
 start-with-requires : tie.Need-start-with-requires
-start-with-requires c κs = let else = c .before .before in minimum-holds _ _ (else .before .is-decimal .ensures) (else .if1 .left)
+start-with-requires c κs =
+    let else = c .before .before in minimum-holds _ _ (else .before .is-decimal .ensures) (else .if1 .left)
 
 returns-2 : tie.Need-returns-2
 returns-2 c = search unitStartIn-laws
@@ -24,7 +25,8 @@ start-in-requires : tie.Need-start-in-requires
 start-in-requires c κs = search needs
 
 start-two-requires : tie.Need-start-two-requires
-start-two-requires c κs = let else = c .before .before .before in minimum-holds _ _ (else .before .is-decimal .ensures) (else .if1 .left)
+start-two-requires c κs =
+    let else = c .before .before .before in minimum-holds _ _ (else .before .is-decimal .ensures) (else .if1 .left)
 
 returns-3 : tie.Need-returns-3
 returns-3 c = search unitStartIn-laws
