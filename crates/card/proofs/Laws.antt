@@ -116,7 +116,7 @@ inputWith kind flat =
             line = quality (flat .line);
             last = flat .last;
             count = flat .count;
-            good = isSet (flat .signal);
+            signal = isSet (flat .signal);
           };
       run =
           record {
@@ -159,7 +159,7 @@ flatWith kind input =
       frame = input .heard .frame .0;
       line = input .heard .line .0;
       count = input .heard .count;
-      signal = flag (input .heard .good);
+      signal = flag (input .heard .signal);
       good = input .run .good .0;
       failed = flag (input .run .failed);
       up = flag (input .run .up);

@@ -53,7 +53,7 @@ heardBy input history =
       line = lineSaid (heard input isCounted history);
       last = lastCode (heard input isCounted history);
       count = codeCount (heard input isCounted history);
-      good = signalGood input history;
+      signal = signalGood input history;
     }
 
 unfoldable pub settingsBy : ℕ → History → Settings
@@ -121,7 +121,7 @@ module _ (input : ℕ) (event : Recorded) (earlier : History) where
         line = split lineSaid g c event codes j;
         last = split lastCode g c event codes j;
         count = split codeCount g c event codes j;
-        good = good-cond (eqb kind kindSignal) (event .argument) (lastArgument input kindSignal 1 earlier) j;
+        signal = good-cond (eqb kind kindSignal) (event .argument) (lastArgument input kindSignal 1 earlier) j;
       })
 
   heard-off : eqb (event .input) input ≡ false → heardBy input earlier ≡ heardBy input (event following earlier)

@@ -20,7 +20,7 @@ use Rattle.input.specs.Recorded.{History, modeOn}
 
 -- "forget the codes heard, the count of equal ones and the frames heard"
 abbrev pub forgotten : Bool → Heard
-forgotten good = record { framed = 0; frame = failed; line = failed; last = 0; count = 0; good = good }
+forgotten signal = record { framed = 0; frame = failed; line = failed; last = 0; count = 0; signal = signal }
 
 -- "signal failing"
 abbrev pub freshHeard : Heard
@@ -55,9 +55,9 @@ lineAfter said count line = cond (ltb count reportsNeeded) line said
 -- what was heard, after an event on this input
 unfoldable pub heardAfter : Heard → ℕ → ℕ → Quality → ℕ → Heard
 heardAfter heard kind argument said time =
-    let forgets = eqb kind kindInputKind || (eqb kind kindSignal && not (eqb argument 0) && heard .good) in
-    let frame = isFrame kind && heard .good in
-    let counted = isCounted kind && heard .good in
+    let forgets = eqb kind kindInputKind || (eqb kind kindSignal && not (eqb argument 0) && heard .signal) in
+    let frame = isFrame kind && heard .signal in
+    let counted = isCounted kind && heard .signal in
     let count = countAfter argument (heard .last) (heard .count) in
     record {
       framed = cond forgets 0 (cond frame time (heard .framed));
@@ -65,7 +65,7 @@ heardAfter heard kind argument said time =
       line = cond forgets failed (cond counted (lineAfter said count (heard .line)) (heard .line));
       last = cond forgets 0 (cond counted argument (heard .last));
       count = cond forgets 0 (cond counted count (heard .count));
-      good = cond (eqb kind kindSignal) (eqb argument 0) (heard .good);
+      signal = cond (eqb kind kindSignal) (eqb argument 0) (heard .signal);
     }
 
 -- the settings, after an event on this input
@@ -86,7 +86,7 @@ settingsAfter settings kind argument =
 -- heard"
 unfoldable pub qualityNow : Heard → Settings → Bool → Quality
 qualityNow heard settings mode =
-    cond (not (heard .good)) failed
+    cond (not (heard .signal)) failed
     (cond (not mode) notTold
     (cond (not (eqb (settings .fixed .0) 0)) (settings .fixed)
     (cond (takesFrames (settings .kind)) (heard .frame)
@@ -94,7 +94,7 @@ qualityNow heard settings mode =
 
 -- raw quality is that of a frame, which expires
 unfoldable pub canExpire : Heard → Settings → Bool → Bool
-canExpire heard settings mode = heard .good && mode && eqb (settings .fixed .0) 0 && takesFrames (settings .kind)
+canExpire heard settings mode = heard .signal && mode && eqb (settings .fixed .0) 0 && takesFrames (settings .kind)
 
 -- how raw quality goes on if no event comes, and the timers in force
 unfoldable pub forecast : Input → Bool → Forecast

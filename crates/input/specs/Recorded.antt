@@ -80,8 +80,8 @@ isSending input history = not (eqb (lastArgument input kindSending 1 history) 0)
 
 -- "A signal-fail report on an input with good signal, and any event setting its kind, forget"
 abbrev pub forgets : ℕ → Recorded → Bool → Bool
-forgets input event good =
-    isOn input kindInputKind event || (isOn input kindSignal event && not (eqb (event .argument) 0) && good)
+forgets input event signal =
+    isOn input kindInputKind event || (isOn input kindSignal event && not (eqb (event .argument) 0) && signal)
 
 -- the reports of some kinds that the input has recorded and not forgotten, the latest first; "While the signal fails,
 -- reports of codes and frames are checked and accepted but not recorded"

@@ -39,7 +39,7 @@ pub struct Heard {
     pub line: Quality,
     pub last: u16,
     pub count: u8,
-    pub good: bool,
+    pub signal: bool,
 }
 
 // What the operator has set. The hold-off is in ms, the wait in minutes; fixed quality 0 is none,
@@ -85,8 +85,8 @@ fn line_after(said: Quality, count: u8, line: Quality) -> Quality
 }
 
 // The codes heard, the count of equal ones and the frames heard are forgotten.
-fn forgotten(good: bool) -> Heard
-    ensures { λ answer. ⌜ answer ≡ forgotten good ⌝ }
+fn forgotten(signal: bool) -> Heard
+    ensures { λ answer. ⌜ answer ≡ forgotten signal ⌝ }
 {
     Heard {
         framed: 0,
@@ -94,7 +94,7 @@ fn forgotten(good: bool) -> Heard
         line: FAILED,
         last: 0,
         count: 0,
-        good,
+        signal,
     }
 }
 
@@ -104,12 +104,12 @@ impl Heard {
         ensures { λ answer. ⌜ answer ≡ heardAfter self kindSignal (flag fail) notTold 0 ⌝ }
     {
         if fail {
-            if self.good {
+            if self.signal {
                 return forgotten(false);
             }
             return self;
         }
-        self.good = true;
+        self.signal = true;
         self
     }
 
@@ -117,7 +117,7 @@ impl Heard {
     fn counted(mut self, number: u16, said: Quality) -> Heard
         ensures { λ answer. ⌜ answer ≡ heardAfter self kindLineCode number said 0 ⌝ }
     {
-        if self.good {
+        if self.signal {
             let count = count_after(number, self.last, self.count);
             let old = self.line;
             let line = line_after(said, count, old);
@@ -133,7 +133,7 @@ impl Heard {
     fn frame(mut self, said: Quality, time: u64) -> Heard
         ensures { λ answer. ⌜ answer ≡ heardAfter self kindFrame 0 said time ⌝ }
     {
-        if self.good {
+        if self.signal {
             self.framed = time;
             self.frame = said;
             return self;
@@ -146,7 +146,7 @@ impl Heard {
 fn quality_now(heard: Heard, settings: Settings, mode: bool) -> Quality
     ensures { λ answer. ⌜ answer ≡ qualityNow heard settings mode ⌝ }
 {
-    if heard.good {
+    if heard.signal {
         if mode {
             if settings.fixed.0 == 0 {
                 let kind = settings.kind;
@@ -166,7 +166,7 @@ fn quality_now(heard: Heard, settings: Settings, mode: bool) -> Quality
 fn can_expire(heard: Heard, settings: Settings, mode: bool) -> bool
     ensures { λ answer. ⌜ answer ≡ canExpire heard settings mode ⌝ }
 {
-    if heard.good {
+    if heard.signal {
         if mode {
             if settings.fixed.0 == 0 {
                 let kind = settings.kind;
@@ -360,7 +360,7 @@ impl Input {
         ensures { λ answer. ⌜ answer ≡ afterEvent self kindInputKind (kindArgument kind) notTold time mode ⌝ }
     {
         let old = self.heard;
-        let heard = forgotten(old.good);
+        let heard = forgotten(old.signal);
         let before = self.settings;
         let priority = before.priority;
         let fixed = before.fixed;

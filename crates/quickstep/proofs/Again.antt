@@ -38,7 +38,7 @@ use Rattle.quickstep.specs.Own.{isCommand}
 
 abbrev heardOf : ℕ → Quality → Quality → ℕ → ℕ → Bool → Heard
 heardOf framed frame line last count good =
-    record { framed = framed; frame = frame; line = line; last = last; count = count; good = good }
+    record { framed = framed; frame = frame; line = line; last = last; count = count; signal = good }
 
 code-any : (framed : ℕ) (frame line : Quality) (last count : ℕ) (good : Bool) (said : Quality) (time : ℕ) → good ≡ true
     → count ≡ reportsNeeded → line ≡ said
@@ -98,7 +98,7 @@ reported kind time at argument said =
 -- a code that has come three times comes again
 code-again : (input : Input) (at argument : ℕ) (said : Quality) (time : ℕ) (mode : Bool) → SettledAt mode time input
     → argument ≡ input .heard .last
-    → input .heard .good ≡ true
+    → input .heard .signal ≡ true
     → input .heard .count ≡ reportsNeeded
     → input .heard .line ≡ said
     → inputAfter input (reported kindLineCode time at argument said) mode ≡ input
@@ -107,14 +107,14 @@ code-again input at argument said time mode settled same isGood three told =
     let h = input .heard in
     let heard : heardAfter h kindLineCode argument said time ≡ h =
     ap (λ (c : ℕ). heardAfter h kindLineCode c said time) same ∙
-    code-any (h .framed) (h .frame) (h .line) (h .last) (h .count) (h .good) said time isGood three told
+    code-any (h .framed) (h .frame) (h .line) (h .last) (h .count) (h .signal) said time isGood three told
     in
     ap (λ (x : Heard). settle (record { heard = x; run = input .run; settings = input .settings }) time mode false) heard ∙
     ap (λ (run : Run). withRun input run) (atMoment-settled (input .run) (forecast input mode) time settled)
 
 -- a frame of the same quality comes again in a run that is not failed
 frame-again : (input : Input) (at argument : ℕ) (said : Quality) (time : ℕ) (mode : Bool) → SettledAt mode time input
-    → input .heard .good ≡ true
+    → input .heard .signal ≡ true
     → input .heard .frame ≡ said
     → input .run .failed ≡ false
     → inputAfter input (reported kindFrame time at argument said) mode ≡ framedInput input time
@@ -122,7 +122,7 @@ unfolding inputAfter heldArgument isHeldInByte afterEvent settingsAfter settle f
 frame-again input at argument said time mode settled isGood told runs =
     let h = input .heard in
     ap (λ (x : Heard). settle (record { heard = x; run = input .run; settings = input .settings }) time mode false)
-    (frame-any (h .framed) (h .frame) (h .line) (h .last) (h .count) (h .good) argument said time isGood told) ∙
+    (frame-any (h .framed) (h .frame) (h .line) (h .last) (h .count) (h .signal) argument said time isGood told) ∙
     ap (λ (run : Run). withRun (framedInput input time) run)
     (atMoment-settled (input .run) (forecast (framedInput input time) mode) time
     (settled-framed (forecast input mode) (input .run) time settled runs))
@@ -134,7 +134,7 @@ module _ (input : Input) (profile : Profile) (event : Event) (mode : Bool)
   unfolding codeAgain
   said-code at argument again =
       let h = input .heard in
-      let good = h .good in
+      let good = h .signal in
       let same = eqb (h .last) argument in
       let three = eqb (h .count) reportsNeeded in
       let told = eqb (h .line .0) (qualityOfCode profile argument .0) in
@@ -157,11 +157,11 @@ module _ (input : Input) (profile : Profile) (event : Event) (mode : Bool)
       let h = input .heard in
       let runs = not (input .run .failed) in
       let told = eqb (h .frame .0) (qualityOfCode profile argument .0) in
-      let first = both-first (runs && h .good) told again in
+      let first = both-first (runs && h .signal) told again in
       frame-again input at argument (qualityOfCode profile argument) (event .time) mode settled
-      (both-second runs (h .good) first)
-      (same-quality _ _ (eqb-true _ _ (both-second (runs && h .good) told again)))
-      (not-true (input .run .failed) (both-first runs (h .good) first))
+      (both-second runs (h .signal) first)
+      (same-quality _ _ (eqb-true _ _ (both-second (runs && h .signal) told again)))
+      (not-true (input .run .failed) (both-first runs (h .signal) first))
 
   -- a frame that is said again was accepted
   said-read : (read : FrameRead) → readAgain input profile read ≡ true

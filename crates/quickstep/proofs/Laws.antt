@@ -119,20 +119,20 @@ pub ruleset seenAlike-laws = (seenAlike-by)
 -- ---- codeAgain, frameAgain, isAgain, againOwn
 
 module _ (profile : Profile) (heard : Heard) (code : ℕ) where
-  pub codeAgain-failing : heard .good ≡ false → false ≡ codeAgain profile heard code
+  pub codeAgain-failing : heard .signal ≡ false → false ≡ codeAgain profile heard code
   unfolding codeAgain
   codeAgain-failing g = rw g
 
-  pub codeAgain-other : heard .good ≡ true → (heard .last ≡ code → ⊥) → false ≡ codeAgain profile heard code
+  pub codeAgain-other : heard .signal ≡ true → (heard .last ≡ code → ⊥) → false ≡ codeAgain profile heard code
   unfolding codeAgain
   codeAgain-other g n = rw (g, ne-eqb _ _ n)
 
-  pub codeAgain-few : heard .good ≡ true → heard .last ≡ code → (heard .count ≡ reportsNeeded → ⊥)
+  pub codeAgain-few : heard .signal ≡ true → heard .last ≡ code → (heard .count ≡ reportsNeeded → ⊥)
       → false ≡ codeAgain profile heard code
   unfolding codeAgain
   codeAgain-few g c n = rw (g, eq-eqb _ _ c, ne-eqb _ _ n)
 
-  pub codeAgain-told : (told : Quality) → heard .good ≡ true → heard .last ≡ code → heard .count ≡ reportsNeeded
+  pub codeAgain-told : (told : Quality) → heard .signal ≡ true → heard .last ≡ code → heard .count ≡ reportsNeeded
       → told ≡ qualityOfCode profile code
       → eqb (heard .line .0) (told .0) ≡ codeAgain profile heard code
   unfolding codeAgain
@@ -145,12 +145,12 @@ module _ (profile : Profile) (heard : Heard) (failed : Bool) (code : ℕ) where
   unfolding frameAgain
   frameAgain-failed f = rw f
 
-  pub frameAgain-told : (told : Quality) → failed ≡ false → heard .good ≡ true → told ≡ qualityOfCode profile code
+  pub frameAgain-told : (told : Quality) → failed ≡ false → heard .signal ≡ true → told ≡ qualityOfCode profile code
       → eqb (heard .frame .0) (told .0) ≡ frameAgain profile heard failed code
   unfolding frameAgain
   frameAgain-told told f g t = rw (f, g, t)
 
-  pub frameAgain-failing : failed ≡ false → heard .good ≡ false → false ≡ frameAgain profile heard failed code
+  pub frameAgain-failing : failed ≡ false → heard .signal ≡ false → false ≡ frameAgain profile heard failed code
   unfolding frameAgain
   frameAgain-failing f g = rw (f, g)
 

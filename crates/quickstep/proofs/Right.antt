@@ -341,13 +341,13 @@ fresh-kept profile =
     }
 
 -- a fresh input has no good signal, so only a tick says again
-fresh-failing : (profile : Profile) (event : Event) → ownAt (freshSelector profile) event .heard .good ≡ false
+fresh-failing : (profile : Profile) (event : Event) → ownAt (freshSelector profile) event .heard .signal ≡ false
 fresh-failing profile event =
-    every-at (λ (input : Input). input .heard .good ≡ false) (freshSelector profile .inputs) (ownPlace event) freshInput
-    (every-replicate (λ (input : Input). input .heard .good ≡ false) 16 freshInput refl)
+    every-at (λ (input : Input). input .heard .signal ≡ false) (freshSelector profile .inputs) (ownPlace event) freshInput
+    (every-replicate (λ (input : Input). input .heard .signal ≡ false) 16 freshInput refl)
     (mod-lt (event .input) (omega arith))
 
-fresh-frame : (input : Input) (profile : Profile) (read : FrameRead) → input .heard .good ≡ false
+fresh-frame : (input : Input) (profile : Profile) (read : FrameRead) → input .heard .signal ≡ false
     → readAgain input profile read ≡ false
 unfolding readAgain frameAgain
 fresh-frame input profile (Code code) failing =
@@ -355,7 +355,7 @@ fresh-frame input profile (Code code) failing =
 fresh-frame input profile (Refused number) failing = refl
 
 fresh-said : (input : Input) (profile : Profile) (time due : ℕ) (event : Event) (read : FrameRead)
-    → input .heard .good ≡ false
+    → input .heard .signal ≡ false
     → saysAgain input profile time due event read ≡ true
     → eqb (event .kind) kindFrame ≡ false
 unfolding saysAgain isAgain

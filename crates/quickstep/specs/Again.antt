@@ -25,13 +25,13 @@ use Rattle.quickstep.specs.declared.Own.{Own}
 -- a code comes again that has come three times
 unfoldable pub codeAgain : Profile → Heard → ℕ → Bool
 codeAgain profile heard code =
-    heard .good && eqb (heard .last) code && eqb (heard .count) reportsNeeded &&
+    heard .signal && eqb (heard .last) code && eqb (heard .count) reportsNeeded &&
     eqb (heard .line .0) (qualityOfCode profile code .0)
 
 -- a frame says what the last one said, in a run that is failed or not failed
 unfoldable pub frameAgain : Profile → Heard → Bool → ℕ → Bool
 frameAgain profile heard failed code =
-    not failed && heard .good && eqb (heard .frame .0) (qualityOfCode profile code .0)
+    not failed && heard .signal && eqb (heard .frame .0) (qualityOfCode profile code .0)
 
 -- what a reading says again; a frame that is refused says nothing
 unfoldable pub readAgain : Input → Profile → FrameRead → Bool
@@ -75,7 +75,7 @@ framedInput input time =
             line = input .heard .line;
             last = input .heard .last;
             count = input .heard .count;
-            good = input .heard .good;
+            signal = input .heard .signal;
           };
       run = input .run;
       settings = input .settings;

@@ -100,7 +100,7 @@ status-recorded number history ordered told = λ j.
           j);
       timer = timer-right number history (timeOf history) ordered j;
       frame = frame-right number history (timeOf history) told j;
-      signal = heard-recalled number history j .good;
+      signal = heard-recalled number history j .signal;
       kind = settings-recalled number history j .kind;
       priority = settings-recalled number history j .priority;
       locked = settings-recalled number history j .locked;

@@ -101,7 +101,7 @@ fn status_of(profile: Profile, input: Input, mode: bool, time: u64) -> Status
         eligible,
         timer,
         frame,
-        signal: heard.good,
+        signal: heard.signal,
         kind,
         priority,
         locked: settings.locked,
