@@ -17,7 +17,7 @@ use Rattle.run.proofs.Kept.{taken, kept, passed-defined, atMoment-taken, Settle
 use Rattle.run.proofs.Exact.{passed-unique, passed-exact}
 use Rattle.input.specs.declared.Input.{Input}
 use Rattle.input.specs.Recorded.{tickEvent, History, isOn, lastArgument, modeOn, timeOf, momentOf, moments, momentsUntil, passedAt, Ordered}
-use Rattle.input.specs.Record.{heardAfter, settingsAfter, forecast, withRun, settle, tick, afterEvent, passedOf, takes, recordAfter}
+use Rattle.input.specs.Record.{heardAfter, settingsAfter, forecast, withRun, inputAtMoment, inputBroughtTo, afterEvent, passedOf, takes, recordAfter}
 use Rattle.input.specs.Demand2.{PassesWhatIsRecorded, PassesAtOnce, TwoPieces, TickAddsNothing}
 use Rattle.input.proofs.Recalled.{raw-recalled, moment-recalled, raw-fresh}
 
@@ -54,14 +54,14 @@ takes-run : (input : ℕ) (event : Recorded) (mode : Bool) (before : Input)
     → takes input event mode before .run ≡
     atMoment (before .run) (forecast (takes input event mode before) mode) (event .time)
     (isOn input kindClearWait event)
-unfolding takes afterEvent settle isOn forecast
+unfolding takes afterEvent inputAtMoment isOn forecast
 takes-run input event mode before = byBool (eqb (event .input) input) (λ e. rw e) (λ e. rw e)
 
 -- a tick brings the run to its time
-tick-run : (input : Input) (time : ℕ) (mode : Bool)
-    → tick input time mode .run ≡ broughtTo (input .run) (forecast input mode) time
-unfolding tick
-tick-run input time mode = refl
+inputBroughtTo-run : (input : Input) (time : ℕ) (mode : Bool)
+    → inputBroughtTo input time mode .run ≡ broughtTo (input .run) (forecast input mode) time
+unfolding inputBroughtTo
+inputBroughtTo-run input time mode = refl
 
 pub run-moments : (input : ℕ) (history : History) → Ordered history
     → recordAfter input history .run ≡ kept (moments input history)
@@ -71,9 +71,9 @@ run-moments input (event following earlier) ordered =
     let clears = isOn input kindClearWait event in
     let forecasts = forecastAfter input (event following earlier) in
     takes-run input event (modeOn (event following earlier))
-    (tick (recordAfter input earlier) (event .time) (modeOn earlier)) ∙
+    (inputBroughtTo (recordAfter input earlier) (event .time) (modeOn earlier)) ∙
     ap (λ (run : Run). atMoment run forecasts (event .time) clears)
-    (tick-run (recordAfter input earlier) (event .time) (modeOn earlier) ∙
+    (inputBroughtTo-run (recordAfter input earlier) (event .time) (modeOn earlier) ∙
     ap (λ (run : Run). broughtTo run (forecastAfter input earlier) (event .time))
     (run-moments input earlier (ordered .1)) ∙
     sym (kept-until input earlier (event .time) (ordered .0))) ∙
@@ -92,12 +92,12 @@ settled-record input history ordered =
     (settled-moments input history)
 
 -- the record's passed quality is the one computed of the recorded events
-pub passed-tick : (input : ℕ) (history : History) (time : ℕ) → Ordered history → timeOf history ≤ time
-    → passedOf (tick (recordAfter input history) time (modeOn history)) ≡ passedAt input history time
+pub passed-inputBroughtTo : (input : ℕ) (history : History) (time : ℕ) → Ordered history → timeOf history ≤ time
+    → passedOf (inputBroughtTo (recordAfter input history) time (modeOn history)) ≡ passedAt input history time
 unfolding passedAt momentsUntil
-passed-tick input history time ordered later =
+passed-inputBroughtTo input history time ordered later =
     ap passedQuality
-    (tick-run (recordAfter input history) time (modeOn history) ∙
+    (inputBroughtTo-run (recordAfter input history) time (modeOn history) ∙
     ap (λ (run : Run). broughtTo run (forecastAfter input history) time) (run-moments input history ordered) ∙
     sym (kept-until input history time later)) ∙
     passed-defined (momentsUntil input history time)
@@ -106,10 +106,10 @@ passed-tick input history time ordered later =
 withRun-same : (input : Input) (run : Run) → run ≡ input .run → withRun input run ≡ input
 withRun-same input run e = rw e
 
-pub tick-now : (input : ℕ) (history : History) → Ordered history
-    → tick (recordAfter input history) (timeOf history) (modeOn history) ≡ recordAfter input history
-unfolding tick
-tick-now input history ordered =
+pub inputBroughtTo-now : (input : ℕ) (history : History) → Ordered history
+    → inputBroughtTo (recordAfter input history) (timeOf history) (modeOn history) ≡ recordAfter input history
+unfolding inputBroughtTo
+inputBroughtTo-now input history ordered =
     withRun-same (recordAfter input history) _
     (broughtTo-settled (recordAfter input history .run) (forecastAfter input history) (timeOf history)
     (settled-record input history ordered))
@@ -117,8 +117,8 @@ tick-now input history ordered =
 pub passed-now : (input : ℕ) (history : History) → Ordered history
     → passedOf (recordAfter input history) ≡ passedAt input history (timeOf history)
 passed-now input history ordered =
-    ap passedOf (sym (tick-now input history ordered)) ∙
-    passed-tick input history (timeOf history) ordered (omega arith)
+    ap passedOf (sym (inputBroughtTo-now input history ordered)) ∙
+    passed-inputBroughtTo input history (timeOf history) ordered (omega arith)
 
 -- ---- an event that the input does not hear
 
@@ -127,11 +127,11 @@ unfolding forecast
 forecast-withRun input run mode = refl
 
 -- the record brought to a time, and then one moment more there
-settle-tick : (input : ℕ) (history : History) (time : ℕ) → Ordered history → timeOf history ≤ time
-    → settle (tick (recordAfter input history) time (modeOn history)) time (modeOn history) false ≡
-    tick (recordAfter input history) time (modeOn history)
-unfolding settle tick forecast
-settle-tick input history time ordered later =
+inputAtMoment-inputBroughtTo : (input : ℕ) (history : History) (time : ℕ) → Ordered history → timeOf history ≤ time
+    → inputAtMoment (inputBroughtTo (recordAfter input history) time (modeOn history)) time (modeOn history) false ≡
+    inputBroughtTo (recordAfter input history) time (modeOn history)
+unfolding inputAtMoment inputBroughtTo forecast
+inputAtMoment-inputBroughtTo input history time ordered later =
     ap (withRun (recordAfter input history))
     (atMoment-settled (broughtTo (recordAfter input history .run) (forecastAfter input history) time)
     (forecastAfter input history) time
@@ -141,19 +141,19 @@ settle-tick input history time ordered later =
 -- an event on another input that leaves the mode as it is
 pub takes-other : (input : ℕ) (event : Recorded) (history : History) → Ordered history → timeOf history ≤ event .time
     → eqb (event .input) input ≡ false → modeOn (event following history) ≡ modeOn history
-    → recordAfter input (event following history) ≡ tick (recordAfter input history) (event .time) (modeOn history)
+    → recordAfter input (event following history) ≡ inputBroughtTo (recordAfter input history) (event .time) (modeOn history)
 unfolding recordAfter takes
 takes-other input event history ordered later other mode =
-    rw (other, mode) (settle-tick input history (event .time) ordered later)
+    rw (other, mode) (inputAtMoment-inputBroughtTo input history (event .time) ordered later)
 
 -- a tick is an event that nothing hears
 pub takes-tick : (input : ℕ) (history : History) (time : ℕ) → Ordered history → timeOf history ≤ time
-    → recordAfter input (tickEvent time following history) ≡ tick (recordAfter input history) time (modeOn history)
+    → recordAfter input (tickEvent time following history) ≡ inputBroughtTo (recordAfter input history) time (modeOn history)
 unfolding recordAfter takes afterEvent heardAfter settingsAfter lastArgument isOn
 takes-tick input history time ordered later =
     byBool (eqb 0 input)
-    (λ e. rw e (settle-tick input history time ordered later))
-    (λ e. rw e (settle-tick input history time ordered later))
+    (λ e. rw e (inputAtMoment-inputBroughtTo input history time ordered later))
+    (λ e. rw e (inputAtMoment-inputBroughtTo input history time ordered later))
 
 -- ---- what is shown
 
@@ -164,10 +164,10 @@ pub demand-2-passed-quality : (input : ℕ) (history : History) (time : ℕ) →
 unfolding passedAt
 demand-2-passed-quality input history time ordered later =
     record {
-      passes = rw (passed-tick input history time ordered later) (passed-exact (momentsUntil input history time));
+      passes = rw (passed-inputBroughtTo input history time ordered later) (passed-exact (momentsUntil input history time));
       only = λ quality says.
           passed-unique (momentsUntil input history time) quality says ∙
-          sym (passed-tick input history time ordered later);
+          sym (passed-inputBroughtTo input history time ordered later);
     }
 
 pub demand-2-passed-at-once : (input : ℕ) (history : History) → Ordered history → PassesAtOnce input history
@@ -181,7 +181,7 @@ demand-2-passed-at-once input history ordered =
 pub demand-2-two-pieces : (input : ℕ) (history : History) (time later : ℕ) → Ordered history → timeOf history ≤ time
     → time ≤ later
     → TwoPieces input history time later
-unfolding tick forecast
+unfolding inputBroughtTo forecast
 demand-2-two-pieces input history time later ordered i j =
     ap (withRun (recordAfter input history))
     (broughtTo-broughtTo (recordAfter input history .run) (forecastAfter input history) (timeOf history) time later i j
@@ -193,8 +193,8 @@ pub demand-2-tick-adds-nothing : (input : ℕ) (history : History) (time later :
     → time ≤ later → TickAddsNothing input history time later
 unfolding lastArgument isOn
 demand-2-tick-adds-nothing input history time later ordered i j =
-    sym (passed-tick input (tickEvent time following history) later (i, ordered) j) ∙
-    ap (λ (after : Input). passedOf (tick after later (modeOn (tickEvent time following history))))
+    sym (passed-inputBroughtTo input (tickEvent time following history) later (i, ordered) j) ∙
+    ap (λ (after : Input). passedOf (inputBroughtTo after later (modeOn (tickEvent time following history))))
     (takes-tick input history time ordered i) ∙
     ap passedOf (demand-2-two-pieces input history time later ordered i j) ∙
-    passed-tick input history later ordered (omega arith)
+    passed-inputBroughtTo input history later ordered (omega arith)

@@ -20,7 +20,7 @@ use Rattle.numbers.proofs.Truth.{byBool}
 use Rattle.input.specs.declared.Heard.{Heard}
 use Rattle.input.specs.declared.Settings.{Settings}
 use Rattle.input.specs.Recorded.{History, isOn, lastArgument, modeOn, signalGood, inputKind, floorSet, priorityOf, isLockedOut, holdoffOf, waitOf, fixedOf, isSending, heard, isThird, lineQuality, frameQuality, rawQualityAt, momentOf}
-use Rattle.input.specs.Record.{forgotten, freshSettings, countAfter, lineAfter, heardAfter, settingsAfter, qualityNow, canExpire, forecast, settle, tick, afterEvent, takes, recordAfter}
+use Rattle.input.specs.Record.{forgotten, freshSettings, countAfter, lineAfter, heardAfter, settingsAfter, qualityNow, canExpire, forecast, inputAtMoment, inputBroughtTo, afterEvent, takes, recordAfter}
 
 -- ---- what the reports heard come to
 
@@ -159,7 +159,7 @@ unfolding heardBy heard lastArgument lastCode codeCount lineSaid frameTime frame
 heard-fresh input profile = refl
 
 pub heard-recalled : (input : ℕ) (history : History) → recordAfter input history .heard ≡ heardBy input history
-unfolding recordAfter takes afterEvent settle tick
+unfolding recordAfter takes afterEvent inputAtMoment inputBroughtTo
 heard-recalled input (started profile) = heard-fresh input profile
 heard-recalled input (event following earlier) =
     byBool (eqb (event .input) input)
@@ -171,7 +171,7 @@ unfolding settingsBy lastArgument inputKindOf
 settings-fresh input profile = refl
 
 pub settings-recalled : (input : ℕ) (history : History) → recordAfter input history .settings ≡ settingsBy input history
-unfolding recordAfter takes afterEvent settle tick
+unfolding recordAfter takes afterEvent inputAtMoment inputBroughtTo
 settings-recalled input (started profile) = settings-fresh input profile
 settings-recalled input (event following earlier) =
     byBool (eqb (event .input) input)

@@ -112,17 +112,17 @@ abbrev pub withRun : Input → Run → Input
 withRun input run = record { heard = input .heard; run = run; settings = input .settings }
 
 -- an event's own moment taken
-unfoldable pub settle : Input → ℕ → Bool → Bool → Input
-settle input time mode clears = withRun input (atMoment (input .run) (forecast input mode) time clears)
+unfoldable pub inputAtMoment : Input → ℕ → Bool → Bool → Input
+inputAtMoment input time mode clears = withRun input (atMoment (input .run) (forecast input mode) time clears)
 
 -- time gone by to a time at which no event has come yet
-unfoldable pub tick : Input → ℕ → Bool → Input
-tick input time mode = withRun input (broughtTo (input .run) (forecast input mode) time)
+unfoldable pub inputBroughtTo : Input → ℕ → Bool → Input
+inputBroughtTo input time mode = withRun input (broughtTo (input .run) (forecast input mode) time)
 
 -- an event on this input taken at its time, with the quality mode in force after it
 unfoldable pub afterEvent : Input → ℕ → ℕ → Quality → ℕ → Bool → Input
 afterEvent input kind argument said time mode =
-    settle
+    inputAtMoment
     (record {
       heard = heardAfter (input .heard) kind argument said time;
       run = input .run;
@@ -141,11 +141,11 @@ unfoldable pub takes : ℕ → Recorded → Bool → Input → Input
 takes number event mode input =
     cond (eqb (event .input) number)
     (afterEvent input (event .kind) (event .argument) (event .said) (event .time) mode)
-    (settle input (event .time) mode false)
+    (inputAtMoment input (event .time) mode false)
 
 -- the record of an input after the recorded events: for each a tick at its time, and then the event itself
 unfoldable pub recordAfter : ℕ → History → Input
 recordAfter number (started profile) = freshInput
 recordAfter number (event following earlier) =
     takes number event (modeOn (event following earlier))
-    (tick (recordAfter number earlier) (event .time) (modeOn earlier))
+    (inputBroughtTo (recordAfter number earlier) (event .time) (modeOn earlier))

@@ -2,7 +2,7 @@
 // quality".
 //
 // An event's method is told the time and the quality mode in force after the event, takes the
-// event's own moment, and hands the record back; `tick` brings it to a time at which no event has
+// event's own moment, and hands the record back; `brought_to` brings it to a time at which no event has
 // come yet. Every time and every setting is safe, and no public function has a `requires`.
 use numbers::FAILED;
 use numbers::InputKind;
@@ -17,7 +17,7 @@ ghost use Prim.Native.Nat.{_*_};
 ghost use Rattle.numbers.specs.Inputs.{minute};
 ghost use Rattle.numbers.specs.Quality.{notTold};
 ghost use Rattle.numbers.specs.Kind.{flag, kindArgument, kindFloor, kindSignal, kindFrame, kindLineCode, kindPriority, kindLockout, kindHoldoff, kindWait, kindFixedQuality, kindClearWait, kindSending, kindInputKind};
-ghost use Rattle.input.specs.Record.{freshInput, countAfter, lineAfter, forgotten, heardAfter, settingsAfter, qualityNow, canExpire, forecast, settle, tick, afterEvent, passedOf};
+ghost use Rattle.input.specs.Record.{freshInput, countAfter, lineAfter, forgotten, heardAfter, settingsAfter, qualityNow, canExpire, forecast, inputAtMoment, inputBroughtTo, afterEvent, passedOf};
 
 // How many equal codes in a row settle a line's quality.
 const REPORTS_NEEDED: u8 = 3;
@@ -237,8 +237,8 @@ impl Input {
 
     // An event's own moment taken, once the event has been heard; `clears` where it is a clear-wait
     // on this input.
-    pub fn settle(mut self, time: u64, mode: bool, clears: bool) -> Input
-        ensures { λ answer. ⌜ answer ≡ settle self time mode clears ⌝ }
+    pub fn at_moment(mut self, time: u64, mode: bool, clears: bool) -> Input
+        ensures { λ answer. ⌜ answer ≡ inputAtMoment self time mode clears ⌝ }
     {
         let forecast = self.forecast(mode);
         let old = self.run;
@@ -248,8 +248,8 @@ impl Input {
     }
 
     // Time going by, to a time at which no event has come yet.
-    pub fn tick(mut self, time: u64, mode: bool) -> Input
-        ensures { λ answer. ⌜ answer ≡ tick self time mode ⌝ }
+    pub fn brought_to(mut self, time: u64, mode: bool) -> Input
+        ensures { λ answer. ⌜ answer ≡ inputBroughtTo self time mode ⌝ }
     {
         let forecast = self.forecast(mode);
         let old = self.run;
@@ -264,7 +264,7 @@ impl Input {
         let old = self.heard;
         let heard = old.signal(fail);
         self.heard = heard;
-        self.settle(time, mode, false)
+        self.at_moment(time, mode, false)
     }
 
     // A code or a word, with what it says.
@@ -274,7 +274,7 @@ impl Input {
         let old = self.heard;
         let heard = old.counted(number, said);
         self.heard = heard;
-        self.settle(time, mode, false)
+        self.at_moment(time, mode, false)
     }
 
     pub fn frame(mut self, said: Quality, time: u64, mode: bool) -> Input
@@ -283,7 +283,7 @@ impl Input {
         let old = self.heard;
         let heard = old.frame(said, time);
         self.heard = heard;
-        self.settle(time, mode, false)
+        self.at_moment(time, mode, false)
     }
 
     pub fn priority(mut self, priority: Priority, time: u64, mode: bool) -> Input
@@ -292,7 +292,7 @@ impl Input {
         let mut settings = self.settings;
         settings.priority = priority;
         self.settings = settings;
-        self.settle(time, mode, false)
+        self.at_moment(time, mode, false)
     }
 
     pub fn lockout(mut self, locked: bool, time: u64, mode: bool) -> Input
@@ -301,7 +301,7 @@ impl Input {
         let mut settings = self.settings;
         settings.locked = locked;
         self.settings = settings;
-        self.settle(time, mode, false)
+        self.at_moment(time, mode, false)
     }
 
     pub fn hold_off(mut self, holdoff: u16, time: u64, mode: bool) -> Input
@@ -310,7 +310,7 @@ impl Input {
         let mut settings = self.settings;
         settings.holdoff = holdoff;
         self.settings = settings;
-        self.settle(time, mode, false)
+        self.at_moment(time, mode, false)
     }
 
     pub fn wait(mut self, minutes: u8, time: u64, mode: bool) -> Input
@@ -319,7 +319,7 @@ impl Input {
         let mut settings = self.settings;
         settings.wait = minutes;
         self.settings = settings;
-        self.settle(time, mode, false)
+        self.at_moment(time, mode, false)
     }
 
     pub fn fixed_quality(mut self, quality: Quality, time: u64, mode: bool) -> Input
@@ -328,13 +328,13 @@ impl Input {
         let mut settings = self.settings;
         settings.fixed = quality;
         self.settings = settings;
-        self.settle(time, mode, false)
+        self.at_moment(time, mode, false)
     }
 
     pub fn clear_wait(self, time: u64, mode: bool) -> Input
         ensures { λ answer. ⌜ answer ≡ afterEvent self kindClearWait 0 notTold time mode ⌝ }
     {
-        self.settle(time, mode, true)
+        self.at_moment(time, mode, true)
     }
 
     pub fn sending(mut self, sending: bool, time: u64, mode: bool) -> Input
@@ -343,7 +343,7 @@ impl Input {
         let mut settings = self.settings;
         settings.sending = sending;
         self.settings = settings;
-        self.settle(time, mode, false)
+        self.at_moment(time, mode, false)
     }
 
     pub fn floor(mut self, floor: u8, time: u64, mode: bool) -> Input
@@ -352,7 +352,7 @@ impl Input {
         let mut settings = self.settings;
         settings.floor = floor;
         self.settings = settings;
-        self.settle(time, mode, false)
+        self.at_moment(time, mode, false)
     }
 
     // The input's kind set, also to the kind it has: what was heard is forgotten.
@@ -376,7 +376,7 @@ impl Input {
         };
         self.heard = heard;
         self.settings = settings;
-        self.settle(time, mode, false)
+        self.at_moment(time, mode, false)
     }
 
     // What is passed on to the choice.

@@ -24,7 +24,7 @@ use Rattle.numbers.proofs.Truth.{byBool}
 use Rattle.run.proofs.Kept.{Settled, atMoment-settled}
 use Rattle.input.specs.declared.Heard.{Heard}
 use Rattle.input.specs.declared.Input.{Input}
-use Rattle.input.specs.Record.{countAfter, lineAfter, heardAfter, settingsAfter, qualityNow, canExpire, forecast, withRun, settle, afterEvent}
+use Rattle.input.specs.Record.{countAfter, lineAfter, heardAfter, settingsAfter, qualityNow, canExpire, forecast, withRun, inputAtMoment, afterEvent}
 use Rattle.choice.proofs.Choosing.{both-first, both-second}
 use Rattle.selector.specs.State.{candidateFor}
 use Rattle.due.proofs.Millisecond.{SettledAt}
@@ -102,14 +102,14 @@ code-again : (input : Input) (at argument : ℕ) (said : Quality) (time : ℕ) (
     → input .heard .count ≡ reportsNeeded
     → input .heard .line ≡ said
     → inputAfter input (reported kindLineCode time at argument said) mode ≡ input
-unfolding inputAfter heldArgument isHeldInByte afterEvent settingsAfter settle
+unfolding inputAfter heldArgument isHeldInByte afterEvent settingsAfter inputAtMoment
 code-again input at argument said time mode settled same isGood three told =
     let h = input .heard in
     let heard : heardAfter h kindLineCode argument said time ≡ h =
     ap (λ (c : ℕ). heardAfter h kindLineCode c said time) same ∙
     code-any (h .framed) (h .frame) (h .line) (h .last) (h .count) (h .signal) said time isGood three told
     in
-    ap (λ (x : Heard). settle (record { heard = x; run = input .run; settings = input .settings }) time mode false) heard ∙
+    ap (λ (x : Heard). inputAtMoment (record { heard = x; run = input .run; settings = input .settings }) time mode false) heard ∙
     ap (λ (run : Run). withRun input run) (atMoment-settled (input .run) (forecast input mode) time settled)
 
 -- a frame of the same quality comes again in a run that is not failed
@@ -118,10 +118,10 @@ frame-again : (input : Input) (at argument : ℕ) (said : Quality) (time : ℕ) 
     → input .heard .frame ≡ said
     → input .run .failed ≡ false
     → inputAfter input (reported kindFrame time at argument said) mode ≡ framedInput input time
-unfolding inputAfter heldArgument isHeldInByte afterEvent settingsAfter settle forecast qualityNow canExpire
+unfolding inputAfter heldArgument isHeldInByte afterEvent settingsAfter inputAtMoment forecast qualityNow canExpire
 frame-again input at argument said time mode settled isGood told runs =
     let h = input .heard in
-    ap (λ (x : Heard). settle (record { heard = x; run = input .run; settings = input .settings }) time mode false)
+    ap (λ (x : Heard). inputAtMoment (record { heard = x; run = input .run; settings = input .settings }) time mode false)
     (frame-any (h .framed) (h .frame) (h .line) (h .last) (h .count) (h .signal) argument said time isGood told) ∙
     ap (λ (run : Run). withRun (framedInput input time) run)
     (atMoment-settled (input .run) (forecast (framedInput input time) mode) time

@@ -8,7 +8,7 @@ use Rattle.numbers.specs.Inputs.{inputCount}
 use Rattle.numbers.specs.declared.Profile.{Profile}
 use Rattle.numbers.specs.Profile.{limitsOf, placeOf, floorIn}
 use Rattle.input.specs.declared.Input.{Input}
-use Rattle.input.specs.Record.{freshInput, tick, passedOf}
+use Rattle.input.specs.Record.{freshInput, inputBroughtTo, passedOf}
 use Rattle.choice.specs.declared.Candidate.{Candidate}
 use Rattle.choice.specs.declared.Seen.{Seen}
 use Rattle.choice.specs.declared.Selection.the-variants as S
@@ -80,7 +80,7 @@ decided state = withDecision state (decisionOf state)
 abbrev pub allBroughtTo : Selector → ℕ → Selector
 allBroughtTo state time =
     record {
-      inputs = map (λ (input : Input). tick input time (state .mode)) (state .inputs);
+      inputs = map (λ (input : Input). inputBroughtTo input time (state .mode)) (state .inputs);
       time = time;
       switch = state .switch;
       selection = state .selection;

@@ -31,7 +31,7 @@ ghost use mathlib.Core.Path.{_≡_};
 ghost use mathlib.Core.Bool.{false, cond};
 ghost use mathlib.Core.List.{map};
 ghost use lib.ListN.{getD};
-ghost use Rattle.input.specs.Record.{freshInput, settle, tick};
+ghost use Rattle.input.specs.Record.{freshInput, inputAtMoment, inputBroughtTo};
 ghost use Rattle.selector.specs.State.{seenOf, candidateFor, candidatesOf, freshSelector, decisionOf, decided, ticked};
 ghost use Rattle.selector.specs.Answer.{selectedNumber, switchNumber, switchInput, clockState, clockQuality, outgoingCode, outgoingWord, selectedCandidate, signFor, ports, qualityOf, answerOf, outgoingCodes, outgoingWords};
 
@@ -120,14 +120,14 @@ pub fn candidates_of(profile: Profile, inputs: [Input; 16], mode: bool) -> [Cand
 }
 
 // All inputs brought to a time.
-fn tick_all(inputs: [Input; 16], time: u64, mode: bool) -> [Input; 16]
-    ensures { λ answer. ⌜ answer ≡ map (λ input. tick input time mode) inputs ⌝ }
+fn inputs_brought_to(inputs: [Input; 16], time: u64, mode: bool) -> [Input; 16]
+    ensures { λ answer. ⌜ answer ≡ map (λ input. inputBroughtTo input time mode) inputs ⌝ }
 {
     let mut all = inputs;
     let mut at: usize = 0;
     while at < 16 {
         let input = all[at];
-        let after = input.tick(time, mode);
+        let after = input.brought_to(time, mode);
         all[at] = after;
         at += 1;
     }
@@ -135,14 +135,14 @@ fn tick_all(inputs: [Input; 16], time: u64, mode: bool) -> [Input; 16]
 }
 
 // All inputs at the moment of an event that changes the quality mode.
-pub fn settle_all(inputs: [Input; 16], time: u64, mode: bool) -> [Input; 16]
-    ensures { λ answer. ⌜ answer ≡ map (λ input. settle input time mode false) inputs ⌝ }
+pub fn inputs_at_moment(inputs: [Input; 16], time: u64, mode: bool) -> [Input; 16]
+    ensures { λ answer. ⌜ answer ≡ map (λ input. inputAtMoment input time mode false) inputs ⌝ }
 {
     let mut all = inputs;
     let mut at: usize = 0;
     while at < 16 {
         let input = all[at];
-        let after = input.settle(time, mode, false);
+        let after = input.at_moment(time, mode, false);
         all[at] = after;
         at += 1;
     }
@@ -210,7 +210,7 @@ impl Selector {
         ensures { λ answer. ⌜ answer ≡ ticked self time ⌝ }
     {
         let before = self.inputs;
-        let inputs = tick_all(before, time, self.mode);
+        let inputs = inputs_brought_to(before, time, self.mode);
         self.inputs = inputs;
         self.time = time;
         self.decided()

@@ -12,7 +12,7 @@ use lib.Seq.{getD-set-other}
 use Rattle.numbers.specs.declared.Profile.{Profile}
 use Rattle.input.specs.declared.Input.{Input}
 use Rattle.input.specs.declared.Settings.{Settings}
-use Rattle.input.specs.Record.{freshInput, tick}
+use Rattle.input.specs.Record.{freshInput, inputBroughtTo}
 use Rattle.choice.specs.declared.Candidate.{Candidate}
 use Rattle.choice.specs.Candidate.{nobody, isAdmitted, candidateOf}
 use Rattle.selector.specs.declared.Selector.{Selector}
@@ -130,20 +130,20 @@ module _ (input : ℕ) (line : Input) (state : Selector)
 
   pub brought-with : (time : ℕ)
       → allBroughtTo (withRecord input line state) time ≡
-      withRecord input (tick line time (state .mode)) (allBroughtTo state time)
+      withRecord input (inputBroughtTo line time (state .mode)) (allBroughtTo state time)
   brought-with time = λ j.
-      movedTo state (map-set (λ (other : Input). tick other time (state .mode)) (state .inputs) input line j) time
+      movedTo state (map-set (λ (other : Input). inputBroughtTo other time (state .mode)) (state .inputs) input line j) time
 
 -- ---- a choice, and time going by
 
-tick-keeps : (time : ℕ) (mode : Bool) (input : Input) → tick input time mode .settings ≡ input .settings
-unfolding tick
-tick-keeps time mode input = refl
+inputBroughtTo-keeps : (time : ℕ) (mode : Bool) (input : Input) → inputBroughtTo input time mode .settings ≡ input .settings
+unfolding inputBroughtTo
+inputBroughtTo-keeps time mode input = refl
 
 pub brought-settings : (state : Selector) (time number : ℕ)
     → settingsAt (allBroughtTo state time .inputs) number ≡ settingsAt (state .inputs) number
 brought-settings state time number =
-    map-settings (λ (x : Input). tick x time (state .mode)) (tick-keeps time (state .mode)) (state .inputs) number
+    map-settings (λ (x : Input). inputBroughtTo x time (state .mode)) (inputBroughtTo-keeps time (state .mode)) (state .inputs) number
 
 pub alike-decided : (input : ℕ) (one other : Selector) → AlikeButAt input one other → Off input (one .inputs)
     → AlikeButAt input (decided one) (decided other)
@@ -159,9 +159,9 @@ alike-brought : (input : ℕ) (one other : Selector) → AlikeButAt input one ot
     → AlikeButAt input (allBroughtTo one time) (allBroughtTo other time)
 alike-brought input one other alike time =
     record {
-      line = tick (alike .line) time (one .mode);
+      line = inputBroughtTo (alike .line) time (one .mode);
       settings =
-          tick-keeps time (one .mode) (alike .line) ∙ alike .settings ∙
+          inputBroughtTo-keeps time (one .mode) (alike .line) ∙ alike .settings ∙
           sym (brought-settings one time input);
       same =
           ap (λ (state : Selector). allBroughtTo state time) (alike .same) ∙

@@ -16,7 +16,7 @@ use Rattle.numbers.specs.Kind.{kindSignal, kindFrame, kindLineCode, kindWord, k
 use Rattle.numbers.proofs.Truth.{byBool}
 use Rattle.input.specs.declared.Input.{Input}
 use Rattle.input.specs.declared.Settings.{Settings}
-use Rattle.input.specs.Record.{freshInput, settingsAfter, settle, afterEvent}
+use Rattle.input.specs.Record.{freshInput, settingsAfter, inputAtMoment, afterEvent}
 use Rattle.decision.specs.declared.Switch.{Switch}
 use Rattle.decision.specs.Choices.{commanded}
 use Rattle.selector.specs.declared.Selector.{Selector}
@@ -92,19 +92,19 @@ inputsAfter-own inputs event mode e = rw e
 
 -- one that does, by all
 inputsAfter-mode : (inputs : List Input) (event : Recorded) (mode : Bool) → eqb (event .kind) kindQualityMode ≡ true
-    → inputsAfter inputs event mode ≡ map (λ (input : Input). settle input (event .time) mode false) inputs
+    → inputsAfter inputs event mode ≡ map (λ (input : Input). inputAtMoment input (event .time) mode false) inputs
 unfolding inputsAfter
 inputsAfter-mode inputs event mode e = rw e
 
 inputAfter-settings : (input : Input) (event : Recorded) (mode : Bool)
     → inputAfter input event mode .settings ≡
     settingsAfter (input .settings) (event .kind) (heldArgument (event .kind) (event .argument))
-unfolding inputAfter afterEvent settle
+unfolding inputAfter afterEvent inputAtMoment
 inputAfter-settings input event mode = refl
 
-settle-settings : (time : ℕ) (mode : Bool) (input : Input) → settle input time mode false .settings ≡ input .settings
-unfolding settle
-settle-settings time mode input = refl
+inputAtMoment-settings : (time : ℕ) (mode : Bool) (input : Input) → inputAtMoment input time mode false .settings ≡ input .settings
+unfolding inputAtMoment
+inputAtMoment-settings time mode input = refl
 
 module _ (input : ℕ) (line : Input) (inputs : List Input) (settings : line .settings ≡ settingsAt inputs input)
     (mode : Bool) where
@@ -169,13 +169,13 @@ module _ (input : ℕ) (line : Input) (inputs : List Input) (settings : line .se
   mode-alike event e =
       rw (inputsAfter-mode inputs event mode e, inputsAfter-mode (set inputs input line) event mode e)
       (record {
-        line = settle line (event .time) mode false;
+        line = inputAtMoment line (event .time) mode false;
         settings =
-            settle-settings (event .time) mode line ∙ settings ∙
-            sym (map-settings (λ (x : Input). settle x (event .time) mode false) (settle-settings (event .time) mode)
+            inputAtMoment-settings (event .time) mode line ∙ settings ∙
+            sym (map-settings (λ (x : Input). inputAtMoment x (event .time) mode false) (inputAtMoment-settings (event .time) mode)
             inputs
             input);
-        same = map-set (λ (x : Input). settle x (event .time) mode false) inputs input line;
+        same = map-set (λ (x : Input). inputAtMoment x (event .time) mode false) inputs input line;
       })
 
   -- the same event in both

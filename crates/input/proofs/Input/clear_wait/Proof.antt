@@ -5,12 +5,12 @@ use borrow.Author.Needs.{needs}
 use Rattle.input.proofs.Input.clear_wait.Statement.{statement}
 use Rattle.input.proofs.Input.clear_wait.Tie as tie
 
-settle-requires : tie.Need-settle-requires
-settle-requires c κs = search needs
+at-moment-requires : tie.Need-at-moment-requires
+at-moment-requires c κs = search needs
 
 returns : tie.Need-returns
 unfolding afterEvent heardAfter settingsAfter
-returns c = c .settle .ensures
+returns c = c .at-moment .ensures
 
 pub clear-wait-spec : {M : Type 1} → statement M
-clear-wait-spec = tie.close (tie.spec settle-requires returns)
+clear-wait-spec = tie.close (tie.spec at-moment-requires returns)

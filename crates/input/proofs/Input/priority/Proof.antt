@@ -5,12 +5,12 @@ use borrow.Author.Needs.{needs}
 use Rattle.input.proofs.Input.priority.Statement.{statement}
 use Rattle.input.proofs.Input.priority.Tie as tie
 
-settle-requires : tie.Need-settle-requires
-settle-requires c κs = search needs
+at-moment-requires : tie.Need-at-moment-requires
+at-moment-requires c κs = search needs
 
 returns : tie.Need-returns
 unfolding afterEvent heardAfter settingsAfter
-returns c = rw (c .settle .ensures)
+returns c = rw (c .at-moment .ensures)
 
 pub priority-spec : {M : Type 1} → statement M
-priority-spec = tie.close (tie.spec settle-requires returns)
+priority-spec = tie.close (tie.spec at-moment-requires returns)

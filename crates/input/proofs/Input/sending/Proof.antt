@@ -6,11 +6,11 @@ use borrow.Author.Needs.{needs}
 use Rattle.input.proofs.Input.sending.Statement.{statement}
 use Rattle.input.proofs.Input.sending.Tie as tie
 
-settle-requires : tie.Need-settle-requires
-settle-requires c κs = search needs
+at-moment-requires : tie.Need-at-moment-requires
+at-moment-requires c κs = search needs
 
 returns : tie.Need-returns
-returns c = c .settle .ensures ∙ afterEvent-sending _ _ _ _
+returns c = c .at-moment .ensures ∙ afterEvent-sending _ _ _ _
 
 pub sending-spec : {M : Type 1} → statement M
-sending-spec = tie.close (tie.spec settle-requires returns)
+sending-spec = tie.close (tie.spec at-moment-requires returns)

@@ -5,12 +5,12 @@ use borrow.Author.Needs.{needs}
 use Rattle.input.proofs.Input.wait.Statement.{statement}
 use Rattle.input.proofs.Input.wait.Tie as tie
 
-settle-requires : tie.Need-settle-requires
-settle-requires c κs = search needs
+at-moment-requires : tie.Need-at-moment-requires
+at-moment-requires c κs = search needs
 
 returns : tie.Need-returns
 unfolding afterEvent heardAfter settingsAfter
-returns c = rw (c .settle .ensures)
+returns c = rw (c .at-moment .ensures)
 
 pub wait-spec : {M : Type 1} → statement M
-wait-spec = tie.close (tie.spec settle-requires returns)
+wait-spec = tie.close (tie.spec at-moment-requires returns)

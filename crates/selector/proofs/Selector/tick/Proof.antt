@@ -5,15 +5,15 @@ use borrow.Author.Needs.{needs}
 use Rattle.selector.proofs.Selector.tick.Statement.{statement}
 use Rattle.selector.proofs.Selector.tick.Tie as tie
 
-tick-all-requires : tie.Need-tick-all-requires
-tick-all-requires c κs = search needs
+inputs-brought-to-requires : tie.Need-inputs-brought-to-requires
+inputs-brought-to-requires c κs = search needs
 
 decided-requires : tie.Need-decided-requires
 decided-requires c κs = search needs
 
 returns : tie.Need-returns
 unfolding ticked
-returns c = rw (c .decided .ensures, c .before .tick-all .ensures)
+returns c = rw (c .decided .ensures, c .before .inputs-brought-to .ensures)
 
 pub tick-spec : {M : Type 1} → statement M
-tick-spec = tie.close (tie.spec tick-all-requires decided-requires returns)
+tick-spec = tie.close (tie.spec inputs-brought-to-requires decided-requires returns)

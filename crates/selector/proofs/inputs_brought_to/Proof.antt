@@ -1,18 +1,18 @@
--- `selector::tick_all` meets its contract: a turn of the loop brings one input to the time.
+-- `selector::inputs_brought_to` meets its contract: a turn of the loop brings one input to the time.
 -- Assumes nothing.
 use Prim.Native.Nat.{_≤_, _-_}
 use mathlib.Core.Path.{_≡_}
 use lib.ListN.{length}
 use Rattle.input.specs.declared.Input.{Input}
 use borrow.Author.Needs.{needs}
-use Rattle.input.specs.Record.{tick}
+use Rattle.input.specs.Record.{inputBroughtTo}
 use Rattle.selector.proofs.Filled.{filled, filled-turn-in-place, filled-done}
-use Rattle.selector.proofs.tick_all.Statement.{statement}
-use Rattle.selector.proofs.tick_all.Tie as tie
+use Rattle.selector.proofs.inputs_brought_to.Statement.{statement}
+use Rattle.selector.proofs.inputs_brought_to.Tie as tie
 
 abbrev Inv-loop : tie.InvT-loop
 Inv-loop time mode all₀ at₀ all at =
-    (at ≤ 16) × (length all₀ ≡ 16) × (all ≡ filled (λ (input : Input). tick input time mode) at all₀ all₀)
+    (at ≤ 16) × (length all₀ ≡ 16) × (all ≡ filled (λ (input : Input). inputBroughtTo input time mode) at all₀ all₀)
 
 abbrev μ-loop : tie.MeasureT-loop
 μ-loop time mode all₀ at₀ all at = 16 - at
@@ -26,8 +26,8 @@ mul-input c = search needs
 array-copy-out-input : tie.Need-array-copy-out-input Inv-loop μ-loop
 array-copy-out-input c = search needs
 
-tick-requires : tie.Need-tick-requires Inv-loop μ-loop
-tick-requires c κs = search needs
+brought-to-requires : tie.Need-brought-to-requires Inv-loop μ-loop
+brought-to-requires c κs = search needs
 
 mul-all : tie.Need-mul-all Inv-loop μ-loop
 mul-all c = search needs
@@ -47,8 +47,8 @@ loop-again c = (search needs, search needs, search filled-turn-in-place)
 returns : tie.Need-returns Inv-loop μ-loop
 returns c = search filled-done
 
-pub tick-all-spec : {M : Type 1} → statement M
-tick-all-spec =
+pub inputs-brought-to-spec : {M : Type 1} → statement M
+inputs-brought-to-spec =
     tie.close
     (tie.spec
     Inv-loop
@@ -56,7 +56,7 @@ tick-all-spec =
     loop-holds
     mul-input
     array-copy-out-input
-    tick-requires
+    brought-to-requires
     mul-all
     array-set-from-all
     add-at

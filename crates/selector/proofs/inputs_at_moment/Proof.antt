@@ -1,4 +1,4 @@
--- `selector::settle_all` meets its contract: a turn of the loop takes one input's moment.
+-- `selector::inputs_at_moment` meets its contract: a turn of the loop takes one input's moment.
 -- Assumes nothing.
 use Prim.Native.Nat.{_≤_, _-_}
 use mathlib.Core.Path.{_≡_}
@@ -6,14 +6,14 @@ use lib.ListN.{length}
 use Rattle.input.specs.declared.Input.{Input}
 use mathlib.Core.Bool.{false}
 use borrow.Author.Needs.{needs}
-use Rattle.input.specs.Record.{settle}
+use Rattle.input.specs.Record.{inputAtMoment}
 use Rattle.selector.proofs.Filled.{filled, filled-turn-in-place, filled-done}
-use Rattle.selector.proofs.settle_all.Statement.{statement}
-use Rattle.selector.proofs.settle_all.Tie as tie
+use Rattle.selector.proofs.inputs_at_moment.Statement.{statement}
+use Rattle.selector.proofs.inputs_at_moment.Tie as tie
 
 abbrev Inv-loop : tie.InvT-loop
 Inv-loop time mode all₀ at₀ all at =
-    (at ≤ 16) × (length all₀ ≡ 16) × (all ≡ filled (λ (input : Input). settle input time mode false) at all₀ all₀)
+    (at ≤ 16) × (length all₀ ≡ 16) × (all ≡ filled (λ (input : Input). inputAtMoment input time mode false) at all₀ all₀)
 
 abbrev μ-loop : tie.MeasureT-loop
 μ-loop time mode all₀ at₀ all at = 16 - at
@@ -27,8 +27,8 @@ mul-input c = search needs
 array-copy-out-input : tie.Need-array-copy-out-input Inv-loop μ-loop
 array-copy-out-input c = search needs
 
-settle-requires : tie.Need-settle-requires Inv-loop μ-loop
-settle-requires c κs = search needs
+at-moment-requires : tie.Need-at-moment-requires Inv-loop μ-loop
+at-moment-requires c κs = search needs
 
 mul-all : tie.Need-mul-all Inv-loop μ-loop
 mul-all c = search needs
@@ -48,8 +48,8 @@ loop-again c = (search needs, search needs, search filled-turn-in-place)
 returns : tie.Need-returns Inv-loop μ-loop
 returns c = search filled-done
 
-pub settle-all-spec : {M : Type 1} → statement M
-settle-all-spec =
+pub inputs-at-moment-spec : {M : Type 1} → statement M
+inputs-at-moment-spec =
     tie.close
     (tie.spec
     Inv-loop
@@ -57,7 +57,7 @@ settle-all-spec =
     loop-holds
     mul-input
     array-copy-out-input
-    settle-requires
+    at-moment-requires
     mul-all
     array-set-from-all
     add-at
