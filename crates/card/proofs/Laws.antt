@@ -29,7 +29,7 @@ use Rattle.input.specs.declared.Input.{Input}
 use Rattle.input.specs.Record.{freshInput}
 use Rattle.choice.specs.declared.Selection.{Selection}
 use Rattle.choice.specs.declared.Selection.the-variants as S
-use Rattle.decision.specs.declared.Switch.the-variants as W
+use Rattle.switch.specs.declared.Switch.the-variants as W
 use Rattle.selector.specs.declared.Selector.{Selector}
 use Rattle.selector.specs.Clock.{switchForced, switchManual}
 use Rattle.selector.specs.Answer.{answerOf, outgoingCodes}

@@ -24,10 +24,10 @@ use Rattle.choice.specs.declared.Selection.{Selection}
 use Rattle.choice.specs.declared.Selection.the-variants as S
 use Rattle.choice.specs.Candidate.{eligibleAmong, betterAmong}
 use Rattle.choice.proofs.Choosing.{Inside, choose-inside}
-use Rattle.decision.specs.declared.Switch.{Switch}
-use Rattle.decision.specs.declared.Switch.the-variants as W
-use Rattle.decision.specs.Decision.{forcedMayStand, manualMayStand, judged, selectedBy, decide}
-use Rattle.decision.specs.Choices.{commanded}
+use Rattle.switch.specs.declared.Switch.{Switch}
+use Rattle.switch.specs.declared.Switch.the-variants as W
+use Rattle.switch.specs.OneChoice.{forcedMayStand, manualMayStand, judged, selectedBy, decide}
+use Rattle.switch.specs.Choices.{commanded}
 use Rattle.selector.specs.declared.Selector.{Selector}
 use Rattle.selector.specs.Clock.{noInput, locked, switchManual, clockState, selectedNumber, switchNumber, switchInput}
 use Rattle.selector.specs.Answer.{selectedCandidate, answerOf}

@@ -12,8 +12,8 @@ use Rattle.input.specs.Record.{countAfter, lineAfter, heardAfter, settingsAfter
 use Rattle.choice.specs.Candidate.{isUsable, isAdmitted, rankedQuality, candidateOf, isEligible, isBetter, isLower, lowerAmong, isLike}
 use Rattle.choice.specs.Rank.{isPlaced, rankOf}
 use Rattle.choice.specs.Choice.{seeded, offered, scanned, choose}
-use Rattle.decision.specs.Choices.{commanded}
-use Rattle.decision.specs.Decision.{manualMayStand, judged, selectedBy, isClockLocked, isHeld, decide}
+use Rattle.switch.specs.Choices.{commanded}
+use Rattle.switch.specs.OneChoice.{manualMayStand, judged, selectedBy, isClockLocked, isHeld, decide}
 use Rattle.selector.specs.State.{freshSelector, candidateFor, decided, ticked}
 use Rattle.selector.specs.Answer.{selectedCandidate, answerOf}
 use Rattle.selector.specs.Clock.{clockState, clockQuality, selectedNumber, switchNumber, switchInput}

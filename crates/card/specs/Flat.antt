@@ -15,8 +15,8 @@ use Rattle.numbers.specs.Profile.{placeOf, marksOf}
 use Rattle.input.specs.declared.Input.{Input}
 use Rattle.choice.specs.declared.Selection.{Selection}
 use Rattle.choice.specs.declared.Selection.the-variants as S
-use Rattle.decision.specs.declared.Switch.{Switch}
-use Rattle.decision.specs.declared.Switch.the-variants as W
+use Rattle.switch.specs.declared.Switch.{Switch}
+use Rattle.switch.specs.declared.Switch.the-variants as W
 use Rattle.selector.specs.declared.Selector.{Selector}
 use Rattle.selector.specs.Clock.{switchForced, switchManual, selectedNumber, switchNumber, switchInput}
 use Rattle.selector.specs.Answer.{answerOf}

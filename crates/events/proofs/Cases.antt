@@ -11,8 +11,8 @@ use Rattle.input.specs.Record.{countAfter, lineAfter, heardAfter, settingsAfter
 use Rattle.choice.specs.Candidate.{isUsable, isAdmitted, rankedQuality, candidateOf, isEligible, isBetter, isLower, lowerAmong}
 use Rattle.choice.specs.Rank.{isPlaced, rankOf}
 use Rattle.choice.specs.Choice.{seeded, offered, scanned, choose}
-use Rattle.decision.specs.Choices.{commanded}
-use Rattle.decision.specs.Decision.{manualMayStand, judged, selectedBy, isClockLocked, isHeld, decide}
+use Rattle.switch.specs.Choices.{commanded}
+use Rattle.switch.specs.OneChoice.{manualMayStand, judged, selectedBy, isClockLocked, isHeld, decide}
 use Rattle.selector.specs.State.{candidateFor, decided, ticked}
 use Rattle.due.specs.Next.{lesser, sumOrNever, ifLater, timerDue, frameDue, nextOf, nextAmong}
 use Rattle.due.specs.Served.{servedFrom, served}

@@ -21,8 +21,8 @@ use Rattle.input.proofs.Demand2.{passed-now}
 use Rattle.choice.specs.declared.Candidate.{Candidate}
 use Rattle.choice.specs.declared.Selection.{Selection}
 use Rattle.choice.specs.declared.Selection.the-variants as S
-use Rattle.decision.specs.Decision.{forcedMayStand}
-use Rattle.decision.proofs.Selecting.{selected-admitted}
+use Rattle.switch.specs.OneChoice.{forcedMayStand}
+use Rattle.switch.proofs.Selecting.{selected-admitted}
 use Rattle.selector.specs.declared.Selector.{Selector}
 use Rattle.selector.specs.State.{candidateFor}
 use Rattle.selector.specs.Clock.{clockState, clockQuality, outgoingCode, outgoingWord, selectedNumber, switchNumber, switchInput}

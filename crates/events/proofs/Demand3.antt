@@ -18,12 +18,12 @@ use Rattle.choice.specs.declared.Selection.the-variants as S
 use Rattle.choice.specs.Candidate.{eligibleAmong, betterAmong}
 use Rattle.choice.specs.Choice.{selected, Best, Chosen}
 use Rattle.choice.proofs.Choosing.{contra, selected-injective, nothing-selected}
-use Rattle.decision.specs.declared.Switch.{Switch}
-use Rattle.decision.specs.declared.Switch.the-variants as W
-use Rattle.decision.specs.Decision.{forcedMayStand, manualMayStand}
-use Rattle.decision.specs.Choices.{forcedOn, manualOn, Command, decidedOver, choicesAgo}
-use Rattle.decision.proofs.Standing.{FollowsOn, Commands, Passes, StandsAmong, nothing-forced, nothing-manual, switch-right}
-use Rattle.decision.proofs.Selecting.{latest-right, manualMayStand-eligible}
+use Rattle.switch.specs.declared.Switch.{Switch}
+use Rattle.switch.specs.declared.Switch.the-variants as W
+use Rattle.switch.specs.OneChoice.{forcedMayStand, manualMayStand}
+use Rattle.switch.specs.Choices.{forcedOn, manualOn, Command, decidedOver, choicesAgo}
+use Rattle.switch.proofs.Standing.{FollowsOn, Commands, Passes, StandsAmong, nothing-forced, nothing-manual, switch-right}
+use Rattle.switch.proofs.Selecting.{latest-right, manualMayStand-eligible}
 use Rattle.events.specs.Sequence.{Sequence, stateAfter}
 use Rattle.events.specs.Past.{Made, candidatesBy, seen, decidedBy, recorded, madeIn}
 use Rattle.events.specs.Happened.{MadeAt}

@@ -2,7 +2,7 @@
 use Prim.Native.Nat.{ℕ}
 use mathlib.Core.List.{map}
 use mathlib.Core.Path.{sym, _∙_, subst}
-use Rattle.decision.proofs.Selecting.{held-right}
+use Rattle.switch.proofs.Selecting.{held-right}
 use Rattle.events.specs.Sequence.{Sequence}
 use Rattle.events.specs.Past.{seen, recorded, madeIn}
 use Rattle.events.specs.Happened.{MadeAt, Happened}

@@ -17,11 +17,11 @@ use Rattle.input.specs.Recorded.{History}
 use Rattle.choice.specs.Candidate.{nobody, eligibleAmong, anyLower}
 use Rattle.choice.proofs.Choosing.{both-first, both-second, contra}
 use Rattle.choice.proofs.Ranks.{lower-found, lower-some}
-use Rattle.decision.specs.declared.Switch.{Switch}
-use Rattle.decision.specs.declared.Switch.the-variants as W
-use Rattle.decision.specs.Decision.{forcedMayStand}
-use Rattle.decision.specs.Choices.{forcedOn}
-use Rattle.decision.proofs.Standing.{nothing-forced, forced-manual}
+use Rattle.switch.specs.declared.Switch.{Switch}
+use Rattle.switch.specs.declared.Switch.the-variants as W
+use Rattle.switch.specs.OneChoice.{forcedMayStand}
+use Rattle.switch.specs.Choices.{forcedOn}
+use Rattle.switch.proofs.Standing.{nothing-forced, forced-manual}
 use Rattle.events.specs.Refusals.{isForcedSwitch}
 use Rattle.events.specs.Sequence.{Given}
 use Rattle.events.specs.Past.{Made, Past, candidatesBy, decidedBy, tickChoices, rowsAfter}

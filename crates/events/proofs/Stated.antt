@@ -26,9 +26,9 @@ use Rattle.choice.specs.Candidate.{nobody, isAdmitted, rankedQuality, candidate
 use Rattle.choice.proofs.Choosing.{both-first, both-second, contra}
 use Rattle.choice.proofs.Places.{ranks}
 use Rattle.choice.proofs.Ranks.{eligible-exact, Before, isBetter-exact, Lower, lower-found}
-use Rattle.decision.specs.Decision.{forcedMayStand, manualMayStand}
-use Rattle.decision.proofs.Standing.{Passes}
-use Rattle.decision.proofs.Selecting.{manualMayStand-eligible, manualMayStand-lower, eligible-admitted}
+use Rattle.switch.specs.OneChoice.{forcedMayStand, manualMayStand}
+use Rattle.switch.proofs.Standing.{Passes}
+use Rattle.switch.proofs.Selecting.{manualMayStand-eligible, manualMayStand-lower, eligible-admitted}
 use Rattle.selector.proofs.Laws.{getD-past}
 use Rattle.selector.proofs.Ports.{getD-ports}
 use Rattle.events.specs.Past.{Made, candidateBy, candidatesBy, seen}

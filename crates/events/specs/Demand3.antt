@@ -19,9 +19,9 @@ use Rattle.choice.specs.declared.Selection.{Selection}
 use Rattle.choice.specs.declared.Selection.the-variants as S
 use Rattle.choice.specs.Rank.{rankOf, Within}
 use Rattle.choice.specs.Choice.{selected}
-use Rattle.decision.specs.declared.Switch.{Switch}
-use Rattle.decision.specs.declared.Switch.the-variants as W
-use Rattle.decision.specs.Choices.{forcedOn, manualOn, Command, choicesAgo}
+use Rattle.switch.specs.declared.Switch.{Switch}
+use Rattle.switch.specs.declared.Switch.the-variants as W
+use Rattle.switch.specs.Choices.{forcedOn, manualOn, Command, choicesAgo}
 use Rattle.events.specs.Sequence.{Sequence, stateAfter}
 use Rattle.events.specs.Past.{Made, decidedBy, recorded, madeIn}
 

@@ -10,7 +10,7 @@ use Rattle.numbers.specs.Profile.{placeOf}
 use Rattle.numbers.specs.Inputs.{inputCount}
 use Rattle.input.specs.Recorded.{History, modeOn, timeOf, priorityOf, isLockedOut, floorOf, PassedAt, Ordered}
 use Rattle.choice.specs.Candidate.{nobody, candidateOf}
-use Rattle.decision.specs.Choices.{HeldRight}
+use Rattle.switch.specs.Choices.{HeldRight}
 use Rattle.events.specs.Sequence.{Given, Sequence, stateAfter, numberAfter}
 use Rattle.events.specs.Past.{Made, candidatesBy, seen, decidedBy, numberBy, pastOf, recorded, madeIn}
 

@@ -2,7 +2,7 @@
 -- Assumes nothing.
 use Prim.Native.Nat.{ℕ}
 use mathlib.Core.Path.{_≡_}
-use Rattle.decision.specs.Choices.{manualOn, choicesAgo}
+use Rattle.switch.specs.Choices.{manualOn, choicesAgo}
 use Rattle.events.specs.Sequence.{Sequence, stateAfter}
 use Rattle.events.specs.Past.{Made, decidedBy, recorded, madeIn}
 use Rattle.events.specs.Demand3.{Eligible, Latest}

@@ -23,7 +23,7 @@ use Rattle.choice.specs.declared.Selection.{Selection}
 use Rattle.choice.specs.declared.Selection.the-variants as S
 use Rattle.choice.specs.Candidate.{candidateOf}
 use Rattle.choice.proofs.Ranks.{isLike-same}
-use Rattle.decision.specs.Choices.{commanded}
+use Rattle.switch.specs.Choices.{commanded}
 use Rattle.selector.specs.declared.Selector.{Selector}
 use Rattle.selector.specs.State.{seenOf, candidateFor, candidatesOf, decided}
 use Rattle.selector.specs.Answer.{candidateAt, selectedCandidate, answerOf}

@@ -19,8 +19,8 @@ use Rattle.choice.specs.declared.Candidate.{Candidate}
 use Rattle.choice.specs.declared.Selection.{Selection}
 use Rattle.choice.specs.declared.Selection.the-variants as S
 use Rattle.choice.specs.Candidate.{nobody, isEligible}
-use Rattle.decision.specs.declared.Switch.{Switch}
-use Rattle.decision.specs.declared.Switch.the-variants as W
+use Rattle.switch.specs.declared.Switch.{Switch}
+use Rattle.switch.specs.declared.Switch.the-variants as W
 use Rattle.selector.specs.State.{candidateFor}
 use Rattle.selector.proofs.Filled.{filled, filled-turn}
 use Rattle.selector.proofs.Ports.{port-number}

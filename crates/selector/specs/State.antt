@@ -13,9 +13,9 @@ use Rattle.choice.specs.declared.Candidate.{Candidate}
 use Rattle.choice.specs.declared.Seen.{Seen}
 use Rattle.choice.specs.declared.Selection.the-variants as S
 use Rattle.choice.specs.Candidate.{candidateOf}
-use Rattle.decision.specs.declared.Decision.{Decision}
-use Rattle.decision.specs.declared.Switch.the-variants as W
-use Rattle.decision.specs.Decision.{decide}
+use Rattle.switch.specs.declared.AfterChoice.{AfterChoice}
+use Rattle.switch.specs.declared.Switch.the-variants as W
+use Rattle.switch.specs.OneChoice.{decide}
 use Rattle.selector.specs.declared.Selector.{Selector}
 
 -- "The selector starts at time 0, quality mode on, no switch, nothing selected"; "A profile chosen once"
@@ -54,27 +54,27 @@ abbrev pub candidatesOf : Profile → List Input → Bool → List Candidate
 candidatesOf profile inputs mode = map (candidateFor profile mode) inputs
 
 -- the state with what a choice leaves
-abbrev pub withDecision : Selector → Decision → Selector
-withDecision state decision =
+abbrev pub withChoice : Selector → AfterChoice → Selector
+withChoice state choice =
     record {
       inputs = state .inputs;
       time = state .time;
-      switch = decision .switch;
-      selection = decision .selection;
+      switch = choice .switch;
+      selection = choice .selection;
       profile = state .profile;
       mode = state .mode;
-      held = decision .held;
+      held = choice .held;
     }
 
 -- what the switch judged and the choice made come to
-abbrev pub decisionOf : Selector → Decision
-decisionOf state =
+abbrev pub afterChoice : Selector → AfterChoice
+afterChoice state =
     decide (candidatesOf (state .profile) (state .inputs) (state .mode)) (state .switch)
     (state .selection) (state .held)
 
 -- "the switch judged, the choice made"
 unfoldable pub decided : Selector → Selector
-decided state = withDecision state (decisionOf state)
+decided state = withChoice state (afterChoice state)
 
 -- the state with all inputs brought to a time
 abbrev pub allBroughtTo : Selector → ℕ → Selector

@@ -7,9 +7,9 @@ use choice::NOBODY;
 use choice::Seen;
 use choice::Selection;
 use choice::candidate_of;
-use decision::Decision;
-use decision::Switch;
-use decision::decide;
+use switch::AfterChoice;
+use switch::Switch;
+use switch::decide;
 use input::Input;
 use numbers::Answer;
 use numbers::CODE_DNU;
@@ -32,7 +32,7 @@ ghost use mathlib.Core.Bool.{false, cond};
 ghost use mathlib.Core.List.{map};
 ghost use lib.ListN.{getD};
 ghost use Rattle.input.specs.Record.{freshInput, inputAtMoment, inputBroughtTo};
-ghost use Rattle.selector.specs.State.{seenOf, candidateFor, candidatesOf, freshSelector, decisionOf, decided, ticked};
+ghost use Rattle.selector.specs.State.{seenOf, candidateFor, candidatesOf, freshSelector, afterChoice, decided, ticked};
 ghost use Rattle.selector.specs.Answer.{selectedNumber, switchNumber, switchInput, clockState, clockQuality, outgoingCode, outgoingWord, selectedCandidate, signFor, ports, qualityOf, answerOf, outgoingCodes, outgoingWords};
 
 // Stands for no input in an answer.
@@ -171,8 +171,8 @@ impl Selector {
 
     // What the switch judged and the choice made come to, for a caller that keeps the inputs where
     // they are. It has that one caller, and is compiled into it.
-    pub fn decision(self) -> Decision
-        ensures { λ answer. ⌜ answer ≡ decisionOf self ⌝ }
+    pub fn after_choice(self) -> AfterChoice
+        ensures { λ answer. ⌜ answer ≡ afterChoice self ⌝ }
     {
         let inputs = self.inputs;
         let profile = self.profile;
@@ -191,9 +191,9 @@ impl Selector {
         let candidates = candidates_of(profile, inputs, self.mode);
         let before = self.switch;
         let earlier = self.selection;
-        let decision = decide(candidates, before, earlier, self.held);
-        let switch = decision.switch;
-        let selection = decision.selection;
+        let choice = decide(candidates, before, earlier, self.held);
+        let switch = choice.switch;
+        let selection = choice.selection;
         Selector {
             inputs,
             time: self.time,
@@ -201,7 +201,7 @@ impl Selector {
             selection,
             profile,
             mode: self.mode,
-            held: decision.held,
+            held: choice.held,
         }
     }
 

@@ -16,7 +16,7 @@ use Rattle.input.specs.Record.{freshInput, inputBroughtTo}
 use Rattle.choice.specs.declared.Candidate.{Candidate}
 use Rattle.choice.specs.Candidate.{nobody, isAdmitted, candidateOf}
 use Rattle.selector.specs.declared.Selector.{Selector}
-use Rattle.selector.specs.State.{candidateFor, candidatesOf, withDecision, decided, allBroughtTo}
+use Rattle.selector.specs.State.{candidateFor, candidatesOf, withChoice, decided, allBroughtTo}
 use Rattle.selector.specs.State as State
 use Rattle.due.specs.Next.{never}
 use Rattle.due.specs.Served.{ticked}
@@ -125,7 +125,7 @@ module _ (input : ℕ) (line : Input) (state : Selector)
     pub decided-with : decided (withRecord input line state) ≡ withRecord input line (decided state)
     unfolding decided
     decided-with =
-        ap (withDecision (withRecord input line state))
+        ap (withChoice (withRecord input line state))
         (sym (decide-same _ _ candidates-same (state .switch) (state .selection) (state .held)))
 
   pub brought-with : (time : ℕ)

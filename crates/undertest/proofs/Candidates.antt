@@ -19,10 +19,10 @@ use Rattle.choice.specs.Candidate.{nobody, isEligible, isBetter, eligibleAmong,
 use Rattle.choice.specs.Choice.{Best, Chosen, choose}
 use Rattle.choice.proofs.Choosing.{contra, choose-chosen, chosen-unique}
 use Rattle.choice.proofs.Ranks.{isBetter-ranking}
-use Rattle.decision.specs.declared.Switch.{Switch}
-use Rattle.decision.specs.declared.Switch.the-variants as W
-use Rattle.decision.specs.Decision.{forcedMayStand, manualMayStand, judged, selectedBy, isClockLocked, decide}
-use Rattle.decision.proofs.Selecting.{manualMayStand-eligible, eligible-admitted}
+use Rattle.switch.specs.declared.Switch.{Switch}
+use Rattle.switch.specs.declared.Switch.the-variants as W
+use Rattle.switch.specs.OneChoice.{forcedMayStand, manualMayStand, judged, selectedBy, isClockLocked, decide}
+use Rattle.switch.proofs.Selecting.{manualMayStand-eligible, eligible-admitted}
 use Rattle.numbers.specs.Rows.{firstThatApplies}
 use Rattle.events.specs.Refusals.{isForcedSwitch, lateRefusal}
 

@@ -17,7 +17,7 @@ use Rattle.choice.specs.declared.Candidate.{Candidate}
 use Rattle.choice.specs.declared.Selection.{Selection}
 use Rattle.choice.specs.declared.Selection.the-variants as S
 use Rattle.choice.proofs.Choosing.{contra}
-use Rattle.decision.specs.Decision.{forcedMayStand, decide}
+use Rattle.switch.specs.OneChoice.{forcedMayStand, decide}
 use Rattle.selector.specs.declared.Selector.{Selector}
 use Rattle.selector.specs.State.{candidateFor, candidatesOf, decided}
 use Rattle.selector.specs.Clock.{clockQuality, outgoingCode, outgoingWord, selectedNumber, ports}

@@ -17,8 +17,8 @@ use Rattle.numbers.proofs.Truth.{byBool}
 use Rattle.input.specs.declared.Input.{Input}
 use Rattle.input.specs.declared.Settings.{Settings}
 use Rattle.input.specs.Record.{freshInput, settingsAfter, inputAtMoment, afterEvent}
-use Rattle.decision.specs.declared.Switch.{Switch}
-use Rattle.decision.specs.Choices.{commanded}
+use Rattle.switch.specs.declared.Switch.{Switch}
+use Rattle.switch.specs.Choices.{commanded}
 use Rattle.selector.specs.declared.Selector.{Selector}
 use Rattle.due.proofs.Calm.{movedTo}
 use Rattle.events.specs.Step.{heldArgument, inputAfter, inputsAfter, modeAfter, eventTaken}

@@ -9,7 +9,7 @@ use Rattle.numbers.specs.From.{started, _following_, profileOf}
 use Rattle.numbers.specs.Profile.{limitsOf}
 use Rattle.numbers.specs.Refusal.{accepted}
 use Rattle.input.specs.Recorded.{priorityOf}
-use Rattle.decision.specs.declared.Switch.{Switch}
+use Rattle.switch.specs.declared.Switch.{Switch}
 use Rattle.unit.specs.declared.Half.{Half}
 use Rattle.unit.specs.Unit.{Addressed, UnitSequence, timeIn, ownPast, ownNumber}
 use Rattle.unit.specs.Sequence.{halfAfter, tellings, outputs}

@@ -26,9 +26,9 @@ use Rattle.choice.specs.Rank.{isPlaced, rankOf}
 use Rattle.choice.proofs.Choosing.{selected-injective}
 use Rattle.choice.proofs.Places.{rank-placed, rank-numbered}
 use Rattle.choice.proofs.Ranks.{eligible-exact}
-use Rattle.decision.specs.declared.Switch.{Switch}
-use Rattle.decision.specs.declared.Switch.the-variants as W
-use Rattle.decision.specs.Choices.{choicesAgo}
+use Rattle.switch.specs.declared.Switch.{Switch}
+use Rattle.switch.specs.declared.Switch.the-variants as W
+use Rattle.switch.specs.Choices.{choicesAgo}
 use Rattle.selector.specs.declared.Selector.{Selector}
 use Rattle.selector.specs.Clock.{noInput, locked, clockState, clockQuality, selectedNumber}
 use Rattle.selector.specs.Answer.{answerOf}

@@ -1,9 +1,9 @@
--- `decision::decide` meets its contract: the law of its one way.
+-- `switch::decide` meets its contract: the law of its one way.
 -- Assumes nothing.
-use Rattle.decision.proofs.Laws.{decide-made}
+use Rattle.switch.proofs.Laws.{decide-made}
 use borrow.Author.Needs.{needs}
-use Rattle.decision.proofs.decide.Statement.{statement}
-use Rattle.decision.proofs.decide.Tie as tie
+use Rattle.switch.proofs.decide.Statement.{statement}
+use Rattle.switch.proofs.decide.Tie as tie
 
 judge-requires : tie.Need-judge-requires
 judge-requires c κs = search needs

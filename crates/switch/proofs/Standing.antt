@@ -12,10 +12,10 @@ use borrow.Author.Tests.{eqb-true, eqb-false, ne-eqb}
 use Rattle.numbers.specs.declared.InputNumber.{InputNumber}
 use Rattle.numbers.specs.Kind.{kindForced, kindManual, kindClearSwitch}
 use Rattle.choice.specs.declared.Candidate.{Candidate}
-use Rattle.decision.specs.declared.Switch.{Switch}
-use Rattle.decision.specs.declared.Switch.the-variants as W
-use Rattle.decision.specs.Decision.{forcedMayStand, manualMayStand, judged, decide}
-use Rattle.decision.specs.Choices.{Choices, forcedOn, manualOn, Command, commanded, decidedOver, choicesAgo}
+use Rattle.switch.specs.declared.Switch.{Switch}
+use Rattle.switch.specs.declared.Switch.the-variants as W
+use Rattle.switch.specs.OneChoice.{forcedMayStand, manualMayStand, judged, decide}
+use Rattle.switch.specs.Choices.{Choices, forcedOn, manualOn, Command, commanded, decidedOver, choicesAgo}
 
 -- ---- what has to hold, over candidates
 

@@ -1,8 +1,8 @@
--- `decision::is_held` meets its contract: each way is a law.
+-- `switch::is_held` meets its contract: each way is a law.
 -- Assumes nothing.
-use Rattle.decision.proofs.Laws.{isHeld-laws}
-use Rattle.decision.proofs.is_held.Statement.{statement}
-use Rattle.decision.proofs.is_held.Tie as tie
+use Rattle.switch.proofs.Laws.{isHeld-laws}
+use Rattle.switch.proofs.is_held.Statement.{statement}
+use Rattle.switch.proofs.is_held.Tie as tie
 
 returns : tie.Need-returns
 returns c = search isHeld-laws

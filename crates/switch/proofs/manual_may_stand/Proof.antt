@@ -1,9 +1,9 @@
--- `decision::manual_may_stand` meets its contract: each way is a law.
+-- `switch::manual_may_stand` meets its contract: each way is a law.
 -- Assumes nothing.
-use Rattle.decision.proofs.Laws.{manualMayStand-laws}
+use Rattle.switch.proofs.Laws.{manualMayStand-laws}
 use borrow.Author.Needs.{needs}
-use Rattle.decision.proofs.manual_may_stand.Statement.{statement}
-use Rattle.decision.proofs.manual_may_stand.Tie as tie
+use Rattle.switch.proofs.manual_may_stand.Statement.{statement}
+use Rattle.switch.proofs.manual_may_stand.Tie as tie
 
 candidate-at-requires : tie.Need-candidate-at-requires
 candidate-at-requires c κs = search needs

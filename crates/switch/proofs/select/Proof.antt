@@ -1,9 +1,9 @@
--- `decision::select` meets its contract: each way is a law.
+-- `switch::select` meets its contract: each way is a law.
 -- Assumes nothing.
-use Rattle.decision.proofs.Laws.{selectedBy-laws}
+use Rattle.switch.proofs.Laws.{selectedBy-laws}
 use borrow.Author.Needs.{needs}
-use Rattle.decision.proofs.select.Statement.{statement}
-use Rattle.decision.proofs.select.Tie as tie
+use Rattle.switch.proofs.select.Statement.{statement}
+use Rattle.switch.proofs.select.Tie as tie
 
 enum-told : tie.Need-enum-told
 enum-told c = search needs

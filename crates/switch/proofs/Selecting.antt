@@ -16,12 +16,12 @@ use Rattle.choice.specs.Candidate.{nobody, isEligible, eligibleAmong, betterAmo
 use Rattle.choice.specs.Choice.{Chosen, selected}
 use Rattle.choice.proofs.Choosing.{both-first, both-second, choose-chosen, selected-injective, nothing-selected}
 use Rattle.choice.proofs.Ranks.{isBetter-ranking, lower-none}
-use Rattle.decision.specs.declared.Switch.{Switch}
-use Rattle.decision.specs.declared.Switch.the-variants as W
-use Rattle.decision.specs.Decision.{forcedMayStand, manualMayStand, judged, selectedBy, isClockLocked, isHeld, decide}
-use Rattle.decision.specs.Choices.{ChoiceMoment, Choices, forcedOn, manualOn, commanded, decidedOver, choicesAgo, Locked, HeldRight}
-use Rattle.decision.proofs.Laws.{selectedBy-forced, selectedBy-manual}
-use Rattle.decision.proofs.Standing.{Passes, manual-passes, switch-right}
+use Rattle.switch.specs.declared.Switch.{Switch}
+use Rattle.switch.specs.declared.Switch.the-variants as W
+use Rattle.switch.specs.OneChoice.{forcedMayStand, manualMayStand, judged, selectedBy, isClockLocked, isHeld, decide}
+use Rattle.switch.specs.Choices.{ChoiceMoment, Choices, forcedOn, manualOn, commanded, decidedOver, choicesAgo, Locked, HeldRight}
+use Rattle.switch.proofs.Laws.{selectedBy-forced, selectedBy-manual}
+use Rattle.switch.proofs.Standing.{Passes, manual-passes, switch-right}
 
 -- ---- what has to hold, over candidates
 

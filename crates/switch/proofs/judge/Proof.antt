@@ -1,9 +1,9 @@
--- `decision::judge` meets its contract: each way is a law.
+-- `switch::judge` meets its contract: each way is a law.
 -- Assumes nothing.
-use Rattle.decision.proofs.Laws.{judged-laws}
+use Rattle.switch.proofs.Laws.{judged-laws}
 use borrow.Author.Needs.{needs}
-use Rattle.decision.proofs.judge.Statement.{statement}
-use Rattle.decision.proofs.judge.Tie as tie
+use Rattle.switch.proofs.judge.Statement.{statement}
+use Rattle.switch.proofs.judge.Tie as tie
 
 enum-told : tie.Need-enum-told
 enum-told c = search needs

@@ -1,9 +1,9 @@
--- `decision::is_clock_locked` meets its contract: each way is a law.
+-- `switch::is_clock_locked` meets its contract: each way is a law.
 -- Assumes nothing.
-use Rattle.decision.proofs.Laws.{isClockLocked-laws}
+use Rattle.switch.proofs.Laws.{isClockLocked-laws}
 use borrow.Author.Needs.{needs}
-use Rattle.decision.proofs.is_clock_locked.Statement.{statement}
-use Rattle.decision.proofs.is_clock_locked.Tie as tie
+use Rattle.switch.proofs.is_clock_locked.Statement.{statement}
+use Rattle.switch.proofs.is_clock_locked.Tie as tie
 
 enum-told : tie.Need-enum-told
 enum-told c = search needs

@@ -9,10 +9,10 @@ use lib.Dec.{eqb}
 use Rattle.numbers.specs.Kind.{kindForced, kindManual, kindClearSwitch}
 use Rattle.choice.specs.declared.Candidate.{Candidate}
 use Rattle.choice.specs.declared.Selection.the-variants as S
-use Rattle.decision.specs.declared.Switch.{Switch}
-use Rattle.decision.specs.declared.Switch.the-variants as W
-use Rattle.decision.specs.declared.Decision.{Decision}
-use Rattle.decision.specs.Decision.{isClockLocked, decide}
+use Rattle.switch.specs.declared.Switch.{Switch}
+use Rattle.switch.specs.declared.Switch.the-variants as W
+use Rattle.switch.specs.declared.AfterChoice.{AfterChoice}
+use Rattle.switch.specs.OneChoice.{isClockLocked, decide}
 
 -- one choice: the sixteen inputs as they are then, and the kind and input of the event that the choice follows; a
 -- tick's kind where it follows the tick
@@ -46,7 +46,7 @@ commanded kind on switch =
     switch))
 
 -- what the choices come to: each is made on what the one before it left
-unfoldable pub decidedOver : Choices → Decision
+unfoldable pub decidedOver : Choices → AfterChoice
 decidedOver [] = record { switch = W.Nothing; selection = S.Nothing; held = false }
 decidedOver (choice ∷ earlier) =
     let before = decidedOver earlier in

@@ -11,11 +11,11 @@ use Rattle.choice.specs.declared.Selection.{Selection}
 use Rattle.choice.specs.Candidate.{eligibleAmong, betterAmong}
 use Rattle.choice.proofs.Choosing.{choose-again}
 use Rattle.choice.proofs.Ranks.{isBetter-ranking}
-use Rattle.decision.specs.declared.Switch.{Switch}
-use Rattle.decision.specs.declared.Switch.the-variants as W
-use Rattle.decision.specs.Decision.{judged, selectedBy, isClockLocked, isHeld, decide}
-use Rattle.decision.specs.Choices.{ChoiceMoment, Choices, commanded, decidedOver}
-use Rattle.decision.proofs.Standing.{Commands, stands, judged-stands, commanded-other}
+use Rattle.switch.specs.declared.Switch.{Switch}
+use Rattle.switch.specs.declared.Switch.the-variants as W
+use Rattle.switch.specs.OneChoice.{judged, selectedBy, isClockLocked, isHeld, decide}
+use Rattle.switch.specs.Choices.{ChoiceMoment, Choices, commanded, decidedOver}
+use Rattle.switch.proofs.Standing.{Commands, stands, judged-stands, commanded-other}
 
 -- a switch that stands by these candidates stands by them again
 pub judged-again : (candidates : List Candidate) (switch : Switch)

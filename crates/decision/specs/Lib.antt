@@ -1,4 +1,0 @@
--- `Decision`: the switch judged and the choice made, once. `Choices`: the same over any sequence of choices, with
--- document 01's sentences on it as statements.
-pub mod Decision
-pub mod Choices
