@@ -136,8 +136,8 @@ decided-named state on =
           stands;
     }
 
-moment-named : (state : Selector) (time : ℕ) → Named state → Named (State.ticked state time)
-unfolding State.ticked
+moment-named : (state : Selector) (time : ℕ) → Named state → Named (State.tickedOnce state time)
+unfolding State.tickedOnce
 moment-named state time named = decided-named (allBroughtTo state time) (named .switch)
 
 servedFrom-named : (left : ℕ) (state : Selector) (count time : ℕ) → Named state
@@ -147,7 +147,7 @@ servedFrom-named zero state count time named = moment-named state time named
 servedFrom-named (suc left) state count time named =
     byBool (leb (nextDue state) time)
     (λ e. rw e
-    (servedFrom-named left (State.ticked state (nextDue state)) (count + 1) time (moment-named state (nextDue state) named)))
+    (servedFrom-named left (State.tickedOnce state (nextDue state)) (count + 1) time (moment-named state (nextDue state) named)))
     (λ e. rw e (moment-named state time named))
 
 ticked-named : (state : Selector) (time : ℕ) → Named state → Named (ticked state time)

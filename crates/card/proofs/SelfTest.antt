@@ -14,7 +14,7 @@ use Rattle.choice.specs.Rank.{isPlaced, rankOf}
 use Rattle.choice.specs.Choice.{seeded, offered, scanned, choose}
 use Rattle.switch.specs.Choices.{commanded}
 use Rattle.switch.specs.OneChoice.{manualMayStand, judged, selectedBy, isClockLocked, isHeld, decide}
-use Rattle.selector.specs.State.{freshSelector, candidateFor, decided, ticked}
+use Rattle.selector.specs.State.{freshSelector, candidateFor, decided, tickedOnce}
 use Rattle.selector.specs.Answer.{selectedCandidate, answerOf}
 use Rattle.selector.specs.Clock.{clockState, clockQuality, selectedNumber, switchNumber, switchInput}
 use Rattle.due.specs.Next.{lesser, sumOrNever, ifLater, timerDue, frameDue, nextOf, nextAmong}
@@ -41,7 +41,7 @@ unfolding
     lateRefusal isForcedSwitch earlyRefusal frameRefusal isWrongKind firstThatApplies isInputOut isArgumentOut rowOf
     answerOf switchInput switchNumber selectedNumber clockQuality clockState selectedCandidate
     served servedFrom nextAmong nextOf frameDue timerDue ifLater sumOrNever lesser
-    ticked decided candidateFor decide isHeld isClockLocked selectedBy judged manualMayStand
+    tickedOnce decided candidateFor decide isHeld isClockLocked selectedBy judged manualMayStand
     isLike choose scanned offered seeded lowerAmong isLower isBetter isEligible candidateOf rankedQuality isAdmitted isUsable isPlaced rankOf
     recordAfter takes afterEvent inputBroughtTo inputAtMoment forecast canExpire qualityNow settingsAfter heardAfter lineAfter countAfter
     passedQuality broughtTo upBefore atMoment lastGood isUpAfter runStart rawAt isExpired

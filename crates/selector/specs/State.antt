@@ -90,5 +90,5 @@ allBroughtTo state time =
     }
 
 -- "a tick at its time (all passed qualities brought up to date, the switch judged, the choice made)"
-unfoldable pub ticked : Selector → ℕ → Selector
-ticked state time = decided (allBroughtTo state time)
+unfoldable pub tickedOnce : Selector → ℕ → Selector
+tickedOnce state time = decided (allBroughtTo state time)

@@ -32,7 +32,7 @@ ghost use mathlib.Core.Bool.{false, cond};
 ghost use mathlib.Core.List.{map};
 ghost use lib.ListN.{getD};
 ghost use Rattle.input.specs.Record.{freshInput, inputAtMoment, inputBroughtTo};
-ghost use Rattle.selector.specs.State.{seenOf, candidateFor, candidatesOf, freshSelector, afterChoice, decided, ticked};
+ghost use Rattle.selector.specs.State.{seenOf, candidateFor, candidatesOf, freshSelector, afterChoice, decided, tickedOnce};
 ghost use Rattle.selector.specs.Answer.{selectedNumber, switchNumber, switchInput, clockState, clockQuality, outgoingCode, outgoingWord, selectedCandidate, signFor, ports, qualityOf, answerOf, outgoingCodes, outgoingWords};
 
 // Stands for no input in an answer.
@@ -207,7 +207,7 @@ impl Selector {
 
     // A tick: all passed qualities brought up to date, the switch judged, the choice made.
     pub fn tick(mut self, time: u64) -> Selector
-        ensures { λ answer. ⌜ answer ≡ ticked self time ⌝ }
+        ensures { λ answer. ⌜ answer ≡ tickedOnce self time ⌝ }
     {
         let before = self.inputs;
         let inputs = inputs_brought_to(before, time, self.mode);

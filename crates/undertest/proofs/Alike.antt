@@ -168,17 +168,17 @@ alike-brought input one other alike time =
           brought-with input (alike .line) one (alike .settings) time;
     }
 
-alike-ticked : (input : ℕ) (one other : Selector) → AlikeButAt input one other → Off input (one .inputs) → (time : ℕ)
-    → AlikeButAt input (State.ticked one time) (State.ticked other time)
-unfolding State.ticked
-alike-ticked input one other alike off time =
+alike-tickedOnce : (input : ℕ) (one other : Selector) → AlikeButAt input one other → Off input (one .inputs) → (time : ℕ)
+    → AlikeButAt input (State.tickedOnce one time) (State.tickedOnce other time)
+unfolding State.tickedOnce
+alike-tickedOnce input one other alike off time =
     alike-decided input (allBroughtTo one time) (allBroughtTo other time) (alike-brought input one other alike time)
     (off-as input (one .inputs) (allBroughtTo one time .inputs) (brought-settings one time input) off)
 
 -- a millisecond more is a choice more, due or not: where nothing is due it changes nothing
-oneMore-ticked : (state : Selector) → Calm state → oneMore state ≡ State.ticked state (suc (state .time))
-unfolding State.ticked
-oneMore-ticked state calm =
+oneMore-tickedOnce : (state : Selector) → Calm state → oneMore state ≡ State.tickedOnce state (suc (state .time))
+unfolding State.tickedOnce
+oneMore-tickedOnce state calm =
     byBool (stateIsDue state (suc (state .time)))
     (oneMore-due state)
     (λ e. sym (calm-oneMore state calm .chosen) ∙ ap decided (oneMore-brought state e))
@@ -198,10 +198,10 @@ alike-oneMore : (input : ℕ) (one other : Selector) → AlikeButAt input one ot
     → AlikeButAt input (oneMore one) (oneMore other)
 alike-oneMore input one other alike off calm otherCalm =
     let time : other .time ≡ one .time = ap (λ (state : Selector). state .time) (alike .same) in
-    subst (λ (after : Selector). AlikeButAt input after (oneMore other)) (sym (oneMore-ticked one calm))
-    (subst (AlikeButAt input (State.ticked one (suc (one .time))))
-    (sym (oneMore-ticked other otherCalm ∙ ap (λ (from : ℕ). State.ticked other (suc from)) time))
-    (alike-ticked input one other alike off (suc (one .time))))
+    subst (λ (after : Selector). AlikeButAt input after (oneMore other)) (sym (oneMore-tickedOnce one calm))
+    (subst (AlikeButAt input (State.tickedOnce one (suc (one .time))))
+    (sym (oneMore-tickedOnce other otherCalm ∙ ap (λ (from : ℕ). State.tickedOnce other (suc from)) time))
+    (alike-tickedOnce input one other alike off (suc (one .time))))
 
 alike-each : (input : ℕ) (one other : Selector) → AlikeButAt input one other → Off input (one .inputs) → Calm one
     → Calm other
