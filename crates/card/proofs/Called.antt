@@ -48,7 +48,7 @@ use Rattle.card.specs.declared.Card.{Card}
 use Rattle.card.specs.declared.CardInput.{CardInput}
 use Rattle.card.specs.declared.quick.Quick.{Quick}
 use Rattle.card.specs.Flat.{isSet, inputOf, flatInput, flatAnswer, switchOf, selectionOf, isSelected, profileIn, optionOf, selectorOf, cardOf, withNumber}
-use Rattle.card.specs.Card.{steppedCard, namesInput, isRanged, profileHeld, ownPlace, StandsAt, ownFlat, quickOf, notQuick, quickStep, framedFlat, numbered, quickCard, watchIn, wholeCard, eventCard, readFor}
+use Rattle.card.specs.Card.{steppedCard, namesInput, isRanged, profileHeld, ownPlace, StandsAt, ownFlat, quickOf, notQuick, quickStep, framedFlat, cardNumbered, quickCard, watchIn, wholeCard, eventCard, readFor}
 use Rattle.card.specs.Range.{IsInput, InRange}
 use Rattle.card.proofs.Laws.{quickStep-refused, quickStep-again, quickStep-slow, eventCard-quick, eventCard-whole}
 use Rattle.card.proofs.Element.{set-same, set-map}
@@ -221,7 +221,7 @@ module _ (number count due : ℕ) (state : Selector) (event : Event) (read : Fra
             on = card .on;
             selection = card .selection;
             selected = card .selected;
-            answer = numbered (card .answer) (earlyNumber state event read);
+            answer = cardNumbered (card .answer) (earlyNumber state event read);
             served = 0;
             option = card .option;
             place = card .place;

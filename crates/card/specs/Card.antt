@@ -154,8 +154,8 @@ framedFlat flat framed =
     }
 
 -- an answer with another number
-abbrev pub numbered : CardAnswer → ℕ → CardAnswer
-numbered told number =
+abbrev pub cardNumbered : CardAnswer → ℕ → CardAnswer
+cardNumbered told number =
     record {
       number = number;
       selected = told .selected;
@@ -178,7 +178,7 @@ quickCard card place quick =
       on = card .on;
       selection = card .selection;
       selected = card .selected;
-      answer = numbered (card .answer) (quick .number);
+      answer = cardNumbered (card .answer) (quick .number);
       served = 0;
       option = card .option;
       place = card .place;

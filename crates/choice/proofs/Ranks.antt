@@ -20,7 +20,7 @@ use Rattle.choice.specs.declared.Candidate.{Candidate}
 use Rattle.choice.specs.declared.Seen.{Seen}
 use Rattle.choice.specs.declared.Rank.{Rank}
 use Rattle.choice.specs.Rank.{rankOf, floorRank, Within}
-use Rattle.choice.specs.Candidate.{nobody, isUsable, isAdmitted, rankedQuality, candidateOf, isEligible, Eligible, isBetter, isLike, eligibleAmong, betterAmong, isLower, lowerAmong, anyLower}
+use Rattle.choice.specs.Candidate.{nobody, isUsable, isAdmitted, rankedQuality, candidateOf, isEligible, EligibleCandidate, isBetter, isLike, eligibleAmong, betterAmong, isLower, lowerAmong, anyLower}
 use Rattle.choice.specs.Choice.{Ranking}
 use Rattle.choice.proofs.Places.{within-exact}
 use Rattle.choice.proofs.Laws.{isBetter-rank, isBetter-priority, isBetter-not}
@@ -68,14 +68,14 @@ module _ (place floor : ℕ) (passed : Quality) (priority : Priority) (locked : 
   -- input's floor
   pub eligible-exact : (mode : Bool)
       → (isEligible (candidateOf place floor passed priority locked mode) ≡ true)
-      ↔ Eligible place floor passed priority locked mode
+      ↔ EligibleCandidate place floor passed priority locked mode
   unfolding isEligible candidateOf isAdmitted
   eligible-exact mode = (parts, whole)
     where
       on : Bool
       on = not (eqb (priority .0) 0)
 
-      parts : ((on && not locked) && usableIn mode) ≡ true → Eligible place floor passed priority locked mode
+      parts : ((on && not locked) && usableIn mode) ≡ true → EligibleCandidate place floor passed priority locked mode
       parts x =
           let admitted : (on && not locked) ≡ true = both-first (on && not locked) (usableIn mode) x in
           let usable = usable-parts mode (both-second (on && not locked) (usableIn mode) x) in
@@ -86,7 +86,7 @@ module _ (place floor : ℕ) (passed : Quality) (priority : Priority) (locked : 
             within = usable .1;
           }
 
-      whole : Eligible place floor passed priority locked mode → ((on && not locked) && usableIn mode) ≡ true
+      whole : EligibleCandidate place floor passed priority locked mode → ((on && not locked) && usableIn mode) ≡ true
       whole e =
           rw (ne-eqb (priority .0) 0 (e .notOff), e .notLocked) (usable-whole mode (e .notFailed) (e .within))
 

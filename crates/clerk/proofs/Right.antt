@@ -25,7 +25,7 @@ use Rattle.console.specs.Calls.{isWhole, HandedOver}
 use Rattle.console.specs.Right.{Begins}
 use Rattle.console.proofs.Laws.{handed-whole}
 use Rattle.clerk.specs.Turns.{InputEnded, finished, stopped, unread}
-use Rattle.clerk.specs.Right.{readInput, takenOf, MayFollow, EndedRight, HeartbeatRight, UnitRight}
+use Rattle.clerk.specs.Right.{readInput, takenOf, MayFollowInput, InputEndedRight, HeartbeatRight, UnitRight}
 
 -- a text's front is its beginning, and that of any text that begins with it
 front-begins : (count : ℕ) (text more whole : List ℕ) → whole ≡ text ++ more → Begins (take count text) whole
@@ -61,8 +61,8 @@ module _ (first : Desk) (answers : List ℕ → List ℕ)
       )
 
   -- however a run ended, what was taken is right
-  ended-right : (ended : Ended) (run : InputEnded first ended) → EndedRight first answers ended run
-  unfolding readInput takenOf MayFollow
+  ended-right : (ended : Ended) (run : InputEnded first ended) → InputEndedRight first answers ended run
+  unfolding readInput takenOf MayFollowInput
   ended-right _ (finished input handed over) =
       record {
         whole = λ whole.

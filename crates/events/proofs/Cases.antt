@@ -7,7 +7,7 @@ use Rattle.numbers.specs.Rows.{firstThatApplies}
 use Rattle.frame.specs.Octets.{same}
 use Rattle.frame.specs.Read.{rightLength, rightDestination, rightProtocol, rightOrganisation, rightVersion, rightTlv, frameNumber, readCode}
 use Rattle.run.specs.Run.{isExpired, rawAt, runStart, isUpAfter, lastGood, atMoment, upBefore, broughtTo, passedQuality}
-use Rattle.input.specs.Record.{countAfter, lineAfter, heardAfter, settingsAfter, qualityNow, canExpire, forecast, inputAtMoment, inputBroughtTo, afterEvent, takes, recordAfter}
+use Rattle.input.specs.Record.{equalCount, lineAfter, heardAfter, settingsAfter, qualityNow, canExpire, forecast, inputAtMoment, inputBroughtTo, afterEvent, takes, recordAfter}
 use Rattle.choice.specs.Candidate.{isUsable, isAdmitted, rankedQuality, candidateOf, isEligible, isBetter, isLower, lowerAmong}
 use Rattle.choice.specs.Rank.{isPlaced, rankOf}
 use Rattle.choice.specs.Choice.{seeded, offered, scanned, choose}
@@ -29,7 +29,7 @@ unfolding
     served servedFrom nextAmong nextOf frameDue timerDue ifLater sumOrNever lesser
     tickedOnce decided candidateFor decide isHeld isClockLocked selectedBy judged manualMayStand
     choose scanned offered seeded lowerAmong isLower isBetter isEligible candidateOf rankedQuality isAdmitted isUsable isPlaced rankOf
-    recordAfter takes afterEvent inputBroughtTo inputAtMoment forecast canExpire qualityNow settingsAfter heardAfter lineAfter countAfter
+    recordAfter takes afterEvent inputBroughtTo inputAtMoment forecast canExpire qualityNow settingsAfter heardAfter lineAfter equalCount
     passedQuality broughtTo upBefore atMoment lastGood isUpAfter runStart rawAt isExpired
     readCode frameNumber rightLength rightDestination rightProtocol rightOrganisation rightVersion rightTlv same
     saidIn qualityOfCode qualityOfWord saidBy limitsOf placeOf floorIn inputKindOf allFollowing

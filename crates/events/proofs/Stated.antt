@@ -120,7 +120,7 @@ module _ (history : History) (time : ℕ) where
           in
           let quality : Quality = passedAt number history time in
           let passes : PassedAt number history time quality = passedAt-passes history time number in
-          let parts : Seen.Eligible (placeOf (profileOf history)) (floorOf number history) quality
+          let parts : Seen.EligibleCandidate (placeOf (profileOf history)) (floorOf number history) quality
           (record { 0 = priorityOf number history }) (isLockedOut number history) (modeOn history) =
           eligible-exact (placeOf (profileOf history)) (floorOf number history) quality
           (record { 0 = priorityOf number history }) (isLockedOut number history) (modeOn history) .0

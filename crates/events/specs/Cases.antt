@@ -7,7 +7,7 @@ use mathlib.Core.Path.{_≡_}
 use Rattle.numbers.specs.declared.Profile.the-variants as P
 use Rattle.numbers.specs.From.{started, _following_}
 use Rattle.numbers.specs.Kind.{kindSignal, kindFrame, kindQualityMode, kindTick, kindInputKind}
-use Rattle.frame.specs.Cases.{frameOf}
+use Rattle.frame.specs.Cases.{frameOfSize}
 use Rattle.events.specs.Sequence.{Given, Sequence, countAfter}
 use Rattle.events.specs.Due.{mostDue}
 
@@ -19,7 +19,7 @@ plain kind time input argument =
 -- a frame for an input
 abbrev pub framed : ℕ → ℕ → Given
 framed time input =
-    record { event = record { kind = kindFrame; time = time; input = input; argument = 0 }; frame = frameOf 60 }
+    record { event = record { kind = kindFrame; time = time; input = input; argument = 0 }; frame = frameOfSize 60 }
 
 -- the sixteen inputs, the last first: sequences have the latest event first
 abbrev pub lastFirst : List ℕ

@@ -12,15 +12,15 @@ use Rattle.frame.specs.Read.{readCode}
 use Rattle.frame.specs.Write.{zeros}
 
 -- a frame of so many octets that says PRC, 0010
-abbrev pub frameOf : ℕ → List ℕ
-frameOf size =
+abbrev pub frameOfSize : ℕ → List ℕ
+frameOfSize size =
     0x01 ∷ 0x80 ∷ 0xc2 ∷ 0x00 ∷ 0x00 ∷ 0x02 ∷ 0x00 ∷ 0x10 ∷ 0x20 ∷ 0x30 ∷ 0x40 ∷ 0x50 ∷ 0x88 ∷ 0x09 ∷
     0x0a ∷ 0x00 ∷ 0x19 ∷ 0xa7 ∷ 0x00 ∷ 0x01 ∷ 0x10 ∷ 0x00 ∷ 0x00 ∷ 0x00 ∷ 0x01 ∷ 0x00 ∷ 0x04 ∷ 0x02 ∷ []
     ++ zeros (size - 28)
 
 -- a frame of 60 octets in which the octet of one number is another
 abbrev pub damaged : ℕ → ℕ → List ℕ
-damaged number value = set (frameOf 60) (number - 1) value
+damaged number value = set (frameOfSize 60) (number - 1) value
 
 -- one row of the table
 pub record FrameCase : Type 0 where
@@ -32,10 +32,10 @@ frameCase frame answer = record { frame = frame; answer = answer }
 
 abbrev pub frameCases : List FrameCase
 frameCases =
-    frameCase (frameOf 59) (Refused frameLength)
-    ∷ frameCase (frameOf 60) (Code codePrc)
-    ∷ frameCase (frameOf 1514) (Code codePrc)
-    ∷ frameCase (frameOf 1515) (Refused frameLength)
+    frameCase (frameOfSize 59) (Refused frameLength)
+    ∷ frameCase (frameOfSize 60) (Code codePrc)
+    ∷ frameCase (frameOfSize 1514) (Code codePrc)
+    ∷ frameCase (frameOfSize 1515) (Refused frameLength)
     ∷ frameCase (damaged 1 0x00) (Refused frameDestination)
     ∷ frameCase (damaged 15 0x0b) (Refused frameProtocol)
     ∷ frameCase (damaged 20 0x02) (Refused frameOrganisation)

@@ -20,7 +20,7 @@ use Rattle.numbers.proofs.Truth.{byBool}
 use Rattle.input.specs.declared.Heard.{Heard}
 use Rattle.input.specs.declared.Settings.{Settings}
 use Rattle.input.specs.Recorded.{History, isOn, lastArgument, modeOn, signalGood, inputKind, floorSet, priorityOf, isLockedOut, holdoffOf, waitOf, fixedOf, isSending, heard, isThird, lineQuality, frameQuality, rawQualityAt, momentOf}
-use Rattle.input.specs.Record.{forgotten, freshSettings, countAfter, lineAfter, heardAfter, settingsAfter, qualityNow, canExpire, forecast, inputAtMoment, inputBroughtTo, afterEvent, takes, recordAfter}
+use Rattle.input.specs.Record.{forgotten, freshSettings, equalCount, lineAfter, heardAfter, settingsAfter, qualityNow, canExpire, forecast, inputAtMoment, inputBroughtTo, afterEvent, takes, recordAfter}
 
 -- ---- what the reports heard come to
 
@@ -30,7 +30,7 @@ lastCode (report ∷ earlier) = report .argument
 
 unfoldable pub codeCount : List Recorded → ℕ
 codeCount [] = 0
-codeCount (report ∷ earlier) = countAfter (report .argument) (lastCode earlier) (codeCount earlier)
+codeCount (report ∷ earlier) = equalCount (report .argument) (lastCode earlier) (codeCount earlier)
 
 unfoldable pub lineSaid : List Recorded → Quality
 lineSaid [] = failed
@@ -180,42 +180,42 @@ settings-recalled input (event following earlier) =
 
 -- ---- three in a row is a count of three
 
-countAfter-least : (code before count : ℕ) → 1 ≤ countAfter code before count
-unfolding countAfter
-countAfter-least code before count =
+equalCount-least : (code before count : ℕ) → 1 ≤ equalCount code before count
+unfolding equalCount
+equalCount-least code before count =
     byBool (eqb code before)
     (λ e. rw e (byBool (ltb count reportsNeeded) (λ k. rw k (omega arith)) (λ k. rw k (omega arith))))
     (λ e. rw e (omega arith))
 
-countAfter-other : (code before count : ℕ) → eqb code before ≡ false → countAfter code before count ≡ 1
-unfolding countAfter
-countAfter-other code before count e = rw e
+equalCount-other : (code before count : ℕ) → eqb code before ≡ false → equalCount code before count ≡ 1
+unfolding equalCount
+equalCount-other code before count e = rw e
 
-countAfter-again : (code before count : ℕ) → eqb code before ≡ true → countAfter code before count ≡ min 3 (suc count)
-unfolding countAfter
-countAfter-again code before count e =
+equalCount-again : (code before count : ℕ) → eqb code before ≡ true → equalCount code before count ≡ min 3 (suc count)
+unfolding equalCount
+equalCount-again code before count e =
     rw e
     (byBool (ltb count reportsNeeded)
     (λ k. let h : count < 3 = ltb-true _ _ k in rw k (omega arith))
     (λ k. let h : 3 ≤ count = ltb-false _ _ k in rw k (omega arith)))
 
 -- the second report in a row cannot be the third
-count-second : (code before : ℕ) → ltb (countAfter code before 1) 3 ≡ true
+count-second : (code before : ℕ) → ltb (equalCount code before 1) 3 ≡ true
 count-second code before =
-    byBool (eqb code before) (λ e. rw (countAfter-again code before 1 e)) (λ e. rw (countAfter-other code before 1 e))
+    byBool (eqb code before) (λ e. rw (equalCount-again code before 1 e)) (λ e. rw (equalCount-other code before 1 e))
 
-count-first : (code : ℕ) → countAfter code 0 0 ≡ 1
-count-first code = byBool (eqb code 0) (λ e. rw (countAfter-again code 0 0 e)) (λ e. rw (countAfter-other code 0 0 e))
+count-first : (code : ℕ) → equalCount code 0 0 ≡ 1
+count-first code = byBool (eqb code 0) (λ e. rw (equalCount-again code 0 0 e)) (λ e. rw (equalCount-other code 0 0 e))
 
 count-third : (third second first count : ℕ) → 1 ≤ count
-    → ltb (countAfter third second (countAfter second first count)) 3 ≡ not (eqb third second && eqb second first)
+    → ltb (equalCount third second (equalCount second first count)) 3 ≡ not (eqb third second && eqb second first)
 count-third third second first count least =
     byBool (eqb third second)
     (λ e. byBool (eqb second first)
-    (λ k. rw (countAfter-again second first count k, countAfter-again third second (min 3 (suc count)) e, e, k)
+    (λ k. rw (equalCount-again second first count k, equalCount-again third second (min 3 (suc count)) e, e, k)
     (le-ltb (min 3 (suc (min 3 (suc count)))) 3 (omega arith)))
-    (λ k. rw (countAfter-other second first count k, e, k) (count-second third second)))
-    (λ e. rw (countAfter-other third second (countAfter second first count) e, e))
+    (λ k. rw (equalCount-other second first count k, e, k) (count-second third second)))
+    (λ e. rw (equalCount-other third second (equalCount second first count) e, e))
 
 counted : (report : Recorded) (earlier : List Recorded)
     → ltb (codeCount (report ∷ earlier)) 3 ≡ not (isThird report earlier)
@@ -224,7 +224,7 @@ counted report [] = rw (count-first (report .argument))
 counted report (before ∷ []) = rw (count-first (before .argument)) (count-second (report .argument) (before .argument))
 counted report (before ∷ (first ∷ earlier)) =
     count-third (report .argument) (before .argument) (first .argument) (codeCount (first ∷ earlier))
-    (countAfter-least (first .argument) (lastCode earlier) (codeCount earlier))
+    (equalCount-least (first .argument) (lastCode earlier) (codeCount earlier))
 
 cond-not : {A : Type 0} (b : Bool) (x y : A) → cond (not b) x y ≡ cond b y x
 cond-not true x y = refl

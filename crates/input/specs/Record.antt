@@ -45,8 +45,8 @@ abbrev pub freshInput : Input
 freshInput = record { heard = freshHeard; run = freshRun; settings = freshSettings }
 
 -- the count of equal codes or words, one report later; three stands for any more
-unfoldable pub countAfter : ℕ → ℕ → ℕ → ℕ
-countAfter code before count = cond (eqb code before) (cond (ltb count reportsNeeded) (count + 1) reportsNeeded) 1
+unfoldable pub equalCount : ℕ → ℕ → ℕ → ℕ
+equalCount code before count = cond (eqb code before) (cond (ltb count reportsNeeded) (count + 1) reportsNeeded) 1
 
 -- what codes or words say, once one that says `said` has come so many times in a row
 unfoldable pub lineAfter : Quality → ℕ → Quality → Quality
@@ -58,7 +58,7 @@ heardAfter heard kind argument said time =
     let forgets = eqb kind kindInputKind || (eqb kind kindSignal && not (eqb argument 0) && heard .signal) in
     let frame = isFrame kind && heard .signal in
     let counted = isCounted kind && heard .signal in
-    let count = countAfter argument (heard .last) (heard .count) in
+    let count = equalCount argument (heard .last) (heard .count) in
     record {
       framed = cond forgets 0 (cond frame time (heard .framed));
       frame = cond forgets failed (cond frame said (heard .frame));

@@ -17,7 +17,7 @@ ghost use Prim.Native.Nat.{_*_};
 ghost use Rattle.numbers.specs.Inputs.{minute};
 ghost use Rattle.numbers.specs.Quality.{notTold};
 ghost use Rattle.numbers.specs.Kind.{flag, kindArgument, kindFloor, kindSignal, kindFrame, kindLineCode, kindPriority, kindLockout, kindHoldoff, kindWait, kindFixedQuality, kindClearWait, kindSending, kindInputKind};
-ghost use Rattle.input.specs.Record.{freshInput, countAfter, lineAfter, forgotten, heardAfter, settingsAfter, qualityNow, canExpire, forecast, inputAtMoment, inputBroughtTo, afterEvent, passedOf};
+ghost use Rattle.input.specs.Record.{freshInput, equalCount, lineAfter, forgotten, heardAfter, settingsAfter, qualityNow, canExpire, forecast, inputAtMoment, inputBroughtTo, afterEvent, passedOf};
 
 // How many equal codes in a row settle a line's quality.
 const REPORTS_NEEDED: u8 = 3;
@@ -62,8 +62,8 @@ pub struct Input {
 }
 
 // How many equal codes have come in a row, three for any more.
-fn count_after(code: u16, last: u16, count: u8) -> u8
-    ensures { λ answer. ⌜ answer ≡ countAfter code last count ⌝ }
+fn equal_count(code: u16, last: u16, count: u8) -> u8
+    ensures { λ answer. ⌜ answer ≡ equalCount code last count ⌝ }
 {
     if code == last {
         if count < REPORTS_NEEDED {
@@ -118,7 +118,7 @@ impl Heard {
         ensures { λ answer. ⌜ answer ≡ heardAfter self kindLineCode number said 0 ⌝ }
     {
         if self.signal {
-            let count = count_after(number, self.last, self.count);
+            let count = equal_count(number, self.last, self.count);
             let old = self.line;
             let line = line_after(said, count, old);
             self.line = line;

@@ -21,14 +21,14 @@ use Rattle.sender.specs.declared.Heartbeat.the-variants as H
 use Rattle.sender.specs.declared.Asked.{Asked}
 use Rattle.sender.specs.declared.Senders.{Senders}
 use Rattle.sender.specs.Heartbeat.{Question, questionOf, questionNumber}
-use Rattle.sender.specs.Sender.{senderAt, numberOf, answeredWith, askedOf, asked, contentOf, AskSenders}
+use Rattle.sender.specs.Sender.{senderAt, askedNumber, answeredWith, askedOf, asked, contentOf, AskSenders}
 use Rattle.sender.proofs.Laws.{questionNumber-fit}
 use Rattle.sender.proofs.Agrees.{asked-refused}
 use Rattle.questions.specs.declared.LineText.{LineText}
 use Rattle.questions.specs.declared.QuestionAnswer.{QuestionAnswer}
 use Rattle.questions.specs.declared.QuestionRead.{QuestionRead}
 use Rattle.questions.specs.declared.QuestionRead.the-variants as Q
-use Rattle.questions.specs.Line.{partLength, firstPart, hasMore, otherParts, numberSaid, isSource, isMarked, isNumberPart, readQuestion}
+use Rattle.questions.specs.Line.{partLength, firstPart, hasMore, otherParts, numberSaid, isSource, hasMark, isNumberPart, readQuestion}
 use Rattle.questions.specs.Answer.{longestQuestion, askedIn, frameText, nothingText, noQuestionText, heartbeatText, lentRoom, putQuestion, lineQuestion}
 use Rattle.questions.specs.Asked.{padded, heldLine, LentAlike, answeredAsked, answeredRead, answeredQuestion}
 use Rattle.questions.proofs.Texts.{lentRoom-fits}
@@ -45,7 +45,7 @@ module _ (senders : Senders) (state : Selector) (port time room : ℕ) (source :
   put = putQuestion state port time room source
 
   -- a frame is answered only where all of its room is lent
-  all-lent : numberOf senders put ≡ accepted → lentRoom room ≡ writtenLength
+  all-lent : askedNumber senders put ≡ accepted → lentRoom room ≡ writtenLength
   all-lent is =
       let long = questionNumber-fit _ port time (length (put .buffer)) (length source) is .long in
       let size = length-replicate {A = ℕ} (lentRoom room) 0 in
@@ -56,7 +56,7 @@ module _ (senders : Senders) (state : Selector) (port time room : ℕ) (source :
       → heartbeatText (asked senders put .heartbeat) (after ++ drop (lentRoom room) (replicate writtenLength 0))
       ≡ heartbeatText (asked senders put .heartbeat) (contentOf senders put)
   told-alike after content =
-      byBool (eqb (numberOf senders put) accepted)
+      byBool (eqb (askedNumber senders put) accepted)
       (λ is.
       let all = all-lent (eqb-true _ _ is) in
       let none : drop {A = ℕ} (lentRoom room) (replicate writtenLength 0) ≡ [] =
@@ -203,7 +203,7 @@ module _ (line : List ℕ) (port time room start : ℕ) (is : readQuestion line 
   unfolding readQuestion
   starts =
       let parts : Bool =
-      isMarked line && hasMore line && isNumberPart first && isNumberPart second && isNumberPart third in
+      hasMark line && hasMore line && isNumberPart first && isNumberPart second && isNumberPart third in
       byBool (parts && isSource source)
       (λ yes.
       let same : Q.Question (numberSaid (firstPart first)) (numberSaid (firstPart second))

@@ -17,7 +17,7 @@ use Rattle.numbers.proofs.Truth.{byBool}
 use Rattle.questions.specs.declared.NumberRead.{NumberRead}
 use Rattle.questions.specs.declared.NumberRead.the-variants as N
 use Rattle.questions.specs.declared.PartRead.the-variants as P
-use Rattle.questions.specs.Line.{space, mark, dash, partLength, firstPart, hasMore, otherParts, allNumerals, numberSaidAfter, numberSaid, isNumber, isSource, isMarked, isNumberPart, partEnd, numberIn, readPart}
+use Rattle.questions.specs.Line.{space, mark, dash, partLength, firstPart, hasMore, otherParts, allNumerals, numberSaidAfter, numberSaid, isNumber, isSource, hasMark, isNumberPart, partEnd, numberIn, readPart}
 
 -- ---- partEnd
 

@@ -13,7 +13,7 @@ use Rattle.run.proofs.Exact.{and-true-right}
 use Rattle.questions.specs.declared.PartRead.{PartRead}
 use Rattle.questions.specs.declared.PartRead.the-variants as P
 use Rattle.questions.specs.declared.QuestionRead.the-variants as Q
-use Rattle.questions.specs.Line.{space, mark, partLength, firstPart, hasMore, otherParts, numberSaid, isNumber, isSource, isMarked, isNumberPart, partEnd, readPart, readQuestion}
+use Rattle.questions.specs.Line.{space, mark, partLength, firstPart, hasMore, otherParts, numberSaid, isNumber, isSource, hasMark, isNumberPart, partEnd, readPart, readQuestion}
 use Rattle.questions.proofs.Parts.{partLength-le, partEnd-le}
 
 -- ---- what a part that was read says
@@ -69,10 +69,10 @@ module _ (line : List ℕ) (start : ℕ) (read : PartRead) (told : read ≡ read
 
 module _ (line : List ℕ) where
   abbrev begins : Bool
-  begins = isMarked line && hasMore line
+  begins = hasMark line && hasMore line
 
   short-begins : length line < 2 → begins ≡ false
-  unfolding isMarked
+  unfolding hasMark
   short-begins short =
       byBool (eqb (partLength line) 1)
       (λ one.
@@ -85,7 +85,7 @@ module _ (line : List ℕ) where
       go false = refl
 
   unmarked-begins : (getD line 0 0 ≡ mark → ⊥) → begins ≡ false
-  unfolding isMarked
+  unfolding hasMark
   unmarked-begins other = rw (ne-eqb (getD line 0 0) mark other) (go (eqb (partLength line) 1))
     where
       go : (test : Bool) → (test && false && hasMore line) ≡ false
@@ -112,7 +112,7 @@ two-long (a ∷ b ∷ rest) long = refl
 
 module _ (line : List ℕ) (long : 2 ≤ length line) (marked : getD line 0 0 ≡ mark) where
   pub question-joined : (getD line 1 0 ≡ space → ⊥) → Q.Nothing ≡ readQuestion line
-  unfolding readQuestion isMarked
+  unfolding readQuestion hasMark
   question-joined other =
       let two : eqb (partLength line) 1 ≡ false =
       ap (λ (text : List ℕ). eqb (partLength text) 1) (sym (two-long line long))
@@ -125,7 +125,7 @@ module _ (line : List ℕ) (long : 2 ≤ length line) (marked : getD line 0 0 �
     one-part = ap partLength (sym (two-long line long)) ∙ (rw (marked, eq-eqb _ _ spaced))
 
     marked-begins : begins line ≡ true
-    unfolding isMarked
+    unfolding hasMark
     marked-begins = rw (one-part, eq-eqb _ _ marked, lt-ltb 1 (length line) (omega arith))
 
     first-is : otherParts line ≡ drop 2 line

@@ -72,8 +72,8 @@ isSource text =
     (leb 2 (length text) && leb (length text) 64 && eqb (length text % 2) 0 && allDigits text)
 
 -- whether a text begins with the mark alone
-unfoldable pub isMarked : List ℕ → Bool
-isMarked text = eqb (partLength text) 1 && eqb (getD text 0 0) mark
+unfoldable pub hasMark : List ℕ → Bool
+hasMark text = eqb (partLength text) 1 && eqb (getD text 0 0) mark
 
 -- a part that is a number and that a space ends
 abbrev pub isNumberPart : List ℕ → Bool
@@ -87,7 +87,7 @@ readQuestion line =
     let third = otherParts second in
     let source = otherParts third in
     cond
-    (isMarked line && hasMore line && isNumberPart first && isNumberPart second && isNumberPart third
+    (hasMark line && hasMore line && isNumberPart first && isNumberPart second && isNumberPart third
     && isSource source)
     (Q.Question (numberSaid (firstPart first)) (numberSaid (firstPart second)) (numberSaid (firstPart third))
     (length line - length source))

@@ -24,7 +24,7 @@ use Rattle.numbers.proofs.Truth.{byBool}
 use Rattle.run.proofs.Kept.{Settled, atMoment-settled}
 use Rattle.input.specs.declared.Heard.{Heard}
 use Rattle.input.specs.declared.Input.{Input}
-use Rattle.input.specs.Record.{countAfter, lineAfter, heardAfter, settingsAfter, qualityNow, canExpire, forecast, withRun, inputAtMoment, afterEvent}
+use Rattle.input.specs.Record.{equalCount, lineAfter, heardAfter, settingsAfter, qualityNow, canExpire, forecast, withRun, inputAtMoment, afterEvent}
 use Rattle.choice.proofs.Choosing.{both-first, both-second}
 use Rattle.selector.specs.State.{candidateFor}
 use Rattle.due.proofs.Millisecond.{SettledAt}
@@ -44,7 +44,7 @@ code-any : (framed : ℕ) (frame line : Quality) (last count : ℕ) (good : Bool
     → count ≡ reportsNeeded → line ≡ said
     → heardAfter (heardOf framed frame line last count good) kindLineCode last said time
     ≡ heardOf framed frame line last count good
-unfolding heardAfter countAfter lineAfter
+unfolding heardAfter equalCount lineAfter
 code-any framed frame line last count good said time isGood three told = rw (isGood, three, told, eq-eqb last last refl)
 
 frame-any : (framed : ℕ) (frame line : Quality) (last count : ℕ) (good : Bool) (argument : ℕ) (said : Quality) (time : ℕ)

@@ -18,7 +18,7 @@ use Rattle.sender.specs.declared.Heartbeat.the-variants as H
 use Rattle.sender.specs.declared.Sender.{Sender}
 use Rattle.sender.specs.declared.Senders.{Senders}
 use Rattle.sender.specs.Heartbeat.{Question, Questions, codeAsked, questionNumber, isEarlier, numberOver, acceptedOf, sentOver, heartbeatOver}
-use Rattle.sender.specs.Sender.{freshSender, freshSenders, heartbeatOf, afterHeartbeat, senderAt, numberOf, answeredWith, askedOf, asked}
+use Rattle.sender.specs.Sender.{freshSender, freshSenders, heartbeatOf, afterHeartbeat, senderAt, askedNumber, answeredWith, askedOf, asked}
 use Rattle.sender.specs.Sequence.{sendersAfter}
 use Rattle.sender.proofs.Laws.{Fit, questionNumber-fit}
 use Rattle.sender.proofs.Kept.{lastAsked, isEarlier-asked, senderOver, heartbeatOf-over, afterHeartbeat-over, Falling, falling-descending}
@@ -68,19 +68,19 @@ accepted-falling port (question ∷ earlier) =
 -- ---- asked
 
 module _ (senders : Senders) (question : Question) where
-  pub asked-refused : (numberOf senders question ≡ accepted → ⊥)
-      → asked senders question ≡ answeredWith senders (H.Refused (numberOf senders question))
+  pub asked-refused : (askedNumber senders question ≡ accepted → ⊥)
+      → asked senders question ≡ answeredWith senders (H.Refused (askedNumber senders question))
   unfolding asked
-  asked-refused refused = rw (ne-eqb (numberOf senders question) accepted refused)
+  asked-refused refused = rw (ne-eqb (askedNumber senders question) accepted refused)
 
-  pub asked-accepted : numberOf senders question ≡ accepted → asked senders question ≡ askedOf senders question
+  pub asked-accepted : askedNumber senders question ≡ accepted → asked senders question ≡ askedOf senders question
   unfolding asked
-  asked-accepted none = rw (eq-eqb (numberOf senders question) accepted none)
+  asked-accepted none = rw (eq-eqb (askedNumber senders question) accepted none)
 
   -- the number is by the port's accepted questions
-  pub numberOf-over : (before : Questions) → senderAt senders (question .port) ≡ senderOver before
-      → numberOf senders question ≡ numberOver before question
-  numberOf-over before keeps =
+  pub askedNumber-over : (before : Questions) → senderAt senders (question .port) ≡ senderOver before
+      → askedNumber senders question ≡ numberOver before question
+  askedNumber-over before keeps =
       ap
       (λ (early : Bool).
       questionNumber early (question .port) (question .time) (length (question .buffer)) (length (question .source)))
@@ -91,7 +91,7 @@ module _ (senders : Senders) (question : Question) where
 asked-length : (senders : Senders) (question : Question)
     → length (asked senders question .senders .ports) ≡ length (senders .ports)
 asked-length senders question =
-    byBool (eqb (numberOf senders question) accepted)
+    byBool (eqb (askedNumber senders question) accepted)
     (λ none.
     ap (λ (after : Asked). length (after .senders .ports)) (asked-accepted senders question (eqb-true _ _ none))
     ∙ length-set (senders .ports) _ _)
@@ -118,7 +118,7 @@ module _ (senders : Senders) (question : Question) (before : Questions)
       → asked senders question .heartbeat ≡ heartbeatOver (question .time) (codeAsked question) (sentOver before)
   heartbeat-accepted none =
       ap (λ (after : Asked). after .heartbeat)
-      (asked-accepted senders question (numberOf-over senders question before keeps ∙ none))
+      (asked-accepted senders question (askedNumber-over senders question before keeps ∙ none))
       ∙ ap (λ (sender : Sender). heartbeatOf sender (question .time) (codeAsked question)) keeps
       ∙ heartbeatOf-over before (question .time) (codeAsked question) (lastAsked before)
       (falling-descending before falls)
@@ -127,7 +127,7 @@ module _ (senders : Senders) (question : Question) (before : Questions)
   pub heartbeat-refused : (numberOver before question ≡ accepted → ⊥)
       → asked senders question ≡ answeredWith senders (H.Refused (numberOver before question))
   heartbeat-refused refused =
-      let same : numberOf senders question ≡ numberOver before question = numberOf-over senders question before keeps in
+      let same : askedNumber senders question ≡ numberOver before question = askedNumber-over senders question before keeps in
       asked-refused senders question (λ none. refused (sym same ∙ none))
       ∙ ap (λ (number : ℕ). answeredWith senders (H.Refused number)) same
 
@@ -135,7 +135,7 @@ module _ (senders : Senders) (question : Question) (before : Questions)
   own-accepted : length (senders .ports) ≡ 16 → numberOver before question ≡ accepted
       → senderAt (asked senders question .senders) (question .port) ≡ senderOver (question ∷ before)
   own-accepted sixteen none =
-      let same : numberOf senders question ≡ numberOver before question = numberOf-over senders question before keeps in
+      let same : askedNumber senders question ≡ numberOver before question = askedNumber-over senders question before keeps in
       let inside : question .port < length (senders .ports) = omega (arith, fit-over before question none .inside) in
       ap (λ (after : Asked). senderAt (after .senders) (question .port)) (asked-accepted senders question (same ∙ none))
       ∙ getD-set-same (senders .ports) (question .port) _ freshSender inside
@@ -154,7 +154,7 @@ module _ (senders : Senders) (question : Question) (before : Questions)
 other-kept : (senders : Senders) (question : Question) (port : ℕ) → (question .port ≡ port → ⊥)
     → senderAt (asked senders question .senders) port ≡ senderAt senders port
 other-kept senders question port other =
-    byBool (eqb (numberOf senders question) accepted)
+    byBool (eqb (askedNumber senders question) accepted)
     (λ none.
     ap (λ (after : Asked). senderAt (after .senders) port) (asked-accepted senders question (eqb-true _ _ none))
     ∙ getD-set-other (senders .ports) (question .port) port _ freshSender (λ same. other (sym same)))

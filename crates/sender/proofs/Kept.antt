@@ -13,7 +13,7 @@ use Rattle.sender.specs.declared.Heartbeat.{Heartbeat}
 use Rattle.sender.specs.declared.Heartbeat.the-variants as H
 use Rattle.sender.specs.declared.Sender.{Sender}
 use Rattle.sender.specs.Heartbeat.{Question, Questions, codeAsked, isEarlier, Sent, period, window, windowFrames, isLater, laterCount, dueFrame, heartbeatOver, sentAfter, sentOver}
-use Rattle.sender.specs.Sender.{tenth, isFull, dueOf, heartbeatOf, withFrame, afterHeartbeat}
+use Rattle.sender.specs.Sender.{tenth, isFull, heartbeatDue, heartbeatOf, withFrame, afterHeartbeat}
 
 -- ---- frames in falling order of time
 
@@ -192,9 +192,9 @@ countOf-some last earlier =
     (λ many. rw many (ne-eqb (countOf earlier) 0 (λ e. omega (arith, ltb-false (countOf earlier) windowFrames many))))
 
 module _ (before : Questions) (time code : ℕ) where
-  dueOf-over : dueOf (senderOver before) time code ≡ dueFrame time code (sentOver before)
-  unfolding dueOf dueFrame
-  dueOf-over = go (sentOver before)
+  heartbeatDue-over : heartbeatDue (senderOver before) time code ≡ dueFrame time code (sentOver before)
+  unfolding heartbeatDue dueFrame
+  heartbeatDue-over = go (sentOver before)
     where
       go : (sent : List Sent)
           → cond (eqb (countOf sent) 0) H.Information
@@ -208,7 +208,7 @@ module _ (before : Questions) (time code : ℕ) where
   pub heartbeatOf-over : (bound : ℕ) → Descending bound (sentOver before)
       → heartbeatOf (senderOver before) time code ≡ heartbeatOver time code (sentOver before)
   unfolding heartbeatOf heartbeatOver isFull
-  heartbeatOf-over bound falls = rw (tenthCounts-full time bound (sentOver before) falls, dueOf-over)
+  heartbeatOf-over bound falls = rw (tenthCounts-full time bound (sentOver before) falls, heartbeatDue-over)
 
 -- ---- and keeps what its questions come to
 

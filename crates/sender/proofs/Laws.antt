@@ -23,7 +23,7 @@ use Rattle.sender.specs.declared.Heartbeat.the-variants as H
 use Rattle.sender.specs.declared.Sender.{Sender}
 use Rattle.sender.specs.declared.Senders.{Senders}
 use Rattle.sender.specs.Heartbeat.{Question, questionOf, questionRows, codeAsked, questionNumber, period, window, windowFrames, contentBy}
-use Rattle.sender.specs.Sender.{tenth, freshSender, isFull, dueOf, heartbeatOf, withFrame, withQuestion, afterHeartbeat, senderAt, numberOf, withSender, answeredWith, asked, AskSenders}
+use Rattle.sender.specs.Sender.{tenth, freshSender, isFull, heartbeatDue, heartbeatOf, withFrame, withQuestion, afterHeartbeat, senderAt, askedNumber, withSender, answeredWith, asked, AskSenders}
 use Rattle.sender.proofs.Codes.{codeOfPort-small}
 
 -- ---- ten times
@@ -68,25 +68,25 @@ pub ruleset isFull-laws = (isFull-few, isFull-elapsed, isFull-within)
 -- ---- dueOf, heartbeatOf
 
 module _ (sender : Sender) (time code : ℕ) where
-  pub dueOf-first : sender .sent ≡ 0 → H.Information ≡ dueOf sender time code
-  unfolding dueOf
-  dueOf-first none = rw (eq-eqb _ _ none)
+  pub heartbeatDue-first : sender .sent ≡ 0 → H.Information ≡ heartbeatDue sender time code
+  unfolding heartbeatDue
+  heartbeatDue-first none = rw (eq-eqb _ _ none)
 
-  pub dueOf-event : (sender .sent ≡ 0 → ⊥) → (code ≡ sender .code → ⊥) → H.Event ≡ dueOf sender time code
-  unfolding dueOf
-  dueOf-event some differs = rw (ne-eqb _ _ some, ne-eqb _ _ differs)
+  pub heartbeatDue-event : (sender .sent ≡ 0 → ⊥) → (code ≡ sender .code → ⊥) → H.Event ≡ heartbeatDue sender time code
+  unfolding heartbeatDue
+  heartbeatDue-event some differs = rw (ne-eqb _ _ some, ne-eqb _ _ differs)
 
-  pub dueOf-period : (elapsed : Bool) → (sender .sent ≡ 0 → ⊥) → code ≡ sender .code
+  pub heartbeatDue-period : (elapsed : Bool) → (sender .sent ≡ 0 → ⊥) → code ≡ sender .code
       → elapsed ≡ leb (getD (sender .times) 0 0 + period) time → elapsed ≡ true
-      → H.Information ≡ dueOf sender time code
-  unfolding dueOf
-  dueOf-period elapsed some same test passed = rw (ne-eqb _ _ some, eq-eqb _ _ same, ← test, passed)
+      → H.Information ≡ heartbeatDue sender time code
+  unfolding heartbeatDue
+  heartbeatDue-period elapsed some same test passed = rw (ne-eqb _ _ some, eq-eqb _ _ same, ← test, passed)
 
-  pub dueOf-nothing : (elapsed : Bool) → (sender .sent ≡ 0 → ⊥) → code ≡ sender .code
+  pub heartbeatDue-nothing : (elapsed : Bool) → (sender .sent ≡ 0 → ⊥) → code ≡ sender .code
       → elapsed ≡ leb (getD (sender .times) 0 0 + period) time → elapsed ≡ false
-      → H.Nothing ≡ dueOf sender time code
-  unfolding dueOf
-  dueOf-nothing elapsed some same test left = rw (ne-eqb _ _ some, eq-eqb _ _ same, ← test, left)
+      → H.Nothing ≡ heartbeatDue sender time code
+  unfolding heartbeatDue
+  heartbeatDue-nothing elapsed some same test left = rw (ne-eqb _ _ some, eq-eqb _ _ same, ← test, left)
 
   pub heartbeatOf-full : (full : Bool) → full ≡ isFull sender time → full ≡ true
       → H.Nothing ≡ heartbeatOf sender time code
@@ -94,7 +94,7 @@ module _ (sender : Sender) (time code : ℕ) where
   heartbeatOf-full full test passed = rw (← test, passed)
 
   pub heartbeatOf-due : (full : Bool) (answer : Heartbeat) → full ≡ isFull sender time → full ≡ false
-      → answer ≡ dueOf sender time code
+      → answer ≡ heartbeatDue sender time code
       → answer ≡ heartbeatOf sender time code
   unfolding heartbeatOf
   heartbeatOf-due full answer test left due = rw (← test, left) due
@@ -132,7 +132,7 @@ module _ (sender : Sender) (time code : ℕ) where
     unfolding afterHeartbeat
     after-refused number case = rw case
 
-pub ruleset dueOf-laws = (dueOf-first, dueOf-event, dueOf-period, dueOf-nothing)
+pub ruleset heartbeatDue-laws = (heartbeatDue-first, heartbeatDue-event, heartbeatDue-period, heartbeatDue-nothing)
 
 pub ruleset heartbeatOf-laws = (heartbeatOf-full, heartbeatOf-due)
 
@@ -254,7 +254,7 @@ module _ (senders : Senders) (port time : ℕ) (state : Selector) (source before
     unfolding asked
     ask-no-port past given =
         let beyond : length (senders .ports) ≤ port = omega arith in
-        let same : number ≡ numberOf senders question =
+        let same : number ≡ askedNumber senders question =
         given ∙ (rw (getD-past (senders .ports) port freshSender beyond)) in
         let refused : number ≡ accepted → ⊥ =
         λ none. let fit = questionNumber-fit _ _ _ _ _ (sym given ∙ none) in omega (arith, fit .inside) in
@@ -270,7 +270,7 @@ module _ (senders : Senders) (port time : ℕ) (state : Selector) (source before
         let within : port < length (senders .ports) = omega arith in
         getD-any (senders .ports) port zeroed freshSender within
 
-    same : number ≡ numberOf senders question
+    same : number ≡ askedNumber senders question
     same = given ∙ (rw found)
 
     pub ask-refused : (number ≡ accepted → ⊥)

@@ -20,8 +20,8 @@ use Rattle.sender.specs.declared.Asked.{Asked}
 use Rattle.sender.specs.declared.Heartbeat.{Heartbeat}
 use Rattle.sender.specs.declared.Heartbeat.the-variants as H
 use Rattle.sender.specs.Heartbeat.{Question, Questions, codeAsked, numberOver, acceptedOf, Sent, period, windowFrames, laterCount, differs, dueFrame, heartbeatOver, sentOver, contentBy}
-use Rattle.sender.specs.Sequence.{heartbeatAfter, bufferAfter, answeredOn}
-use Rattle.sender.specs.Sending.{isFrame, ReadsBack}
+use Rattle.sender.specs.Sequence.{heartbeatAfter, heartbeatBuffer, answeredOn}
+use Rattle.sender.specs.Sending.{isFrameSent, ReadsBack}
 use Rattle.sender.proofs.Codes.{codeOfPort-small}
 use Rattle.sender.proofs.Agrees.{fit-over}
 use Rattle.sender.proofs.Sending.{after-accepted, after-refused, answered-by}
@@ -34,7 +34,7 @@ flagOf H.Nothing = false
 flagOf (H.Refused number) = false
 
 -- it says whether the code differs from the last one sent
-dueFrame-flag : (time code : ℕ) (sent : List Sent) → isFrame (dueFrame time code sent) ≡ true
+dueFrame-flag : (time code : ℕ) (sent : List Sent) → isFrameSent (dueFrame time code sent) ≡ true
     → flagOf (dueFrame time code sent) ≡ differs code sent
 unfolding dueFrame
 dueFrame-flag time code [] frame = refl
@@ -47,17 +47,17 @@ dueFrame-flag time code (last ∷ earlier) frame =
     go true = refl
     go false = refl
 
-heartbeatOver-flag : (time code : ℕ) (sent : List Sent) → isFrame (heartbeatOver time code sent) ≡ true
+heartbeatOver-flag : (time code : ℕ) (sent : List Sent) → isFrameSent (heartbeatOver time code sent) ≡ true
     → flagOf (heartbeatOver time code sent) ≡ differs code sent
 unfolding heartbeatOver
 heartbeatOver-flag time code sent frame =
     byBool (leb windowFrames (laterCount time sent))
     (λ full. let wrong : false ≡ true = rw full at frame in absurd (false≢true wrong))
     (λ free.
-    let due : isFrame (dueFrame time code sent) ≡ true = rw free at frame in rw free (dueFrame-flag time code sent due))
+    let due : isFrameSent (dueFrame time code sent) ≡ true = rw free at frame in rw free (dueFrame-flag time code sent due))
 
 -- a frame's content, of its answer
-contentBy-frame : (answer : Heartbeat) (code : ℕ) (source before : List ℕ) → isFrame answer ≡ true
+contentBy-frame : (answer : Heartbeat) (code : ℕ) (source before : List ℕ) → isFrameSent answer ≡ true
     → contentBy answer code source before ≡ contentAfter Written before source (flagOf answer) code
 contentBy-frame H.Information code source before frame = refl
 contentBy-frame H.Event code source before frame = refl
@@ -65,7 +65,7 @@ contentBy-frame H.Nothing code source before frame = absurd (false≢true frame)
 contentBy-frame (H.Refused number) code source before frame = absurd (false≢true frame)
 
 -- any other answer's
-contentBy-kept : (answer : Heartbeat) (code : ℕ) (source before : List ℕ) → isFrame answer ≡ false
+contentBy-kept : (answer : Heartbeat) (code : ℕ) (source before : List ℕ) → isFrameSent answer ≡ false
     → contentBy answer code source before ≡ before
 contentBy-kept H.Information code source before none = absurd (false≢true (sym none))
 contentBy-kept H.Event code source before none = absurd (false≢true (sym none))
@@ -73,7 +73,7 @@ contentBy-kept H.Nothing code source before none = refl
 contentBy-kept (H.Refused number) code source before none = refl
 
 module _ (earlier : Questions) (question : Question) where
-  answer-frame : isFrame (heartbeatAfter earlier question) ≡ true
+  answer-frame : isFrameSent (heartbeatAfter earlier question) ≡ true
       → numberOver (acceptedOf (question .port) earlier) question ≡ accepted
   answer-frame frame =
       byBool (eqb (numberOver (acceptedOf (question .port) earlier) question) accepted)
@@ -82,32 +82,32 @@ module _ (earlier : Questions) (question : Question) where
       absurd
       (false≢true
       (sym
-      (ap (λ (answer : Asked). isFrame (answer .heartbeat))
+      (ap (λ (answer : Asked). isFrameSent (answer .heartbeat))
       (after-refused earlier question
       (eqb-false (numberOver (acceptedOf (question .port) earlier) question) accepted number)))
       ∙ frame)))
 
-  flag-differs : isFrame (heartbeatAfter earlier question) ≡ true
+  flag-differs : isFrameSent (heartbeatAfter earlier question) ≡ true
       → flagOf (heartbeatAfter earlier question) ≡ differs (codeAsked question) (answeredOn (question .port) earlier)
   flag-differs frame =
       let answer = after-accepted earlier question (answer-frame frame) in
       ap flagOf answer
       ∙ heartbeatOver-flag (question .time) (codeAsked question) (sentOver (acceptedOf (question .port) earlier))
-      (sym (ap isFrame answer) ∙ frame)
+      (sym (ap isFrameSent answer) ∙ frame)
       ∙ ap (λ (sent : List Sent). differs (codeAsked question) sent) (sym (answered-by (question .port) earlier))
 
-  framed : isFrame (heartbeatAfter earlier question) ≡ true
-      → bufferAfter earlier question
+  framed : isFrameSent (heartbeatAfter earlier question) ≡ true
+      → heartbeatBuffer earlier question
       ≡ contentAfter Written (question .buffer) (question .source) (flagOf (heartbeatAfter earlier question))
       (codeAsked question)
   framed frame =
       contentBy-frame (heartbeatAfter earlier question) (codeAsked question) (question .source) (question .buffer) frame
 
   -- the buffer is as the frame writer leaves it
-  trip : isFrame (heartbeatAfter earlier question) ≡ true
+  trip : isFrameSent (heartbeatAfter earlier question) ≡ true
       → RoundTrip (question .buffer) (question .source) (flagOf (heartbeatAfter earlier question)) (codeAsked question)
       Written
-      (bufferAfter earlier question)
+      (heartbeatBuffer earlier question)
   trip frame =
       let fit = fit-over (acceptedOf (question .port) earlier) question (answer-frame frame) in
       let written : writeAnswer (question .buffer) (question .source) (codeAsked question) ≡ Written =
@@ -115,7 +115,7 @@ module _ (earlier : Questions) (question : Question) where
       (codeOfPort-small (question .state) (question .port))
       (fit .six)
       (fit .long) in
-      demand-2-round-trip (question .buffer) (question .source) (bufferAfter earlier question)
+      demand-2-round-trip (question .buffer) (question .source) (heartbeatBuffer earlier question)
       (flagOf (heartbeatAfter earlier question))
       (codeAsked question)
       Written
@@ -124,9 +124,9 @@ module _ (earlier : Questions) (question : Question) where
         content = framed frame ∙ (rw written);
       })
 
-  rest-kept : drop writtenLength (bufferAfter earlier question) ≡ drop writtenLength (question .buffer)
+  rest-kept : drop writtenLength (heartbeatBuffer earlier question) ≡ drop writtenLength (question .buffer)
   rest-kept =
-      byBool (isFrame (heartbeatAfter earlier question))
+      byBool (isFrameSent (heartbeatAfter earlier question))
       (λ frame.
       let fit = fit-over (acceptedOf (question .port) earlier) question (answer-frame frame) in
       ap (λ (after : List ℕ). drop writtenLength after)
@@ -151,7 +151,7 @@ reads-back earlier question =
       layout = λ frame.
           subst
           (λ (flag : Bool).
-          Layout (take writtenLength (bufferAfter earlier question)) (question .source) flag (codeAsked question))
+          Layout (take writtenLength (heartbeatBuffer earlier question)) (question .source) flag (codeAsked question))
           (flag-differs earlier question frame)
           (trip earlier question frame .layout refl);
       rest = rest-kept earlier question;

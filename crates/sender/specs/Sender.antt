@@ -32,8 +32,8 @@ unfoldable pub isFull : Sender → ℕ → Bool
 isFull sender time = leb windowFrames (sender .sent) && not (leb (getD (sender .times) tenth 0 + window) time)
 
 -- the frame that is due
-unfoldable pub dueOf : Sender → ℕ → ℕ → Heartbeat
-dueOf sender time code =
+unfoldable pub heartbeatDue : Sender → ℕ → ℕ → Heartbeat
+heartbeatDue sender time code =
     cond (eqb (sender .sent) 0) H.Information
     (cond (not (eqb code (sender .code))) H.Event
     (cond (leb (getD (sender .times) 0 0 + period) time) H.Information
@@ -43,7 +43,7 @@ dueOf sender time code =
 unfoldable pub heartbeatOf : Sender → ℕ → ℕ → Heartbeat
 heartbeatOf sender time code =
     cond (isFull sender time) H.Nothing
-    (dueOf sender time code)
+    (heartbeatDue sender time code)
 
 -- a sender after a frame
 unfoldable pub withFrame : Sender → ℕ → ℕ → Sender
@@ -72,8 +72,8 @@ abbrev pub senderAt : Senders → ℕ → Sender
 senderAt senders port = getD (senders .ports) port freshSender
 
 -- the number that a question is refused with
-abbrev pub numberOf : Senders → Question → ℕ
-numberOf senders question =
+abbrev pub askedNumber : Senders → Question → ℕ
+askedNumber senders question =
     questionNumber (ltb (question .time) (senderAt senders (question .port) .asked)) (question .port) (question .time)
     (length (question .buffer))
     (length (question .source))
@@ -98,7 +98,7 @@ askedOf senders question =
 -- what a question comes to; "They keep the sender's state"
 unfoldable pub asked : Senders → Question → Asked
 asked senders question =
-    cond (not (eqb (numberOf senders question) accepted)) (answeredWith senders (H.Refused (numberOf senders question)))
+    cond (not (eqb (askedNumber senders question) accepted)) (answeredWith senders (H.Refused (askedNumber senders question)))
     (askedOf senders question)
 
 -- what a question leaves in the buffer

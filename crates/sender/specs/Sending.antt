@@ -16,7 +16,7 @@ use Rattle.sender.specs.declared.Heartbeat.{Heartbeat}
 use Rattle.sender.specs.declared.Heartbeat.the-variants as H
 use Rattle.sender.specs.Heartbeat.{Question, Questions, codeAsked, rowsOver, acceptedOf, isEarlier, Sent, windowFrames, isLater, laterCount, differs, heartbeatBy, sentBy, contentBy}
 use Rattle.sender.specs.Sender.{answeredWith, asked}
-use Rattle.sender.specs.Sequence.{sendersAfter, heartbeatAfter, bufferAfter, answeredOn}
+use Rattle.sender.specs.Sequence.{sendersAfter, heartbeatAfter, heartbeatBuffer, answeredOn}
 
 -- ---- which frame, and when
 
@@ -24,7 +24,7 @@ use Rattle.sender.specs.Sequence.{sendersAfter, heartbeatAfter, bufferAf
 pub record Sending (earlier : Questions) (question : Question) : Type 0 where
   pub heartbeat : heartbeatAfter earlier question ≡ heartbeatBy earlier question
   pub buffer :
-      bufferAfter earlier question
+      heartbeatBuffer earlier question
       ≡ contentBy (heartbeatBy earlier question) (codeAsked question) (question .source) (question .buffer)
   -- the frames answered so far are those that document 02 says
   pub frames : (port : ℕ) → answeredOn port earlier ≡ sentBy port earlier
@@ -39,13 +39,13 @@ pub record Refusing (earlier : Questions) (question : Question) : Type 0 where
   pub refused : (number : ℕ) → SmallestRow number (rowsBy earlier question)
       → asked (sendersAfter earlier) question ≡ answeredWith (sendersAfter earlier) (H.Refused number)
   pub kept : (number : ℕ) → SmallestRow number (rowsBy earlier question)
-      → bufferAfter earlier question ≡ question .buffer
+      → heartbeatBuffer earlier question ≡ question .buffer
   -- where no row applies there is no refusal
   pub answered : NoneApplies (rowsBy earlier question)
       → (number : ℕ) → heartbeatAfter earlier question ≡ H.Refused number
       → ⊥
   -- "answering nothing keeps the buffer"
-  pub nothing : heartbeatAfter earlier question ≡ H.Nothing → bufferAfter earlier question ≡ question .buffer
+  pub nothing : heartbeatAfter earlier question ≡ H.Nothing → heartbeatBuffer earlier question ≡ question .buffer
 
 -- ---- ten frames in a window
 
@@ -70,26 +70,26 @@ pub record Window (questions : Questions) (port : ℕ) : Type 0 where
 -- ---- what is sent
 
 -- an answer that is a frame
-abbrev pub isFrame : Heartbeat → Bool
-isFrame H.Information = true
-isFrame H.Event = true
-isFrame H.Nothing = false
-isFrame (H.Refused number) = false
+abbrev pub isFrameSent : Heartbeat → Bool
+isFrameSent H.Information = true
+isFrameSent H.Event = true
+isFrameSent H.Nothing = false
+isFrameSent (H.Refused number) = false
 
 -- "any answered frame reads back as the port's code in that state", with the event flag, set exactly if the code differs
 -- from the last one sent, and the source lent
 pub record ReadsBack (earlier : Questions) (question : Question) : Type 0 where
-  pub said : isFrame (heartbeatAfter earlier question) ≡ true
-      → readFrame (take writtenLength (bufferAfter earlier question))
+  pub said : isFrameSent (heartbeatAfter earlier question) ≡ true
+      → readFrame (take writtenLength (heartbeatBuffer earlier question))
       ≡ message (Code (codeAsked question)) (differs (codeAsked question) (answeredOn (question .port) earlier))
       (question .source)
   -- and octet by octet
-  pub layout : isFrame (heartbeatAfter earlier question) ≡ true
-      → Layout (take writtenLength (bufferAfter earlier question)) (question .source)
+  pub layout : isFrameSent (heartbeatAfter earlier question) ≡ true
+      → Layout (take writtenLength (heartbeatBuffer earlier question)) (question .source)
       (differs (codeAsked question) (answeredOn (question .port) earlier))
       (codeAsked question)
   -- whatever is answered, the rest of the buffer is kept
-  pub rest : drop writtenLength (bufferAfter earlier question) ≡ drop writtenLength (question .buffer)
+  pub rest : drop writtenLength (heartbeatBuffer earlier question) ≡ drop writtenLength (question .buffer)
 
 -- ---- port by port
 
@@ -104,4 +104,4 @@ pub record OwnQuestions (one other : Questions) (question : Question) : Type 0 w
   pub heartbeat : questionsTo (question .port) one ≡ questionsTo (question .port) other
       → heartbeatAfter one question ≡ heartbeatAfter other question
   pub buffer : questionsTo (question .port) one ≡ questionsTo (question .port) other
-      → bufferAfter one question ≡ bufferAfter other question
+      → heartbeatBuffer one question ≡ heartbeatBuffer other question

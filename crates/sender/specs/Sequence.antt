@@ -19,8 +19,8 @@ abbrev pub heartbeatAfter : Questions → Question → Heartbeat
 heartbeatAfter earlier question = asked (sendersAfter earlier) question .heartbeat
 
 -- what is then in its buffer
-abbrev pub bufferAfter : Questions → Question → List ℕ
-bufferAfter earlier question = contentOf (sendersAfter earlier) question
+abbrev pub heartbeatBuffer : Questions → Question → List ℕ
+heartbeatBuffer earlier question = contentOf (sendersAfter earlier) question
 
 -- the frames that were answered on a port, the latest first
 unfoldable pub answeredOn : ℕ → Questions → List Sent

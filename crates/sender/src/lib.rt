@@ -24,7 +24,7 @@ ghost use lib.ListN.{length, take};
 ghost use Rattle.numbers.specs.Inputs.{lastInput, inputCount};
 ghost use Rattle.frame.specs.Write.{writtenLength, sourceLength, largestCode};
 ghost use Rattle.sender.specs.Heartbeat.{questionOf, questionNumber, contentBy};
-ghost use Rattle.sender.specs.Sender.{freshSenders, isFull, dueOf, heartbeatOf, withFrame, afterHeartbeat, AskSenders};
+ghost use Rattle.sender.specs.Sender.{freshSenders, isFull, heartbeatDue, heartbeatOf, withFrame, afterHeartbeat, AskSenders};
 
 // "1,000 ms or more have passed since the port's last frame"
 const PERIOD: u64 = 1_000;
@@ -111,7 +111,7 @@ impl Sender {
 
     // The frame that is due, where the window is not full.
     fn due_frame(self, time: u64, code: u32) -> Heartbeat
-        ensures { λ answer. ⌜ answer ≡ dueOf self time code ⌝ }
+        ensures { λ answer. ⌜ answer ≡ heartbeatDue self time code ⌝ }
     {
         if self.sent == 0 {
             return Heartbeat::Information;

@@ -56,7 +56,7 @@ startBy count option place marks =
     NoStart)
 
 -- what was read is what some words say
-pub record StartRight (read : StartRead) : Type 0 where
+pub record StartReadRight (read : StartRead) : Type 0 where
   pub count : ℕ
   pub option : List ℕ
   pub place : List ℕ

@@ -13,7 +13,7 @@ ghost use mathlib.Core.Bool.{true};
 ghost use mathlib.Core.Path.{_≡_};
 ghost use Rattle.digits.specs.Digits.{isDigit};
 ghost use Rattle.digits.specs.Decimal.{decimalValue};
-ghost use Rattle.start.specs.Start.{isOptionWord, isDecimal, isMarks, digitsValue, startOf, startIn, startBy, StartRight};
+ghost use Rattle.start.specs.Start.{isOptionWord, isDecimal, isMarks, digitsValue, startOf, startIn, startBy, StartReadRight};
 ghost use Rattle.start.specs.Parts.{ValueOf, FourDigits};
 
 // The words of `2 PLACE MARKS`.
@@ -170,7 +170,7 @@ fn word_count() -> usize {
 // Reads START from the program's arguments. A word that is longer than what is lent for it is taken
 // as an empty one, so it is no START: a place of more than 65,536 digits too.
 pub fn read_start() -> StartRead
-    ensures { λ read. ⌜ StartRight read ⌝ }
+    ensures { λ read. ⌜ StartReadRight read ⌝ }
 {
     let mut option = io::buffer();
     let mut place = [0u8; LONGEST_WORD];

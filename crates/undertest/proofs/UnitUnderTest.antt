@@ -30,7 +30,7 @@ use Rattle.unit.specs.declared.Half.the-variants as H
 use Rattle.unit.specs.declared.Unit.{Unit}
 use Rattle.unit.specs.Unit.{Addressed, UnitSequence, isReport, goesToBoth, goesTo, isFor, timeIn, tickFirst, ownEvents, ownNumber}
 use Rattle.unit.specs.Kept.{isSquelched, sourceOf}
-use Rattle.unit.specs.Sequence.{Telling, unitAfter, halfAfter, halfNumber, tellingOf, tellings, outputOf, outputs}
+use Rattle.unit.specs.Sequence.{Telling, unitAfter, halfAfter, halfNumber, tellingOf, tellings, stationOutput, outputs}
 use Rattle.unit.proofs.Halves.{withOwn, numberWith, own-profile, half-number-with, minimum-after, half-right}
 use Rattle.undertest.specs.UnderTest as Single
 use Rattle.undertest.specs.UnderTest.{ReportOn, Pair, EqualButFor, OffThroughout}
@@ -242,7 +242,7 @@ output-same : (unit other : Unit) → answerOf accepted (unit .station) ≡ answ
     → unit .station .profile ≡ other .station .profile
     → unit .station .mode ≡ other .station .mode
     → unit .minimum ≡ other .minimum
-    → outputOf unit ≡ outputOf other
+    → stationOutput unit ≡ stationOutput other
 unfolding isSquelched sourceOf
 output-same unit other answer profile mode minimum = λ j.
     record { squelched = squelched j; source = cond (squelched j) noInput (answer j .selected) }
@@ -270,7 +270,7 @@ module _ (minimum : Quality) (input : ℕ) (one other : UnitSequence) (butFor : 
       sym same ∙
       sym (ap kept (half-right minimum H.Station other .state))
 
-  output-equal : outputOf (unitAfter minimum one) ≡ outputOf (unitAfter minimum other)
+  output-equal : stationOutput (unitAfter minimum one) ≡ stationOutput (unitAfter minimum other)
   output-equal =
       output-same (unitAfter minimum one) (unitAfter minimum other)
       (ap (λ (telling : Telling). telling .answer) (half-telling minimum input H.Station one other butFor off accepted))

@@ -191,7 +191,7 @@ module _ (past : Past) where
       seen = candidateOf place (floorOf number history) passed (record { 0 = 1 }) false (modeOn history)
 
       exact : (isEligible seen ≡ true) ↔
-          Seen.Eligible place (floorOf number history) passed (record { 0 = 1 }) false (modeOn history)
+          Seen.EligibleCandidate place (floorOf number history) passed (record { 0 = 1 }) false (modeOn history)
       exact = eligible-exact place (floorOf number history) passed (record { 0 = 1 }) false (modeOn history)
 
       to : candidate .usable ≡ true → UsableFrom history number passed

@@ -52,11 +52,11 @@ tellings minimum half (addressed following earlier) =
     tellings minimum half earlier
 
 -- what the station output of a unit sends
-abbrev pub outputOf : Unit → Output
-outputOf unit = record { squelched = isSquelched unit; source = sourceOf unit }
+abbrev pub stationOutput : Unit → Output
+stationOutput unit = record { squelched = isSquelched unit; source = sourceOf unit }
 
 -- what it sends after each event, the latest first
 unfoldable pub outputs : Quality → UnitSequence → List Output
 outputs minimum (started profile) = []
 outputs minimum (addressed following earlier) =
-    outputOf (unitAfter minimum (addressed following earlier)) ∷ outputs minimum earlier
+    stationOutput (unitAfter minimum (addressed following earlier)) ∷ outputs minimum earlier

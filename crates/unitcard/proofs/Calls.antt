@@ -52,7 +52,7 @@ use Rattle.card.proofs.Kept.{sound-cardOf}
 use Rattle.unitcard.specs.declared.UnitCard.{UnitCard}
 use Rattle.unitcard.specs.Flat.{halfIn, numberOfTo, halfCard, cardIn, unitOf, unitCardOf, withNumbers}
 use Rattle.unitcard.specs.UnitCard.{freshUnitCard, startUnitCard, steppedUnitCard, stepUnitCard}
-use Rattle.unitcard.specs.Calls.{calledUnit, unitCardAfter, latestNumber, latestBy, UnitStartRight, UnitCardRight, HalfCardRight, OutputCardRight, SameCards}
+use Rattle.unitcard.specs.Calls.{calledUnit, unitCardAfter, halfLatestNumber, halfLatestBy, UnitStartRight, UnitCardRight, HalfCardRight, OutputCardRight, SameCards}
 use Rattle.unitcard.proofs.Range.{NamedUnit}
 
 -- ---- back from its numbers
@@ -149,9 +149,9 @@ module _ (minimum : Quality) where
 
   after-whole : (sequence : UnitSequence)
       → unitCardAfter minimum sequence ≡
-      unitCardOf (latestNumber minimum H.Equipment sequence) (latestNumber minimum H.Station sequence)
+      unitCardOf (halfLatestNumber minimum H.Equipment sequence) (halfLatestNumber minimum H.Station sequence)
       (unitAfter minimum sequence)
-  unfolding unitCardAfter unitAfter latestNumber halfNumber freshUnitCard
+  unfolding unitCardAfter unitAfter halfLatestNumber halfNumber freshUnitCard
   after-whole (started profile) = refl
   after-whole (addressed following earlier) =
       ap (λ (flat : UnitCard). calledUnit flat addressed) (after-whole earlier) ∙
@@ -172,18 +172,18 @@ module _ (minimum : Quality) (half : Half) (sequence : UnitSequence) where
   own = stateAfter (ownEvents half sequence)
 
   -- the card of a half is that of its selector after its own events
-  half-card : cardIn half (unitCardAfter minimum sequence) ≡ halfCard (latestNumber minimum half sequence) own
+  half-card : cardIn half (unitCardAfter minimum sequence) ≡ halfCard (halfLatestNumber minimum half sequence) own
   unfolding unitCardOf
   half-card =
       ap (λ (flat : UnitCard). cardIn half flat) (after-whole minimum sequence) ∙
       go half ∙
-      ap (λ (state : Selector). halfCard (latestNumber minimum half sequence) state) (half-after minimum sequence half)
+      ap (λ (state : Selector). halfCard (halfLatestNumber minimum half sequence) state) (half-after minimum sequence half)
     where
       go : (part : Half)
           → cardIn part
-          (unitCardOf (latestNumber minimum H.Equipment sequence) (latestNumber minimum H.Station sequence)
+          (unitCardOf (halfLatestNumber minimum H.Equipment sequence) (halfLatestNumber minimum H.Station sequence)
           (unitAfter minimum sequence))
-          ≡ halfCard (latestNumber minimum part sequence) (halfAfter minimum part sequence)
+          ≡ halfCard (halfLatestNumber minimum part sequence) (halfAfter minimum part sequence)
       go H.Equipment = refl
       go H.Station = refl
 
@@ -191,8 +191,8 @@ module _ (minimum : Quality) (half : Half) (sequence : UnitSequence) where
   half-state = ap selectorOf half-card ∙ selectorOf-cardOf _ _ (nextDue own) own (sequence-named (ownEvents half sequence))
 
 latest-by : (minimum : Quality) (half : Half) (sequence : UnitSequence)
-    → latestNumber minimum half sequence ≡ latestBy half sequence
-unfolding latestNumber latestBy
+    → halfLatestNumber minimum half sequence ≡ halfLatestBy half sequence
+unfolding halfLatestNumber halfLatestBy
 latest-by minimum half (started profile) = refl
 latest-by minimum half (addressed following earlier) = half-number-own minimum half addressed earlier
 
@@ -201,7 +201,7 @@ half-sound : (minimum : Quality) (half : Half) (sequence : UnitSequence)
 half-sound minimum half sequence =
     let own = ownEvents half sequence in
     ap cardSound (half-card minimum half sequence) ∙
-    sound-cardOf own (latestNumber minimum half sequence) 0 (nextDue (stateAfter own))
+    sound-cardOf own (halfLatestNumber minimum half sequence) 0 (nextDue (stateAfter own))
     (nextDue-later (stateAfter own) (sequence-ever own)) (omega arith)
 
 -- EACH HALF IN C'S HANDS IS A SELECTOR AFTER ITS OWN EVENTS, and all that holds of a half holds of it.
@@ -215,7 +215,7 @@ half-card-right minimum half sequence =
       answer =
           ap (λ (card : Card). card .answer) (half-card minimum half sequence) ∙
           ap flatAnswer
-          (told .answer (latestNumber minimum half sequence) ∙
+          (told .answer (halfLatestNumber minimum half sequence) ∙
           ap (λ (number : ℕ). answerBy number (ownPast half sequence)) (latest-by minimum half sequence));
       codes = ap outgoingCodes state ∙ told .outgoing;
       words = ap outgoingWords state ∙ told .words;
@@ -256,15 +256,15 @@ toldLast [] = accepted
 toldLast (telling ∷ earlier) = telling .answer .number
 
 latest-told : (minimum : Quality) (half : Half) (sequence : UnitSequence)
-    → toldLast (tellings minimum half sequence) ≡ latestNumber minimum half sequence
-unfolding tellings latestNumber answerOf
+    → toldLast (tellings minimum half sequence) ≡ halfLatestNumber minimum half sequence
+unfolding tellings halfLatestNumber answerOf
 latest-told minimum half (started profile) = refl
 latest-told minimum half (addressed following earlier) = refl
 
 same-cards : (minimum : Quality) (half : Half) (one two : UnitSequence) → SameOf minimum half one two
     → SameCards minimum half one two
 same-cards minimum half one two same =
-    let number : latestNumber minimum half one ≡ latestNumber minimum half two =
+    let number : halfLatestNumber minimum half one ≡ halfLatestNumber minimum half two =
     sym (latest-told minimum half one) ∙
     ap (λ (told : List Telling). toldLast told) (same .told) ∙
     latest-told minimum half two in

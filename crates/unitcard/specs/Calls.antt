@@ -37,14 +37,14 @@ unitCardAfter minimum (started profile) = freshUnitCard profile minimum
 unitCardAfter minimum (addressed following earlier) = calledUnit (unitCardAfter minimum earlier) addressed
 
 -- the number in a half's latest answer; a fresh unit has that of an accepted event
-unfoldable pub latestNumber : Quality → Half → UnitSequence → ℕ
-latestNumber minimum half (started profile) = accepted
-latestNumber minimum half (addressed following earlier) = halfNumber minimum half addressed earlier
+unfoldable pub halfLatestNumber : Quality → Half → UnitSequence → ℕ
+halfLatestNumber minimum half (started profile) = accepted
+halfLatestNumber minimum half (addressed following earlier) = halfNumber minimum half addressed earlier
 
 -- the same, by what has happened
-unfoldable pub latestBy : Half → UnitSequence → ℕ
-latestBy half (started profile) = accepted
-latestBy half (addressed following earlier) = ownNumber half addressed earlier
+unfoldable pub halfLatestBy : Half → UnitSequence → ℕ
+halfLatestBy half (started profile) = accepted
+halfLatestBy half (addressed following earlier) = ownNumber half addressed earlier
 
 -- a start in C's hands: where calls in a row begin
 pub record UnitStartRight (flat : UnitCard) (option place marks minimum : ℕ) : Type 0 where
@@ -60,14 +60,14 @@ pub record UnitStartRight (flat : UnitCard) (option place marks minimum : ℕ) :
 pub record UnitCardRight (minimum : Quality) (sequence : UnitSequence) : Type 0 where
   pub unit : unitOf (unitCardAfter minimum sequence) ≡ unitAfter minimum sequence
   pub whole : unitCardAfter minimum sequence ≡
-      unitCardOf (latestNumber minimum H.Equipment sequence) (latestNumber minimum H.Station sequence)
+      unitCardOf (halfLatestNumber minimum H.Equipment sequence) (halfLatestNumber minimum H.Station sequence)
       (unitAfter minimum sequence)
 
 -- a half in C's hands: the selector after its own events, and what C reads of it is what has happened to it
 pub record HalfCardRight (minimum : Quality) (half : Half) (sequence : UnitSequence) : Type 0 where
   pub state : selectorOf (cardIn half (unitCardAfter minimum sequence)) ≡ stateAfter (ownEvents half sequence)
   pub answer : cardIn half (unitCardAfter minimum sequence) .answer ≡
-      flatAnswer (answerBy (latestBy half sequence) (ownPast half sequence))
+      flatAnswer (answerBy (halfLatestBy half sequence) (ownPast half sequence))
   pub codes : cardCodes (cardIn half (unitCardAfter minimum sequence)) .codes ≡ codesBy (ownPast half sequence)
   pub words : cardWords (cardIn half (unitCardAfter minimum sequence)) .words ≡ wordsBy (ownPast half sequence)
   -- document 02, L3: when something is next due of that half

@@ -47,7 +47,7 @@ unfoldable pub unitStartBy : ℕ → List ℕ → List ℕ → List ℕ → List
 unitStartBy count option place marks minimum = cond (eqb count 5) (unitStartIn option place marks minimum) NoStart
 
 -- what was read is what some words say
-pub record UnitStartRight (start : UnitStart) : Type 0 where
+pub record UnitStartReadRight (start : UnitStart) : Type 0 where
   pub count : ℕ
   pub option : List ℕ
   pub place : List ℕ

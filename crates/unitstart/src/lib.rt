@@ -19,7 +19,7 @@ ghost use mathlib.Core.Path.{_≡_};
 ghost use Rattle.numbers.specs.Quality.{quality};
 ghost use Rattle.digits.specs.Decimal.{decimalValue};
 ghost use Rattle.start.specs.Start.{isDecimal};
-ghost use Rattle.unitstart.specs.Start.{unitStartOf, unitStartTwo, unitStartIn, unitStartBy, UnitStartRight};
+ghost use Rattle.unitstart.specs.Start.{unitStartOf, unitStartTwo, unitStartIn, unitStartBy, UnitStartReadRight};
 
 // The arguments: the program's name, and four words.
 const ARGUMENTS: usize = 5;
@@ -113,7 +113,7 @@ pub fn unit_start_by(
 // Reads the start of a unit from the program's arguments. A word that is longer than what is lent
 // for it is taken as an empty one, so it is no start: a number of more than 65,536 digits too.
 pub fn read_unit_start() -> UnitStart
-    ensures { λ start. ⌜ UnitStartRight start ⌝ }
+    ensures { λ start. ⌜ UnitStartReadRight start ⌝ }
 {
     let mut option = io::buffer();
     let mut place = [0u8; LONGEST_WORD];

@@ -55,7 +55,7 @@ use Rattle.card.specs.declared.CardAnswer.{CardAnswer}
 use Rattle.card.specs.declared.CardInput.{CardInput}
 use Rattle.card.specs.declared.quick.Quick.{Quick}
 use Rattle.card.specs.Flat.{flatInput, profileIn}
-use Rattle.card.specs.Card.{eventOf, readFor, StandsAt, quickStep, framedFlat, numbered, quickCard, wholeCard, stepCard}
+use Rattle.card.specs.Card.{eventOf, readFor, StandsAt, quickStep, framedFlat, cardNumbered, quickCard, wholeCard, stepCard}
 use Rattle.card.proofs.Laws.{eventCard-quick, eventCard-whole}
 use Rattle.card.proofs.Element.{elt, unraw, each-at, each-vals, each-set, set-map}
 use Rattle.card.proofs.Card as T
@@ -181,7 +181,7 @@ module _ (h : Card) (was : Is R h (vals h)) (input : ℕ) where
     set-us = set-map (LL.tuple-val I.the-type I′.the-laws) rows k (I.the-type .to own′)
 
     abbrev mach-of : List Val → Val
-    mach-of ws = vstruct (vcons (vstruct (ofList ws)) (vcons (vint w64 (q .time)) (vcons (vint w64 (q .due)) (vcons (vint w8 (h .mode)) (vcons (vint w8 (h .held)) (vcons (vint w8 (h .switch)) (vcons (vint w8 (h .on)) (vcons (vint w8 (h .selection)) (vcons (vint w8 (h .selected)) (vcons (LL.val N.the-type N′.the-laws (numbered (h .answer) (q .number))) (vcons (vint w32 0) (vcons (vint w8 (h .option)) (vcons (vint w8 (h .place)) (vcons (vint w16 (h .marks)) (vcons (vint w32 (h .spare)) vnil)))))))))))))))
+    mach-of ws = vstruct (vcons (vstruct (ofList ws)) (vcons (vint w64 (q .time)) (vcons (vint w64 (q .due)) (vcons (vint w8 (h .mode)) (vcons (vint w8 (h .held)) (vcons (vint w8 (h .switch)) (vcons (vint w8 (h .on)) (vcons (vint w8 (h .selection)) (vcons (vint w8 (h .selected)) (vcons (LL.val N.the-type N′.the-laws (cardNumbered (h .answer) (q .number))) (vcons (vint w32 0) (vcons (vint w8 (h .option)) (vcons (vint w8 (h .place)) (vcons (vint w16 (h .marks)) (vcons (vint w32 (h .spare)) vnil)))))))))))))))
 
     -- what closing the borrow asks
     made : Is R h′ (mach-of (set us k (record-val own′)) ∷ [])
@@ -215,7 +215,7 @@ module _ (h : Card) (was : Is R h (vals h)) (input : ℕ) where
                         (
                           LL.owed T.the-type T′.the-laws h (vals h) was .1 .1 .1 .1 .1 .1 .1 .1 .0,
                           (
-                            LL.owes N.the-type N′.the-laws (numbered (h .answer) (q .number)) ((refl, number-fits), LL.owed N.the-type N′.the-laws (h .answer) (LL.vals N.the-type N′.the-laws (h .answer)) (LL.owed T.the-type T′.the-laws h (vals h) was .1 .1 .1 .1 .1 .1 .1 .1 .1 .0) .1),
+                            LL.owes N.the-type N′.the-laws (cardNumbered (h .answer) (q .number)) ((refl, number-fits), LL.owed N.the-type N′.the-laws (h .answer) (LL.vals N.the-type N′.the-laws (h .answer)) (LL.owed T.the-type T′.the-laws h (vals h) was .1 .1 .1 .1 .1 .1 .1 .1 .1 .0) .1),
                             ((refl, lit< tt), LL.owed T.the-type T′.the-laws h (vals h) was .1 .1 .1 .1 .1 .1 .1 .1 .1 .1 .1),
                           ),
                         ),
