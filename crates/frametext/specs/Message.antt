@@ -7,17 +7,13 @@ use mathlib.Core.List.{List, [], _∷_, _++_}
 use lib.Dec.{eqb}
 use lib.ListN.{length, replicate}
 use Rattle.numbers.specs.Refusal.{accepted, lineMalformed}
-use Rattle.digits.specs.Digits.{allDigits, octetsOf, digitOf, lowerDigit, digitsOf}
+use Rattle.digits.specs.Digits.{allDigits, octetsOf, digitOf, lowerDigit, digitsOf, space}
 use Rattle.reader.specs.Lines.{lineFeed}
 use Rattle.frame.specs.declared.FrameRead.{FrameRead}
 use Rattle.frame.specs.declared.FrameRead.the-variants.{Code, Refused}
 use Rattle.frame.specs.declared.FrameMessage.{FrameMessage}
 use Rattle.frame.specs.Read.{readFrame}
 use Rattle.frametext.specs.declared.MessageLine.{MessageLine}
-
--- a space stands between two parts
-abbrev pub space : ℕ
-space = 32
 
 -- "0 or 1"
 abbrev pub flagDigit : Bool → ℕ

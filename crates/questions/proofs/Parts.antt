@@ -12,12 +12,13 @@ use lib.Dec.{eqb, leb, ltb}
 use lib.ListN.{length, getD, take, drop, length-drop, drop-of-length-le}
 use lib.Seq.{drop-cons, drop-drop}
 use borrow.Author.Tests.{eq-eqb, ne-eqb, lt-ltb, le-ltb, le-leb, lt-leb}
-use Rattle.digits.specs.Digits.{numeral0, numeral9, isBetween, isNumeral, allDigits}
+use Rattle.digits.specs.Decimal.{decimalValue}
+use Rattle.digits.specs.Digits.{numeral0, numeral9, isBetween, isNumeral, allDigits, space, allNumerals}
 use Rattle.numbers.proofs.Truth.{byBool}
 use Rattle.questions.specs.declared.NumberRead.{NumberRead}
 use Rattle.questions.specs.declared.NumberRead.the-variants as N
 use Rattle.questions.specs.declared.PartRead.the-variants as P
-use Rattle.questions.specs.Line.{space, mark, dash, partLength, firstPart, hasMore, otherParts, allNumerals, numberSaidAfter, numberSaid, isNumber, isSource, hasMark, isNumberPart, partEnd, numberIn, readPart}
+use Rattle.questions.specs.Line.{mark, dash, partLength, firstPart, hasMore, otherParts, numberSaid, isNumber, isSource, hasMark, isNumberPart, partEnd, numberIn, readPart}
 
 -- ---- partEnd
 
@@ -51,23 +52,23 @@ partEnd-le text start inside = omega (arith, partLength-le (drop start text), le
 -- what the digits that are left make of the number read so far
 abbrev pub numberAfter : ℕ → List ℕ → NumberRead
 numberAfter value rest =
-    cond (allNumerals rest && ltb (numberSaidAfter value rest) (2 ^ 64))
-    (N.Number (numberSaidAfter value rest)) N.Nothing
+    cond (allNumerals rest && ltb (decimalValue value rest) (2 ^ 64))
+    (N.Number (decimalValue value rest)) N.Nothing
 
 -- digits only add to it
-numberSaidAfter-grows : (value : ℕ) (rest : List ℕ) → value ≤ numberSaidAfter value rest
-unfolding numberSaidAfter
-numberSaidAfter-grows value [] = omega arith
-numberSaidAfter-grows value (numeral ∷ rest) =
-    omega (arith, numberSaidAfter-grows (value * 10 + (numeral - numeral0)) rest)
+decimalValue-grows : (value : ℕ) (rest : List ℕ) → value ≤ decimalValue value rest
+unfolding decimalValue
+decimalValue-grows value [] = omega arith
+decimalValue-grows value (numeral ∷ rest) =
+    omega (arith, decimalValue-grows (value * 10 + (numeral - numeral0)) rest)
 
 -- a number that is too large stays so
 numberAfter-over : (value : ℕ) (rest : List ℕ) → 2 ^ 64 ≤ value → N.Nothing ≡ numberAfter value rest
 numberAfter-over value rest large =
-    let over : 2 ^ 64 ≤ numberSaidAfter value rest = omega (arith, numberSaidAfter-grows value rest) in
-    rw (le-ltb (numberSaidAfter value rest) (2 ^ 64) over) (go (allNumerals rest))
+    let over : 2 ^ 64 ≤ decimalValue value rest = omega (arith, decimalValue-grows value rest) in
+    rw (le-ltb (decimalValue value rest) (2 ^ 64) over) (go (allNumerals rest))
   where
-    go : (test : Bool) → N.Nothing ≡ cond (test && false) (N.Number (numberSaidAfter value rest)) N.Nothing
+    go : (test : Bool) → N.Nothing ≡ cond (test && false) (N.Number (decimalValue value rest)) N.Nothing
     go true = refl
     go false = refl
 
@@ -100,7 +101,7 @@ module _ (text : List ℕ) where
         (high : getD text passed 0 ≤ numeral9) where
       pub numberAfter-next : numberAfter (value * 10 + (getD text passed 0 - numeral0)) (drop (passed + 1) text)
           ≡ numberAfter value (drop passed text)
-      unfolding allNumerals numberSaidAfter
+      unfolding allNumerals decimalValue
       numberAfter-next = rw (drop-cons text passed 0, numeral-is _ low high, add-one)
 
       pub numberAfter-large : 2 ^ 64 ≤ value * 10 + (getD text passed 0 - numeral0)
@@ -108,7 +109,7 @@ module _ (text : List ℕ) where
       numberAfter-large large = numberAfter-over _ (drop (passed + 1) text) large ∙ numberAfter-next
 
     pub numberAfter-end : length text ≤ passed → value < 2 ^ 64 → N.Number value ≡ numberAfter value (drop passed text)
-    unfolding allNumerals numberSaidAfter
+    unfolding allNumerals decimalValue
     numberAfter-end over small = rw (drop-of-length-le text over, lt-ltb _ _ small)
 
 -- the test that the code makes of it: the next number fits, or is too large

@@ -8,12 +8,13 @@ use lib.Dec.{eqb, ltb}
 use lib.ListN.{length, getD, take, drop, length-drop}
 use lib.Seq.{drop-drop, take-all}
 use borrow.Author.Tests.{eq-eqb, ne-eqb, lt-ltb, le-ltb, eqb-true, ltb-true}
+use Rattle.digits.specs.Digits.{space}
 use Rattle.numbers.proofs.Truth.{byBool}
 use Rattle.run.proofs.Exact.{and-true-right}
 use Rattle.questions.specs.declared.PartRead.{PartRead}
 use Rattle.questions.specs.declared.PartRead.the-variants as P
 use Rattle.questions.specs.declared.QuestionRead.the-variants as Q
-use Rattle.questions.specs.Line.{space, mark, partLength, firstPart, hasMore, otherParts, numberSaid, isNumber, isSource, hasMark, isNumberPart, partEnd, readPart, readQuestion}
+use Rattle.questions.specs.Line.{mark, partLength, firstPart, hasMore, otherParts, numberSaid, isNumber, isSource, hasMark, isNumberPart, partEnd, readPart, readQuestion}
 use Rattle.questions.proofs.Parts.{partLength-le, partEnd-le}
 
 -- ---- what a part that was read says

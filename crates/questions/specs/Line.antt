@@ -1,21 +1,18 @@
 -- A question as a line of text, `? PORT TIME LENGTH SOURCE`: the paper of readings of document 02, "Programs". Cited by
 -- `src/lib.rt`. A character is its number in ASCII. Assumes nothing.
-use Prim.Native.Nat.{ℕ, suc, _+_, _*_, _-_, _%_, _^_}
-use mathlib.Core.Bool.{Bool, true, false, not, _&&_, cond}
+use Prim.Native.Nat.{ℕ, suc, _+_, _-_, _%_, _^_}
+use mathlib.Core.Bool.{Bool, false, not, _&&_, cond}
 use mathlib.Core.List.{List, [], _∷_}
 use lib.Dec.{eqb, leb, ltb}
 use lib.ListN.{length, getD, take, drop}
-use Rattle.digits.specs.Digits.{numeral0, isNumeral, allDigits}
+use Rattle.digits.specs.Decimal.{decimalValue}
+use Rattle.digits.specs.Digits.{allDigits, space, allNumerals}
 use Rattle.questions.specs.declared.NumberRead.{NumberRead}
 use Rattle.questions.specs.declared.NumberRead.the-variants as N
 use Rattle.questions.specs.declared.PartRead.{PartRead}
 use Rattle.questions.specs.declared.PartRead.the-variants as P
 use Rattle.questions.specs.declared.QuestionRead.{QuestionRead}
 use Rattle.questions.specs.declared.QuestionRead.the-variants as Q
-
--- "one space between its parts"
-abbrev pub space : ℕ
-space = 32
 
 -- the mark that a question begins with
 abbrev pub mark : ℕ
@@ -47,19 +44,9 @@ hasMore text = ltb (partLength text) (length text)
 abbrev pub otherParts : List ℕ → List ℕ
 otherParts text = drop (suc (partLength text)) text
 
--- decimal digits
-unfoldable pub allNumerals : List ℕ → Bool
-allNumerals [] = true
-allNumerals (character ∷ rest) = isNumeral character && allNumerals rest
-
--- the number that decimal digits say behind a number before them
-unfoldable pub numberSaidAfter : ℕ → List ℕ → ℕ
-numberSaidAfter number [] = number
-numberSaidAfter number (numeral ∷ rest) = numberSaidAfter (number * 10 + (numeral - numeral0)) rest
-
 -- the number that decimal digits say
 abbrev pub numberSaid : List ℕ → ℕ
-numberSaid text = numberSaidAfter 0 text
+numberSaid text = decimalValue 0 text
 
 -- "its numbers are decimal digits, below 2^64"
 unfoldable pub isNumber : List ℕ → Bool

@@ -13,13 +13,13 @@ use Rattle.numbers.specs.declared.Profile.the-variants as P
 use Rattle.numbers.specs.Refusal.{accepted, argumentOutOfRange}
 use Rattle.numbers.specs.Profile.{placeOf, lastPlace, startNumber}
 use Rattle.numbers.proofs.Truth.{byBool}
-use Rattle.digits.specs.Digits.{numeral0, numeral9, isBetween, isNumeral, isDigit, allDigits, digitValue}
+use Rattle.digits.specs.Digits.{numeral0, numeral9, isBetween, isNumeral, isDigit, allDigits, digitValue, allNumerals}
 use Rattle.digits.specs.Decimal.{decimalValue}
 use Rattle.digits.proofs.Runs.{and-parts}
 use Rattle.digits.proofs.Values.{digitValue-below}
 use Rattle.text.specs.declared.NumberRead.{NumberRead}
 use Rattle.text.specs.declared.NumberRead.the-variants.{Number, NoNumber}
-use Rattle.text.specs.Text.{allNumerals, readNumber}
+use Rattle.text.specs.Text.{readNumber}
 use Rattle.start.specs.declared.StartRead.{StartRead}
 use Rattle.start.specs.declared.StartRead.the-variants.{Started, Refused, NoStart}
 use Rattle.start.specs.Start.{numeral2, isOptionWord, isDecimal, isMarks, digitsValue, startOf, startIn, startBy}

@@ -9,9 +9,8 @@ use lib.ListN.{length, getD}
 use Rattle.numbers.specs.declared.Profile.the-variants as P
 use Rattle.numbers.specs.Refusal.{accepted}
 use Rattle.numbers.specs.Profile.{startNumber}
-use Rattle.digits.specs.Digits.{allDigits, digitValue}
+use Rattle.digits.specs.Digits.{allDigits, digitValue, allNumerals}
 use Rattle.digits.specs.Decimal.{decimalValue}
-use Rattle.text.specs.Text.{allNumerals}
 use Rattle.start.specs.declared.StartRead.{StartRead}
 use Rattle.start.specs.declared.StartRead.the-variants.{Started, Refused, NoStart}
 

@@ -12,12 +12,12 @@ use lib.Dec.{leb, ltb}
 use lib.ListN.{length, getD, take, drop, set, replicate, length-append, length-drop, length-set, length-replicate, take-append-drop, drop-of-length-le}
 use lib.Seq.{length-take-le, take-at, take-all, take-length, take-suc, drop-length, drop-cons, drop-at, drop-append-add, drop-drop, append-snoc, set-split}
 use Rattle.digits.specs.declared.decimal.DecimalText.{DecimalText}
-use Rattle.digits.specs.Digits.{upperDigit, lowerDigit, digitsOf, numeral0, numeral9, isBetween, isNumeral}
+use Rattle.digits.specs.Digits.{upperDigit, lowerDigit, digitsOf, numeral0, numeral9, isBetween, isNumeral, space, allNumerals}
 use Rattle.digits.specs.Decimal.{decimalPlaces, decimalOf, decimal, decimalValue}
 use Rattle.digits.proofs.Decimals.{places-enough, decimalOf-length}
 use Rattle.text.specs.declared.NumberRead.{NumberRead}
 use Rattle.text.specs.declared.NumberRead.the-variants.{Number, NoNumber}
-use Rattle.text.specs.Text.{space, widestNumber, spacedNumbers, numbersText, withText, hasRoom, roomedText, PutNumbers, allNumerals, readNumber}
+use Rattle.text.specs.Text.{widestNumber, spacedNumbers, numbersText, withText, hasRoom, roomedText, PutNumbers, readNumber}
 use Rattle.text.specs.Parts.{nextText, Put}
 
 -- ---- withText

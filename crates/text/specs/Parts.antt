@@ -4,8 +4,9 @@ use mathlib.Core.Bool.{Bool, cond}
 use mathlib.Core.List.{List, _∷_}
 use mathlib.Core.Path.{_≡_}
 use lib.ListN.{length}
+use Rattle.digits.specs.Digits.{space}
 use Rattle.digits.specs.Decimal.{decimalOf}
-use Rattle.text.specs.Text.{space, withText}
+use Rattle.text.specs.Text.{withText}
 
 -- a number in decimal, behind a space where another stands before it
 unfoldable pub nextText : Bool → ℕ → List ℕ

@@ -1,18 +1,15 @@
 -- Numbers as the tools write them and read them. Cited by `src/lib.rt`. A character is its number in ASCII.
 -- Assumes nothing.
 use Prim.Native.Nat.{ℕ, _+_, _*_, _≤_}
-use mathlib.Core.Bool.{Bool, true, cond, _&&_}
+use mathlib.Core.Bool.{Bool, cond, _&&_}
 use mathlib.Core.List.{List, [], _∷_, _++_}
 use mathlib.Core.Path.{_≡_}
 use lib.Dec.{leb, ltb}
 use lib.ListN.{length, take, drop}
-use Rattle.digits.specs.Digits.{isNumeral}
+use Rattle.digits.specs.Digits.{space, allNumerals}
 use Rattle.digits.specs.Decimal.{decimalOf, decimalValue}
 use Rattle.text.specs.declared.NumberRead.{NumberRead}
 use Rattle.text.specs.declared.NumberRead.the-variants.{Number, NoNumber}
-
-abbrev pub space : ℕ
-space = 32
 
 -- a space and 20 digits hold every number of 64 bits
 abbrev pub widestNumber : ℕ
@@ -45,11 +42,6 @@ pub record PutNumbers (numbers : List ℕ) (place : ℕ) (before : List ℕ) (en
   pub past : end ≡ place + length (roomedText numbers place before)
   pub short : end ≤ place + widestNumber * length numbers
   pub content : after ≡ withText place (roomedText numbers place before) before
-
--- no character is other than 0 to 9
-unfoldable pub allNumerals : List ℕ → Bool
-allNumerals [] = true
-allNumerals (character ∷ rest) = isNumeral character && allNumerals rest
 
 -- a number up to a largest one, in decimal digits, of which there is at least one
 unfoldable pub readNumber : List ℕ → ℕ → NumberRead

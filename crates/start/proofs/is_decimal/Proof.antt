@@ -4,7 +4,7 @@ use Prim.Native.Nat.{_-_}
 use mathlib.Core.Path.{_≡_, sym, _∙_}
 use native.Mathlib.Omega.{arith}
 use lib.ListN.{length, drop}
-use Rattle.text.specs.Text.{allNumerals}
+use Rattle.digits.specs.Digits.{allNumerals}
 use Rattle.start.specs.Start.{isDecimal}
 use Rattle.start.proofs.Laws.{isDecimal-none, isDecimal-some, numerals-low, numerals-high, numerals-next, numerals-end}
 use Rattle.start.proofs.is_decimal.Statement.{statement}
