@@ -1,5 +1,5 @@
--- A selector comes back from its numbers, and so a call on the card of a selector is a step of that selector; nothing is due
--- before the time that the card keeps. Assumes nothing.
+-- A selector comes back from its numbers, and so a call on the card of a selector is a step of that selector; nothing
+-- is due before the time that the card keeps. Assumes nothing.
 use Prim.Native.Nat.{ℕ, _≤_, _<_}
 use mathlib.Core.Bool.{Bool, true, false, _&&_}
 use mathlib.Core.List.{List, [], _∷_, map}
@@ -172,7 +172,8 @@ module _ (number count due : ℕ) (state : Selector) (event : Event) (read : Fra
   held-back : watchIn card ≡ held
   unfolding cardOf
   held-back =
-      ap (λ (back : Selector). watchOf back due (answerOf accepted back) 0) (selectorOf-cardOf number count due state named)
+      ap (λ (back : Selector). watchOf back due (answerOf accepted back) 0)
+      (selectorOf-cardOf number count due state named)
 
   -- the number that it is refused with at once, by the input at its place
   abbrev earlyAt : Profile → Input → ℕ
@@ -197,17 +198,24 @@ module _ (number count due : ℕ) (state : Selector) (event : Event) (read : Fra
       → eventCard card event read ≡ withNumber card (earlyNumber state event read) 0
   unfolding cardOf
   called-refused given =
-      let told : quickOf true (ownFlat card event .framed) (card .time) (card .due) (earlyAt (profileHeld card) (inputOf (ownFlat card event))) ≡ quick =
+      let told :
+      quickOf true (ownFlat card event .framed) (card .time) (card .due)
+      (earlyAt (profileHeld card) (inputOf (ownFlat card event))) ≡ quick =
       quickStep-refused (ownFlat card event) (card .answer) (profileHeld card) (card .time) (card .due) event read true
       (sym ranged) refl (inputOf (ownFlat card event)) refl false
-      (saysAgain-not (inputOf (ownFlat card event)) (profileHeld card) (state .time) due event read (λ e. given (sym early-back ∙ e)))
+      (saysAgain-not (inputOf (ownFlat card event)) (profileHeld card) (state .time) due event read
+      (λ e. given (sym early-back ∙ e)))
       refl _ refl (λ e. given (sym early-back ∙ e)) in
       sym
       (eventCard-quick card event read (ownPlace (event .input)) (flatInput freshInput) stands quick refl
       (sym (ap (λ (one : Quick). one .is) told)) _ refl)
       ∙ ap (quickCard card (ownPlace (event .input))) (sym told)
-      ∙ ap (λ (early : ℕ). quickCard card (ownPlace (event .input)) (quickOf true (ownFlat card event .framed) (card .time) (card .due) early)) early-back
-      ∙ ap (λ (inputs : List CardInput). withInputs inputs) (set-same (card .inputs) (ownPlace (event .input)) (flatInput freshInput))
+      ∙
+      ap (λ (early : ℕ). quickCard card (ownPlace (event .input))
+      (quickOf true (ownFlat card event .framed) (card .time) (card .due) early)) early-back
+      ∙
+      ap (λ (inputs : List CardInput). withInputs inputs)
+      (set-same (card .inputs) (ownPlace (event .input)) (flatInput freshInput))
     where
       withInputs : List CardInput → Card
       withInputs inputs =
@@ -289,12 +297,17 @@ module _ (number count due : ℕ) (state : Selector) (event : Event) (read : Fra
 
       again-inputs : set (map flatInput (state .inputs)) (event .input)
           (framedFlat (getD (map flatInput (state .inputs)) (event .input) (flatInput freshInput)) framed)
-          ≡ map flatInput (set (state .inputs) (event .input) (againInput (ownBefore state event) (event .kind) (event .time)))
+          ≡ map flatInput (set (state .inputs) (event .input)
+          (againInput (ownBefore state event) (event .kind) (event .time)))
       again-inputs =
           ap (λ (flat : CardInput). set (map flatInput (state .inputs)) (event .input) (framedFlat flat framed))
           (List·getD-map flatInput (state .inputs) (event .input) freshInput)
-          ∙ ap (set (map flatInput (state .inputs)) (event .input)) (framed-again (ownBefore state event) (event .kind) (event .time))
-          ∙ set-map flatInput (state .inputs) (event .input) (againInput (ownBefore state event) (event .kind) (event .time))
+          ∙
+          ap (set (map flatInput (state .inputs)) (event .input))
+          (framed-again (ownBefore state event) (event .kind) (event .time))
+          ∙
+          set-map flatInput (state .inputs) (event .input)
+          (againInput (ownBefore state event) (event .kind) (event .time))
 
       -- what is written in all
       abbrev written : Quick
@@ -326,9 +339,12 @@ module _ (number count due : ℕ) (state : Selector) (event : Event) (read : Fra
       unfolding againOwn cardOf
       quick-told =
           ap
-          (λ (input : Input). quickOf true (againOwn input due event .input .heard .framed) (event .time) (againDue due (event .kind) (event .time)) accepted)
+          (λ (input : Input). quickOf true (againOwn input due event .input .heard .framed) (event .time)
+          (againDue due (event .kind) (event .time)) accepted)
           (sym (own-before few))
-          ∙ quickStep-again (ownFlat card event) (card .answer) (profileHeld card) (card .time) (card .due) event read true
+          ∙
+          quickStep-again (ownFlat card event) (card .answer) (profileHeld card) (card .time) (card .due)
+          event read true
           (sym ranged) refl (inputOf (ownFlat card event)) refl says refl said
           (againOwn (inputOf (ownFlat card event)) due event) refl
 
@@ -358,7 +374,8 @@ module _ (number count due : ℕ) (state : Selector) (event : Event) (read : Fra
       refused
     where
       refused : (earlyNumber state event read ≡ accepted → ⊥)
-          → (new : ℕ) × (eventCard card event read ≡ steppedCard new (stepRead state event read)) × (after .time < new) × (new ≤ nextDue after)
+          → (new : ℕ) × (eventCard card event read ≡ steppedCard new (stepRead state event read)) × (after .time < new)
+          × (new ≤ nextDue after)
       refused given =
           let stays = stepRead-refused state event read given in (
             due,
@@ -370,18 +387,22 @@ module _ (number count due : ℕ) (state : Selector) (event : Event) (read : Fra
           )
 
       said-again : (none : earlyNumber state event read ≡ accepted) → says ≡ true
-          → (new : ℕ) × (eventCard card event read ≡ steppedCard new (stepRead state event read)) × (after .time < new) × (new ≤ nextDue after)
+          → (new : ℕ) × (eventCard card event read ≡ steppedCard new (stepRead state event read)) × (after .time < new)
+          × (new ≤ nextDue after)
       said-again none said = (
         againDue due (event .kind) (event .time),
         called-again none said,
         subst (λ (step : Stepped). step .state .time < againDue due (event .kind) (event .time)) (sym (stays none said))
-            (againDue-later due (event .kind) (event .time) (sooner none said) (ever state event read due calm bound none)),
-        subst (λ (step : Stepped). againDue due (event .kind) (event .time) ≤ nextDue (step .state)) (sym (stays none said))
+            (againDue-later due (event .kind) (event .time) (sooner none said)
+            (ever state event read due calm bound none)),
+        subst (λ (step : Stepped). againDue due (event .kind) (event .time) ≤ nextDue (step .state))
+            (sym (stays none said))
             (again-bound none said),
       )
 
       plain : (none : earlyNumber state event read ≡ accepted) → says ≡ false
-          → (new : ℕ) × (eventCard card event read ≡ steppedCard new (stepRead state event read)) × (after .time < new) × (new ≤ nextDue after)
+          → (new : ℕ) × (eventCard card event read ≡ steppedCard new (stepRead state event read)) × (after .time < new)
+          × (new ≤ nextDue after)
       plain none new =
           let right = takeStep-right held event read kept in (
             takeStep held event read .due,

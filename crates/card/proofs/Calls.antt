@@ -91,17 +91,22 @@ start-right card option place marks =
 
 -- what C holds after calls is what the selector is, and nothing is due before the time that it keeps
 cardAfter-reached : (sequence : Sequence)
-    → (cardAfter sequence ≡ cardOf (latestNumber sequence) (latestCount sequence) (cardAfter sequence .due) (stateAfter sequence))
+    → (cardAfter sequence ≡ cardOf (latestNumber sequence) (latestCount sequence) (cardAfter sequence .due)
+    (stateAfter sequence))
     × (stateAfter sequence .time < cardAfter sequence .due) × (cardAfter sequence .due ≤ nextDue (stateAfter sequence))
 unfolding cardAfter stateAfter numberAfter countAfter latestNumber latestCount freshCard stepCard step cardOf
 cardAfter-reached (started profile) = (refl, nextDue-later (freshSelector profile) (omega arith), omega arith)
 cardAfter-reached (given following earlier) =
     let before = cardAfter-reached earlier in
     let right =
-    called-right (latestNumber earlier) (latestCount earlier) (cardAfter earlier .due) (stateAfter earlier) (given .event)
-    (readFor (given .event .kind) (given .frame)) (sequence-named earlier) (sequence-calm earlier) (before .1) (before .2) in
+    called-right (latestNumber earlier) (latestCount earlier) (cardAfter earlier .due) (stateAfter earlier)
+    (given .event)
+    (readFor (given .event .kind) (given .frame)) (sequence-named earlier) (sequence-calm earlier) (before .1)
+    (before .2) in
     let reads = stepRead-readFor (stateAfter earlier) (given .event) (given .frame) in
-    let whole : called (cardAfter earlier) given ≡ steppedCard (right .0) (step (stateAfter earlier) (given .event) (given .frame)) =
+    let whole :
+    called (cardAfter earlier) given
+    ≡ steppedCard (right .0) (step (stateAfter earlier) (given .event) (given .frame)) =
     ap (λ (card : Card). called card given) (before .0) ∙ right .1 ∙ ap (steppedCard (right .0)) reads in
     let due : called (cardAfter earlier) given .due ≡ right .0 = ap (λ (card : Card). card .due) whole in (
       whole ∙ ap (λ (kept : ℕ). steppedCard kept (step (stateAfter earlier) (given .event) (given .frame))) (sym due),
@@ -112,7 +117,8 @@ cardAfter-reached (given following earlier) =
     )
 
 cardAfter-whole : (sequence : Sequence)
-    → cardAfter sequence ≡ cardOf (latestNumber sequence) (latestCount sequence) (cardAfter sequence .due) (stateAfter sequence)
+    → cardAfter sequence
+    ≡ cardOf (latestNumber sequence) (latestCount sequence) (cardAfter sequence .due) (stateAfter sequence)
 cardAfter-whole sequence = cardAfter-reached sequence .0
 
 cardAfter-state : (sequence : Sequence) → selectorOf (cardAfter sequence) ≡ stateAfter sequence
@@ -173,10 +179,14 @@ module _ (sequence : Sequence) (given : Given) where
       early-reads
       ∙ sym
       (ap (λ (after : Stepped). after .number)
-      (stepRead-refused (stateAfter sequence) (given .event) (readCode (given .frame)) (λ e. given-early (early-reads ∙ e)))) in
+      (stepRead-refused (stateAfter sequence) (given .event) (readCode (given .frame))
+      (λ e. given-early (early-reads ∙ e)))) in
       ap (λ (card : Card). called card given) (reached .0)
-      ∙ called-refused (latestNumber sequence) (latestCount sequence) (cardAfter sequence .due) (stateAfter sequence) (given .event)
-      (readFor (given .event .kind) (given .frame)) (sequence-named sequence) (sequence-calm sequence) (reached .1) (reached .2)
+      ∙
+      called-refused (latestNumber sequence) (latestCount sequence) (cardAfter sequence .due) (stateAfter sequence)
+      (given .event)
+      (readFor (given .event .kind) (given .frame)) (sequence-named sequence) (sequence-calm sequence)
+      (reached .1) (reached .2)
       given-early
       ∙ ap (λ (card : Card). withNumber card early 0) (sym (reached .0))
       ∙ ap (λ (other : ℕ). withNumber (cardAfter sequence) other 0) number
@@ -190,11 +200,15 @@ module _ (sequence : Sequence) (given : Given) where
   cardAfter-due none other =
       let reached = cardAfter-reached sequence in
       ap (λ (card : Card). called card given .due) (reached .0)
-      ∙ called-due (latestNumber sequence) (latestCount sequence) (cardAfter sequence .due) (stateAfter sequence) (given .event)
-      (readFor (given .event .kind) (given .frame)) (sequence-named sequence) (sequence-calm sequence) (reached .1) (reached .2)
+      ∙
+      called-due (latestNumber sequence) (latestCount sequence) (cardAfter sequence .due) (stateAfter sequence)
+      (given .event)
+      (readFor (given .event .kind) (given .frame)) (sequence-named sequence) (sequence-calm sequence)
+      (reached .1) (reached .2)
       none other
       ∙ ap
-      (λ (after : Stepped). dueAfter (anew (stateAfter sequence) (cardAfter sequence .due) (given .event .time)) (given .event .time) (after .state))
+      (λ (after : Stepped). dueAfter (anew (stateAfter sequence) (cardAfter sequence .due) (given .event .time))
+      (given .event .time) (after .state))
       (stepRead-readFor (stateAfter sequence) (given .event) (given .frame))
 
 -- refused with 14 to 17: what is kept is what a tick keeps
@@ -203,7 +217,9 @@ module _ (sequence : Sequence) (given : Given) (high : FourteenToSeventeen (numb
   high-early =
       accepted-or-not (early sequence given) (λ none. none)
       (λ refused. absurd
-      (let low = early-exact sequence given .1 (λ e. refused (early-reads sequence given ∙ sequence-early sequence given ∙ e)) in
+      (let low =
+      early-exact sequence given .1
+      (λ e. refused (early-reads sequence given ∙ sequence-early sequence given ∙ e)) in
       omega (arith, low .most, high .least)))
 
   high-frame : given .event .kind ≡ kindFrame → ⊥
@@ -213,9 +229,11 @@ module _ (sequence : Sequence) (given : Given) (high : FourteenToSeventeen (numb
       sym (early-reads sequence given) ∙ high-early in
       let unbarred =
       sym
-      (lateRefusal-other _ _ (given .event .kind) (given .event .input) (λ e. omega (arith, frame, e)) (λ e. omega (arith, frame, e))) in
+      (lateRefusal-other _ _ (given .event .kind) (given .event .input) (λ e. omega (arith, frame, e))
+      (λ e. omega (arith, frame, e))) in
       let number : numberAfter given sequence ≡ accepted =
-      ap (λ (after : Stepped). after .number) (stepRead-taken (stateAfter sequence) (given .event) (readCode (given .frame)) none unbarred) in
+      ap (λ (after : Stepped). after .number)
+      (stepRead-taken (stateAfter sequence) (given .event) (readCode (given .frame)) none unbarred) in
       omega (arith, number, high .least)
 
   high-due : stateAfter (given following sequence) ≡ stateAfter (tickAt (given .event .time) following sequence)
@@ -223,9 +241,11 @@ module _ (sequence : Sequence) (given : Given) (high : FourteenToSeventeen (numb
   high-due same =
       let none : earlyNumber (stateAfter sequence) (given .event) (readCode (given .frame)) ≡ accepted =
       sym (early-reads sequence given) ∙ high-early in
-      let later = not-before (stateAfter sequence) (given .event) (readCode (given .frame)) (sequence-calm sequence) none in
+      let later =
+      not-before (stateAfter sequence) (given .event) (readCode (given .frame)) (sequence-calm sequence) none in
       let below =
-      accepted-limit (limitsOf (stateAfter sequence .profile)) (stateAfter sequence .time) (kindAt (stateAfter sequence .inputs) (given .event .input))
+      accepted-limit (limitsOf (stateAfter sequence .profile)) (stateAfter sequence .time)
+      (kindAt (stateAfter sequence .inputs) (given .event .input))
       (given .event) (readCode (given .frame)) none in
       cardAfter-due sequence given high-early high-frame
       ∙ ap
@@ -247,15 +267,22 @@ demand-1-card sequence given =
       demand1 = demand1;
       before = λ low.
           cardAfter-refused sequence given
-          (λ e. early-exact sequence given .0 low (sym (sequence-early sequence given) ∙ sym (early-reads sequence given) ∙ e));
+          (λ e. early-exact sequence given .0 low
+          (sym (sequence-early sequence given) ∙ sym (early-reads sequence given) ∙ e));
       after = λ high.
           cardAfter-call sequence given
-          ∙ ap (λ (due : ℕ). cardOf (numberAfter given sequence) (countAfter given sequence) due (stateAfter (given following sequence)))
+          ∙
+          ap (λ (due : ℕ). cardOf (numberAfter given sequence) (countAfter given sequence) due
+          (stateAfter (given following sequence)))
           (high-due sequence given high (demand1 .after high .0))
-          ∙ ap (λ (count : ℕ). cardOf (numberAfter given sequence) count (cardAfter ticked .due) (stateAfter (given following sequence)))
+          ∙
+          ap (λ (count : ℕ). cardOf (numberAfter given sequence) count (cardAfter ticked .due)
+          (stateAfter (given following sequence)))
           (demand4 .ticks (λ low. omega (arith, low .most, high .least))
           ∙ sym (cardAfter-served sequence (tickAt (given .event .time))))
-          ∙ ap (cardOf (numberAfter given sequence) (cardAfter ticked .served) (cardAfter ticked .due)) (demand1 .after high .0)
+          ∙
+          ap (cardOf (numberAfter given sequence) (cardAfter ticked .served) (cardAfter ticked .due))
+          (demand1 .after high .0)
           ∙ sym (withNumber-after ticked (numberAfter given sequence) (cardAfter ticked .served));
       taken = λ none.
           ap (λ (card : Card). card .answer) (cardAfter-call sequence given)
@@ -321,7 +348,8 @@ demand-3-card sequence =
 module _ (sequence : Sequence) (time : ℕ) (later : stateAfter sequence .time ≤ time) (below : time < timeLimit)
     (before : time < nextDue (stateAfter sequence)) where
   -- before it a tick moves the time alone
-  pub moved : stateAfter (tickAt time following sequence) ≡ movedTo (stateAfter sequence) (stateAfter sequence .inputs) time
+  pub moved : stateAfter (tickAt time following sequence)
+      ≡ movedTo (stateAfter sequence) (stateAfter sequence .inputs) time
   moved =
       let state = stateAfter sequence in
       let here : state .time + (time - state .time) ≡ time = omega arith in
@@ -382,7 +410,9 @@ next-due-card sequence =
       next = subst (NextRight (recorded sequence)) (sym due) (next-right sequence);
       answer = λ time later below before. quiet-answer sequence time later below (omega (arith, due));
       codes = λ time later below before.
-          ap (λ (codes : List ℕ). record { codes = codes }) (quiet-codes sequence time later below (omega (arith, due)));
+          ap (λ (codes : List ℕ). record { codes = codes })
+          (quiet-codes sequence time later below (omega (arith, due)));
       words = λ time later below before.
-          ap (λ (words : List ℕ). record { words = words }) (quiet-words sequence time later below (omega (arith, due)));
+          ap (λ (words : List ℕ). record { words = words })
+          (quiet-words sequence time later below (omega (arith, due)));
     }

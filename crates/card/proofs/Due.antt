@@ -1,5 +1,5 @@
--- The time before which nothing is due, after an event that a watch takes: that of the state after it, and still to come.
--- Assumes nothing.
+-- The time before which nothing is due, after an event that a watch takes: that of the state after it, and still to
+-- come. Assumes nothing.
 use Prim.Native.Nat.{ℕ, _≤_, _<_}
 use mathlib.Core.Bool.{true, false}
 use mathlib.Core.Path.{_≡_, refl, sym, _∙_, ap, subst}
@@ -97,9 +97,11 @@ module _ (watch : Watch) (event : Event) (read : FrameRead) (kept : Kept watch)
     own-later : nextDue after ≤ own
     own-later =
         subst (λ (then : Selector). nextDue then ≤ own)
-        (sym (ap (λ (step : Stepped). step .state) (stepRead-own state event read due (kept .calm) bound none soon free)))
+        (sym (ap (λ (step : Stepped). step .state)
+        (stepRead-own state event read due (kept .calm) bound none soon free)))
         (subst (λ (next : ℕ). next ≤ own) (sym (decided-due (ownTaken state event read)))
-        (put-least state (event .input) (event .time) (ownAfter state event read) (omega (arith, few, kept .calm .count)) few))
+        (put-least state (event .input) (event .time) (ownAfter state event read)
+        (omega (arith, few, kept .calm .count)) few))
 
     -- and nothing is due before the time that the watch keeps
     own-bound : lesser due own ≤ nextDue after

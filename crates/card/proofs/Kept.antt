@@ -1,4 +1,5 @@
--- Every card that events lead to passes the test for a kept card, and one that passes answers in range. Assumes nothing.
+-- Every card that events lead to passes the test for a kept card, and one that passes answers in range. Assumes
+-- nothing.
 use Prim.Native.Nat.{ℕ, zero, suc, _≤_, _<_}
 use mathlib.Core.Bool.{Bool, true, false, _&&_, true≢false}
 use mathlib.Core.List.{List, []}
@@ -76,7 +77,8 @@ number-cardOf number count due state = refl
 -- ---- a card that events lead to
 
 -- a state's time is below 2^48
-stepRead-below : (state : Selector) (event : Event) (frame : List ℕ) → (sequence : Sequence) → state ≡ stateAfter sequence
+stepRead-below : (state : Selector) (event : Event) (frame : List ℕ) → (sequence : Sequence)
+    → state ≡ stateAfter sequence
     → state .time < timeLimit
     → stepRead state event (readCode frame) .state .time < timeLimit
 unfolding atItsMoment decided
@@ -85,7 +87,8 @@ stepRead-below state event frame sequence is below =
     (λ none.
     let calm = subst Calm (sym is) (sequence-calm sequence) in
     let limit : event .time < timeLimit =
-    accepted-limit (limitsOf (state .profile)) (state .time) (kindAt (state .inputs) (event .input)) event (readCode frame) none in
+    accepted-limit (limitsOf (state .profile)) (state .time) (kindAt (state .inputs) (event .input)) event
+    (readCode frame) none in
     let there : ticked state (event .time) .time ≡ event .time = brought-time state event (readCode frame) calm none in
     accepted-or-not (lateNumber (ticked state (event .time)) event)
     (λ later. subst (λ (after : Stepped). after .state .time < timeLimit)
@@ -202,7 +205,11 @@ module _ (card : Card) (sound : cardSound card ≡ 1) where
   sound-inRange =
       let range = plainCard-inRange card (eventOf kindTick (card .time) 0 0) (Code 0) in
       let same = answer-alike (sameInputs (after .inputs) (card .inputs)) (sameAnswer (after .answer) (card .answer))
-      (eqb (after .time) (card .time)) (eqb (after .due) (card .due)) (eqb (after .mode) (card .mode)) (eqb (after .held) (card .held)) (eqb (after .switch) (card .switch)) (eqb (after .on) (card .on)) (eqb (after .selection) (card .selection)) (eqb (after .selected) (card .selected)) (eqb (after .option) (card .option)) (eqb (after .place) (card .place)) (eqb (after .marks) (card .marks)) (eqb (after .spare) (card .spare)) alike in
+      (eqb (after .time) (card .time)) (eqb (after .due) (card .due)) (eqb (after .mode) (card .mode))
+      (eqb (after .held) (card .held)) (eqb (after .switch) (card .switch)) (eqb (after .on) (card .on))
+      (eqb (after .selection) (card .selection)) (eqb (after .selected) (card .selected))
+      (eqb (after .option) (card .option)) (eqb (after .place) (card .place)) (eqb (after .marks) (card .marks))
+      (eqb (after .spare) (card .spare)) alike in
       let each = each-alike (eqb (after .answer .quality) (card .answer .quality))
       (eqb (after .answer .selected) (card .answer .selected)) (eqb (after .answer .state) (card .answer .state))
       (eqb (after .answer .switch) (card .answer .switch)) (eqb (after .answer .on) (card .answer .on)) same in

@@ -233,7 +233,8 @@ cardWith flat selection answer count due option place marks state =
       spare = 0;
     }
 
-pub cardOf-answered : (number count due : ℕ) (state : Selector) (flat : List CardInput) (selection : ℕ) (answer : Answer)
+pub cardOf-answered : (number count due : ℕ) (state : Selector) (flat : List CardInput) (selection : ℕ)
+    (answer : Answer)
     (option place marks : ℕ)
     → flat ≡ map flatInput (state .inputs) → selection ≡ isSelected (state .selection) → answer ≡ answerOf number state
     → option ≡ optionOf (state .profile) → place ≡ placeOf (state .profile) → marks ≡ marksOf (state .profile)
@@ -408,7 +409,8 @@ quickCard-at card number quick place zeroed at =
 module _ (card : Card) (event : Event) (read : FrameRead) (place : ℕ) (zeroed : CardInput)
     (at : StandsAt (card .inputs) (event .input) place) (quick : Quick)
     (q : quick
-    ≡ quickStep (getD (card .inputs) place zeroed) (card .answer) (profileHeld card) (card .time) (card .due) event read) where
+    ≡ quickStep (getD (card .inputs) place zeroed) (card .answer) (profileHeld card) (card .time) (card .due)
+    event read) where
   quick-here : quick
       ≡ quickStep (ownFlat card event) (card .answer) (profileHeld card) (card .time) (card .due) event read
   quick-here =

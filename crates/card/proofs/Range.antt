@@ -89,7 +89,8 @@ switchOf-on kind on =
     (λ there. rw there
     (go (eqb kind 1) (eqb kind 2) (omega (arith, ltb-false lastInput (on .0) there))))
   where
-    go : (forced manual : Bool) → on .0 < inputCount → On (cond forced (W.Forced on) (cond manual (W.Manual on) W.Nothing))
+    go : (forced manual : Bool) → on .0 < inputCount
+        → On (cond forced (W.Forced on) (cond manual (W.Manual on) W.Nothing))
     go true manual few = few
     go false manual few = kept-on manual (W.Manual on) few
 
@@ -147,7 +148,8 @@ servedFrom-named zero state count time named = moment-named state time named
 servedFrom-named (suc left) state count time named =
     byBool (leb (nextDue state) time)
     (λ e. rw e
-    (servedFrom-named left (State.tickedOnce state (nextDue state)) (count + 1) time (moment-named state (nextDue state) named)))
+    (servedFrom-named left (State.tickedOnce state (nextDue state)) (count + 1) time
+    (moment-named state (nextDue state) named)))
     (λ e. rw e (moment-named state time named))
 
 ticked-named : (state : Selector) (time : ℕ) → Named state → Named (ticked state time)
@@ -168,10 +170,12 @@ commanded-on kind number switch few on = go (eqb kind kindForced) (eqb kind kind
     go false false true = tt
     go false false false = on
 
-atItsMoment-named : (state : Selector) (event : Recorded) → event .input < inputCount → Named state → Named (atItsMoment state event)
+atItsMoment-named : (state : Selector) (event : Recorded) → event .input < inputCount → Named state
+    → Named (atItsMoment state event)
 unfolding atItsMoment
 atItsMoment-named state event few named =
-    decided-named (eventTaken state event) (commanded-on (event .kind) (event .input) (state .switch) few (named .switch))
+    decided-named (eventTaken state event)
+    (commanded-on (event .kind) (event .input) (state .switch) few (named .switch))
 
 -- A step on a state whose names are inputs leaves such a state.
 pub stepRead-named : (state : Selector) (event : Event) (read : FrameRead) → Named state
@@ -225,7 +229,9 @@ cardOf-inRange number count due state named =
     record {
       selected = selected-input (state .selection) (named .selection);
       on = switch-input (state .switch) (named .switch);
-      state = clockState-most (selectedCandidate (state .profile) (state .inputs) (state .mode) (state .selection) .usable) (state .held);
+      state =
+          clockState-most (selectedCandidate (state .profile) (state .inputs) (state .mode) (state .selection) .usable)
+          (state .held);
       switch = switch-kind (state .switch);
     }
 
@@ -239,7 +245,9 @@ isRanged-range : (card : Card) → isRanged (card .answer) ≡ true → InRange 
 unfolding isRanged
 isRanged-range card is =
     let told = card .answer in
-    let all = four (namesInput (told .selected)) (namesInput (told .on)) (leb (told .state) locked) (leb (told .switch) switchManual) is in
+    let all =
+    four (namesInput (told .selected)) (namesInput (told .on)) (leb (told .state) locked)
+    (leb (told .switch) switchManual) is in
     record {
       selected = ranged-input (told .selected) (all .0);
       on = ranged-input (told .on) (all .1);
@@ -287,7 +295,8 @@ wholeCard-inRange card event read =
     (takeStep-named (watchIn card) event read (selectorOf-named card))
 
 -- only on a card whose answer names what is there is an event quick
-quick-ranged : (flat : CardInput) (told : CardAnswer) (profile : Profile) (time due : ℕ) (event : Event) (read : FrameRead)
+quick-ranged : (flat : CardInput) (told : CardAnswer) (profile : Profile) (time due : ℕ) (event : Event)
+    (read : FrameRead)
     → quickStep flat told profile time due event read .is ≡ true
     → isRanged told ≡ true
 unfolding quickStep
@@ -300,12 +309,16 @@ unfolding eventCard
 eventCard-inRange card event read =
     let quick = quickStep (ownFlat card event) (card .answer) (profileHeld card) (card .time) (card .due) event read in
     byBool (quick .is)
-    (λ y. let range = isRanged-range card (quick-ranged (ownFlat card event) (card .answer) (profileHeld card) (card .time) (card .due) event read y) in
+    (λ y. let range =
+    isRanged-range card (quick-ranged (ownFlat card event) (card .answer) (profileHeld card) (card .time)
+    (card .due) event read y) in
     rw y (record { selected = range .selected; on = range .on; state = range .state; switch = range .switch }))
     (λ n. rw n (wholeCard-inRange card event read))
 
--- Whatever card came in, C may index by what it reads; and what is lent beside another event than a frame changes nothing.
-pub any-card : (card : Card) (kind time input argument : ℕ) (frame : List ℕ) → AnyCard card kind time input argument frame
+-- Whatever card came in, C may index by what it reads; and what is lent beside another event than a frame changes
+-- nothing.
+pub any-card : (card : Card) (kind time input argument : ℕ) (frame : List ℕ)
+    → AnyCard card kind time input argument frame
 unfolding stepCard
 any-card card kind time input argument frame =
     record {

@@ -33,7 +33,8 @@ passed : selfTest ≡ 1
 unfolding
     selfTest answeredRight isTold testedCard testFrame lentOctets
     stepCard eventCard quickStep isRanged wholeCard takeStep ownPut completed servedWatch dueAnew dueAfter
-    ownStep ownTake seenAlike isServed isCommand againOwn againInput againDue saysAgain isAgain readAgain codeAgain frameAgain
+    ownStep ownTake seenAlike isServed isCommand againOwn againInput againDue saysAgain isAgain readAgain
+    codeAgain frameAgain
     readFor freshCard cardOf selectorOf optionOf profileIn isSelected selectionOf switchOf flatInput inputOf
     writeAnswer frameOctets dataOctets headerOctets
     readCode frameNumber rightLength rightDestination rightProtocol rightOrganisation rightVersion rightTlv same
@@ -42,8 +43,10 @@ unfolding
     answerOf switchInput switchNumber selectedNumber clockQuality clockState selectedCandidate
     served servedFrom nextAmong nextOf frameDue timerDue ifLater sumOrNever lesser
     tickedOnce decided candidateFor decide isHeld isClockLocked selectedBy judged manualMayStand
-    isLike choose scanned offered seeded lowerAmong isLower isBetter isEligible candidateOf rankedQuality isAdmitted isUsable isPlaced rankOf
-    recordAfter takes afterEvent inputBroughtTo inputAtMoment forecast canExpire qualityNow settingsAfter heardAfter lineAfter equalCount
+    isLike choose scanned offered seeded lowerAmong isLower isBetter isEligible candidateOf rankedQuality isAdmitted
+    isUsable isPlaced rankOf
+    recordAfter takes afterEvent inputBroughtTo inputAtMoment forecast canExpire qualityNow settingsAfter heardAfter
+    lineAfter equalCount
     passedQuality broughtTo upBefore atMoment lastGood isUpAfter runStart rawAt isExpired
     saidIn qualityOfCode qualityOfWord saidBy limitsOf placeOf marksOf floorIn inputKindOf
 passed = refl

@@ -34,7 +34,8 @@ module _ (octets : ℕ) where
   pub lentOctets-most : lentOctets octets ≤ writtenLength
   unfolding lentOctets
   lentOctets-most =
-      byBool (ltb octets writtenLength) (λ short. rw short (omega (arith, ltb-true octets writtenLength short))) (λ long. rw long (omega arith))
+      byBool (ltb octets writtenLength) (λ short. rw short (omega (arith, ltb-true octets writtenLength short)))
+      (λ long. rw long (omega arith))
 
 pub ruleset lentOctets-laws = (lentOctets-short, lentOctets-whole)
 

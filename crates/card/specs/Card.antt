@@ -57,7 +57,8 @@ sendersOctets = 1544
 unfoldable pub freshCard : Profile → Card
 freshCard profile = cardOf accepted 0 (nextDue (freshSelector profile)) (freshSelector profile)
 
--- document 02, L10: "otherwise refusal 6 and no start": a fresh card of the profile, or the card as it was with that number
+-- document 02, L10: "otherwise refusal 6 and no start": a fresh card of the profile, or the card as it was with that
+-- number
 unfoldable pub startCard : Card → ℕ → ℕ → ℕ → Card
 startCard card option place marks =
     let profile = profileIn option place marks in

@@ -148,8 +148,8 @@ flatAnswer answer =
       on = answer .on;
     }
 
--- the card that holds a selector, with what is answered behind a number, a count of due moments, and a time before which
--- nothing is due
+-- the card that holds a selector, with what is answered behind a number, a count of due moments, and a time before
+-- which nothing is due
 unfoldable pub cardOf : ℕ → ℕ → ℕ → Selector → Card
 cardOf number count due state =
     record {

@@ -15,8 +15,8 @@ use Rattle.card.specs.declared.CardAnswer.{CardAnswer}
 use Rattle.card.specs.declared.self_test.TestLine.{TestLine}
 use Rattle.card.specs.Card.{freshCard, stepCard}
 
--- a line: kind, time, input, argument; a frame's code and how many octets are lent; the answer's number, selected input,
--- clock state and clock quality
+-- a line: kind, time, input, argument; a frame's code and how many octets are lent; the answer's number, selected
+-- input, clock state and clock quality
 abbrev line : ℕ → ℕ → ℕ → ℕ → ℕ → ℕ → ℕ → ℕ → ℕ → ℕ → TestLine
 line kind time input argument code octets number selected state quality =
     record {

@@ -1,5 +1,5 @@
-// What C calls, but for the senders: include/nurrispane.h. Pointers and numbers alone, so that a call
-// is the same to every C compiler; a card that is only read is lent by a pointer to const.
+// What C calls, but for the senders: include/nurrispane.h. Pointers and numbers alone, so that a
+// call is the same to every C compiler; a card that is only read is lent by a pointer to const.
 use crate::Card;
 use crate::CardCodes;
 use crate::CardFrame;
@@ -57,8 +57,8 @@ pub extern "C" fn nurrispane_senders_octets() -> u32
     SENDERS_OCTETS
 }
 
-// The power-on self-test, on a card of its own: 1 where it is passed, as it is where the machine does
-// what the code says; 0 where not.
+// The power-on self-test, on a card of its own: 1 where it is passed, as it is where the machine
+// does what the code says; 0 where not.
 #[no_mangle]
 pub extern "C" fn nurrispane_self_test() -> u32
     ensures { λ answer. ⌜ answer ≡ selfTest ⌝ }
@@ -66,8 +66,8 @@ pub extern "C" fn nurrispane_self_test() -> u32
     self_test()
 }
 
-// Starts a card with a profile, whatever it held: it is fresh then. Option II with a place above 8 is
-// refused with 6, and nothing starts: the card is kept but for the number in its answer.
+// Starts a card with a profile, whatever it held: it is fresh then. Option II with a place above 8
+// is refused with 6, and nothing starts: the card is kept but for the number in its answer.
 #[no_mangle]
 pub extern "C" fn nurrispane_fresh(card: &mut Card, option: u8, place: u8, marks: u16)
     ensures { λ _. ⌜ now (card .exit) ≡ startCard (now (card .entry)) option place marks ⌝ }
@@ -140,8 +140,8 @@ pub extern "C" fn nurrispane_is_sound(card: &Card) -> u32
     is_sound(held)
 }
 
-// What is known of one input: its qualities, whether it is eligible, when its timer and its frame end.
-// A number above 15 is told as no input, with 5.
+// What is known of one input: its qualities, whether it is eligible, when its timer and its frame
+// end. A number above 15 is told as no input, with 5.
 #[no_mangle]
 pub extern "C" fn nurrispane_input_status(card: &Card, input: u8, status: &mut CardStatus)
     ensures { λ _. ⌜ now (status .exit) ≡ cardStatus (now (card .entry)) input ⌝ }

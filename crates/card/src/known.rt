@@ -1,5 +1,5 @@
-// What is known of one input of a card: its raw and its passed quality, whether it is eligible, when
-// its timer and its frame end, and of its settings those that a choice looks at. Any card is
+// What is known of one input of a card: its raw and its passed quality, whether it is eligible,
+// when its timer and its frame end, and of its settings those that a choice looks at. Any card is
 // answered for, and any number of an input.
 use crate::Card;
 use crate::selector_of;
@@ -11,11 +11,11 @@ use status::input_status;
 ghost use mathlib.Core.Path.{_≡_};
 ghost use Rattle.card.specs.Status.{noStatus, cardStatus};
 
-// What is known of an input, as numbers: qualities by their numbers on paper, 1 for yes and 0 for no.
-// `timer` is when the hold-off of a failed run ends, or the wait of any other, needed or not; `frame`
-// when the last frame heard expires; both are 0 where nothing is still to end. `floor` is the floor
-// in force. For a number that is no input `number` is that of the refusal, and all else 0. In this
-// order C's layout has no gap.
+// What is known of an input, as numbers: qualities by their numbers on paper, 1 for yes and 0 for
+// no. `timer` is when the hold-off of a failed run ends, or the wait of any other, needed or not;
+// `frame` when the last frame heard expires; both are 0 where nothing is still to end. `floor` is
+// the floor in force. For a number that is no input `number` is that of the refusal, and all else
+// 0. In this order C's layout has no gap.
 #[repr(C)]
 pub struct CardStatus {
     pub timer: u64,

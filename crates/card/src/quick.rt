@@ -1,6 +1,7 @@
-// One event on a card. One that says again what its own input heard before, with nothing due, touches
-// that input alone, and one that is refused at once nothing: such an event is quick, what it writes is
-// little, and nothing else of the card is looked at. Any other is taken by the card's watch.
+// One event on a card. One that says again what its own input heard before, with nothing due,
+// touches that input alone, and one that is refused at once nothing: such an event is quick, what
+// it writes is little, and nothing else of the card is looked at. Any other is taken by the card's
+// watch.
 use crate::Card;
 use crate::CardAnswer;
 use crate::CardInput;

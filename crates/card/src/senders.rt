@@ -98,9 +98,9 @@ pub extern "C" fn nurrispane_fresh_senders(senders: &mut CardSenders)
     *senders = new;
 }
 
-// Asks a port's sender at a time, with the card's state: the senders after it, with the answer, take
-// the place of those before it. An answered frame stands in the first 60 octets of `buffer`; all
-// else in it is kept.
+// Asks a port's sender at a time, with the card's state: the senders after it, with the answer,
+// take the place of those before it. An answered frame stands in the first 60 octets of `buffer`;
+// all else in it is kept.
 #[no_mangle]
 pub extern "C" fn nurrispane_ask(
     senders: &mut CardSenders,

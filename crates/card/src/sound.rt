@@ -1,9 +1,9 @@
 // Whether a kept card can have come from a fresh one by events, as far as is looked: a tick at the
 // card's own time is accepted, and leaves every number of it but for the answer's number and the
-// count of due moments. So its time is below 2^48; each yes or no is 0 or 1, each kind of input 0 to 2
-// and what is spare 0; its option is 1 or 2, and option I has neither place nor marks; what it names
-// are inputs; nothing that was due by its time would change it; its choice is made; and its answer is
-// that of its state. How large a setting, a quality or a place may be is not looked at.
+// count of due moments. So its time is below 2^48; each yes or no is 0 or 1, each kind of input 0
+// to 2 and what is spare 0; its option is 1 or 2, and option I has neither place nor marks; what it
+// names are inputs; nothing that was due by its time would change it; its choice is made; and its
+// answer is that of its state. How large a setting, a quality or a place may be is not looked at.
 use crate::Card;
 use crate::CardAnswer;
 use crate::CardInput;

@@ -55,7 +55,8 @@ unfoldable pub isEligible : Candidate → Bool
 isEligible candidate = candidate .admitted && candidate .usable
 
 -- the same, said of one input; `eligible-exact`: `isEligible (candidateOf ..)` exactly where it holds
-pub record EligibleCandidate (place floor : ℕ) (passed : Quality) (priority : Priority) (locked mode : Bool) : Type 0 where
+pub record EligibleCandidate (place floor : ℕ) (passed : Quality) (priority : Priority)
+    (locked mode : Bool) : Type 0 where
   pub notOff : priority .0 ≡ 0 → ⊥
   pub notLocked : locked ≡ false
   pub notFailed : passed .0 ≡ failed .0 → ⊥

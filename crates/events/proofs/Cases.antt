@@ -28,8 +28,10 @@ unfolding
     lateRefusal isForcedSwitch earlyRefusal frameRefusal isWrongKind firstThatApplies isInputOut isArgumentOut rowOf
     served servedFrom nextAmong nextOf frameDue timerDue ifLater sumOrNever lesser
     tickedOnce decided candidateFor decide isHeld isClockLocked selectedBy judged manualMayStand
-    choose scanned offered seeded lowerAmong isLower isBetter isEligible candidateOf rankedQuality isAdmitted isUsable isPlaced rankOf
-    recordAfter takes afterEvent inputBroughtTo inputAtMoment forecast canExpire qualityNow settingsAfter heardAfter lineAfter equalCount
+    choose scanned offered seeded lowerAmong isLower isBetter isEligible candidateOf rankedQuality isAdmitted isUsable
+    isPlaced rankOf
+    recordAfter takes afterEvent inputBroughtTo inputAtMoment forecast canExpire qualityNow settingsAfter heardAfter
+    lineAfter equalCount
     passedQuality broughtTo upBefore atMoment lastGood isUpAfter runStart rawAt isExpired
     readCode frameNumber rightLength rightDestination rightProtocol rightOrganisation rightVersion rightTlv same
     saidIn qualityOfCode qualityOfWord saidBy limitsOf placeOf floorIn inputKindOf allFollowing

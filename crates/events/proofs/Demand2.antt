@@ -43,7 +43,8 @@ module _ (state : Selector) (history : History) (made : List Made) (agrees : Agr
       (λ j. candidateAt (agrees .profile j) (agrees .inputs j) (agrees .mode j) number) ∙
       ap (candidateFor (profileOf history) (modeOn history))
       (getD-ports (λ (other : ℕ). recordAfter other history) freshInput number inside) ∙
-      candidate-recorded number (timeOf history) history (recordAfter number history) (passed-now number history (agrees .ordered))
+      candidate-recorded number (timeOf history) history (recordAfter number history)
+      (passed-now number history (agrees .ordered))
       (settings-recalled number history) ∙
       ap (λ (time : ℕ). candidateBy history time number) (sym (agrees .time))
 
@@ -72,7 +73,8 @@ module _ (sequence : Sequence) where
       (selected-inside after (recorded sequence) (madeIn sequence) agreed number x) ∙
       ap (λ (time : ℕ). candidateBy (recorded sequence) time (number .0)) (agreed .time)
 
-  selected-by : selectedCandidate (after .profile) (after .inputs) (after .mode) (after .selection) ≡ candidateSelected (pastOf sequence)
+  selected-by : selectedCandidate (after .profile) (after .inputs) (after .mode) (after .selection)
+      ≡ candidateSelected (pastOf sequence)
   selected-by = selected-shown (after .selection) refl ∙ ap (shown (pastOf sequence)) (agreed .selection)
 
   quality-by : qualityOf after ≡ qualityBy (pastOf sequence)
@@ -119,11 +121,13 @@ module _ (sequence : Sequence) where
       (λ j. rule (agreed .mode j) (sending-at port inside j) (eqb (selectedNumber (agreed .selection j)) port)
       (cond (isMarked (marksOf (agreed .profile j)) port) (sign (agreed .profile j) (toldBy true (quality-by j)))
       (sign (agreed .profile j) (quality-by j)))) ∙
-      ap (rule (modeOn (recorded sequence)) (isSending port (recorded sequence)) (isSelectedPort (pastOf sequence) port))
+      ap (rule (modeOn (recorded sequence)) (isSending port (recorded sequence))
+      (isSelectedPort (pastOf sequence) port))
       (told-by (sign profile) (isMarked (marksOf profile) port) (qualityBy (pastOf sequence)))
 
   code-by : (port : ℕ) → port < inputCount
-      → signFor outgoingCode (after .inputs) (after .mode) (selectedNumber (after .selection)) (marksOf (after .profile))
+      → signFor outgoingCode (after .inputs) (after .mode) (selectedNumber (after .selection))
+      (marksOf (after .profile))
       (codeOfQuality (after .profile) (qualityOf after))
       (codeOfQuality (after .profile) (toldBy true (qualityOf after)))
       port ≡
@@ -132,7 +136,8 @@ module _ (sequence : Sequence) where
   code-by port inside = sign-by outgoingCode codeOfQuality port inside
 
   word-by : (port : ℕ) → port < inputCount
-      → signFor outgoingWord (after .inputs) (after .mode) (selectedNumber (after .selection)) (marksOf (after .profile))
+      → signFor outgoingWord (after .inputs) (after .mode) (selectedNumber (after .selection))
+      (marksOf (after .profile))
       (wordOfQuality (qualityOf after))
       (wordOfQuality (toldBy true (qualityOf after)))
       port ≡

@@ -39,7 +39,8 @@ module _ (sequence : Sequence) where
   here = sequence-agrees sequence .time
 
   -- whether a millisecond counts as due is one more due moment or none
-  counted : (count : ℕ) → dueIn (suc count) state ≡ dueIn count state + one (isDue (recorded sequence) (suc (last + count)))
+  counted : (count : ℕ)
+      → dueIn (suc count) state ≡ dueIn count state + one (isDue (recorded sequence) (suc (last + count)))
   unfolding dueIn
   counted count =
       ap (λ (test : Bool). dueIn count state + one test)

@@ -1,6 +1,6 @@
--- Document 02, L4: the ceiling of 48 is reached. Sixteen Ethernet inputs, good one after the other with quality mode off;
--- a frame for each at 299,000 and on; then mode on. A tick at 700,000 meets sixteen ends of a wait (300,000 and on),
--- sixteen expiries (304,000 and on) and sixteen ends of a hold-off (304,300 and on). Assumes nothing.
+-- Document 02, L4: the ceiling of 48 is reached. Sixteen Ethernet inputs, good one after the other with quality mode
+-- off; a frame for each at 299,000 and on; then mode on. A tick at 700,000 meets sixteen ends of a wait (300,000 and
+-- on), sixteen expiries (304,000 and on) and sixteen ends of a hold-off (304,300 and on). Assumes nothing.
 use Prim.Native.Nat.{ℕ, _+_}
 use mathlib.Core.List.{List, [], _∷_, _++_, map}
 use mathlib.Core.Path.{_≡_}

@@ -33,9 +33,9 @@ pub record Admitted (history : History) (number : ℕ) : Type 0 where
   pub notOff : priorityOf number history ≢ 0
   pub notLocked : isLockedOut number history ≡ false
 
--- "Eligible: priority not 0, not locked, passed quality not 7"; document 02, L9: "With quality mode on, eligible now asks
--- passed quality from 1 to the input's floor"; and L10: PROV that is placed "is usable if that number is smaller than the
--- input's floor"
+-- "Eligible: priority not 0, not locked, passed quality not 7"; document 02, L9: "With quality mode on, eligible now
+-- asks passed quality from 1 to the input's floor"; and L10: PROV that is placed "is usable if that number is smaller
+-- than the input's floor"
 pub record Eligible (history : History) (time number : ℕ) : Type 0 where
   pub admitted : Admitted history number
   pub quality : Quality

@@ -27,8 +27,8 @@ shown past (S.At number) = candidateBy (past .history) (timeOf (past .history)) 
 abbrev pub candidateSelected : Past → Candidate
 candidateSelected past = shown past (decidedBy (past .made) .selection)
 
--- "Clock quality: 0 with mode off; the passed quality when locked; otherwise 4"; in option II "holdover and free run tell
--- 6"
+-- "Clock quality: 0 with mode off; the passed quality when locked; otherwise 4"; in option II "holdover and free run
+-- tell 6"
 abbrev pub qualityBy : Past → Quality
 qualityBy past =
     clockQuality (limitsOf (profileOf (past .history)) .own) (modeOn (past .history)) (candidateSelected past)

@@ -50,4 +50,5 @@ frameCases =
 
 -- each frame of the table reads as its row says
 pub record ReadCases : Type 0 where
-  pub read : map (λ (case : FrameCase). readCode (case .frame)) frameCases ≡ map (λ (case : FrameCase). case .answer) frameCases
+  pub read : map (λ (case : FrameCase). readCode (case .frame)) frameCases
+      ≡ map (λ (case : FrameCase). case .answer) frameCases

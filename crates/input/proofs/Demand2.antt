@@ -141,14 +141,16 @@ inputAtMoment-inputBroughtTo input history time ordered later =
 -- an event on another input that leaves the mode as it is
 pub takes-other : (input : ℕ) (event : Recorded) (history : History) → Ordered history → timeOf history ≤ event .time
     → eqb (event .input) input ≡ false → modeOn (event following history) ≡ modeOn history
-    → recordAfter input (event following history) ≡ inputBroughtTo (recordAfter input history) (event .time) (modeOn history)
+    → recordAfter input (event following history)
+    ≡ inputBroughtTo (recordAfter input history) (event .time) (modeOn history)
 unfolding recordAfter takes
 takes-other input event history ordered later other mode =
     rw (other, mode) (inputAtMoment-inputBroughtTo input history (event .time) ordered later)
 
 -- a tick is an event that nothing hears
 pub takes-tick : (input : ℕ) (history : History) (time : ℕ) → Ordered history → timeOf history ≤ time
-    → recordAfter input (tickEvent time following history) ≡ inputBroughtTo (recordAfter input history) time (modeOn history)
+    → recordAfter input (tickEvent time following history)
+    ≡ inputBroughtTo (recordAfter input history) time (modeOn history)
 unfolding recordAfter takes afterEvent heardAfter settingsAfter lastArgument isOn
 takes-tick input history time ordered later =
     byBool (eqb 0 input)
@@ -164,7 +166,8 @@ pub demand-2-passed-quality : (input : ℕ) (history : History) (time : ℕ) →
 unfolding passedAt
 demand-2-passed-quality input history time ordered later =
     record {
-      passes = rw (passed-inputBroughtTo input history time ordered later) (passed-exact (momentsUntil input history time));
+      passes =
+          rw (passed-inputBroughtTo input history time ordered later) (passed-exact (momentsUntil input history time));
       only = λ quality says.
           passed-unique (momentsUntil input history time) quality says ∙
           sym (passed-inputBroughtTo input history time ordered later);

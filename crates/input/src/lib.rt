@@ -2,8 +2,8 @@
 // quality".
 //
 // An event's method is told the time and the quality mode in force after the event, takes the
-// event's own moment, and hands the record back; `brought_to` brings it to a time at which no event has
-// come yet. Every time and every setting is safe, and no public function has a `requires`.
+// event's own moment, and hands the record back; `brought_to` brings it to a time at which no event
+// has come yet. Every time and every setting is safe, and no public function has a `requires`.
 use numbers::FAILED;
 use numbers::InputKind;
 use numbers::NOT_TOLD;

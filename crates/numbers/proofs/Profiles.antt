@@ -122,7 +122,8 @@ module _ (told : Quality) where
 pub ruleset numberInOne-laws = (numberInOne-invalid, numberInOne-failed, numberInOne-itself)
 
 module _ (profile : Profile) (told : Quality) where
-  pub paperNumber-one : (number : ℕ) → profile ≡ P.OptionOne → number ≡ numberInOne told → number ≡ paperNumber profile told
+  pub paperNumber-one : (number : ℕ) → profile ≡ P.OptionOne → number ≡ numberInOne told
+      → number ≡ paperNumber profile told
   unfolding paperNumber
   paperNumber-one number p n = rw (p, n)
 

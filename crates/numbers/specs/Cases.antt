@@ -24,8 +24,8 @@ coded = prs ∷ stu ∷ st2 ∷ tnc ∷ st3e ∷ st3 ∷ sic ∷ prov ∷ dus �
 abbrev pub toldTwo : List Quality
 toldTwo = st4 ∷ coded
 
--- document 01's table, by its own numbers: each code reads as its row says, 0000 as 6, and each of the five writes a code
--- that reads back as itself
+-- document 01's table, by its own numbers: each code reads as its row says, 0000 as 6, and each of the five writes a
+-- code that reads back as itself
 pub record CodeTable : Type 0 where
   pub read : map (λ (code : ℕ). paperNumber P.OptionOne (qualityOfCode P.OptionOne code)) codes ≡
       6 ∷ 6 ∷ 1 ∷ 6 ∷ 2 ∷ 6 ∷ 6 ∷ 6 ∷ 3 ∷ 6 ∷ 6 ∷ 4 ∷ 6 ∷ 6 ∷ 6 ∷ 5 ∷ []

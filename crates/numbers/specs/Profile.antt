@@ -27,8 +27,8 @@ placeOf (P.OptionTwo place marks) = place
 abbrev pub lastPlace : ℕ
 lastPlace = 8
 
--- "(0 none, 1 to 8; otherwise refusal 6 and no start)": the number that a start of a profile is answered with; of option
--- I it is 0
+-- "(0 none, 1 to 8; otherwise refusal 6 and no start)": the number that a start of a profile is answered with; of
+-- option I it is 0
 unfoldable pub startNumber : Profile → ℕ
 startNumber profile = cond (ltb lastPlace (placeOf profile)) argumentOutOfRange accepted
 

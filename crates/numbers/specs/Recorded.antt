@@ -5,8 +5,8 @@ use Rattle.numbers.specs.declared.Profile.{Profile}
 use Rattle.numbers.specs.declared.Quality.{Quality}
 use Rattle.numbers.specs.Codes.{saidIn}
 
--- an event as it is recorded: a frame's argument is the code that it carried, and a report has the quality that it says;
--- any other says nothing, 0
+-- an event as it is recorded: a frame's argument is the code that it carried, and a report has the quality that it
+-- says; any other says nothing, 0
 pub record Recorded : Type 0 where
   pub kind : ℕ
   pub time : ℕ

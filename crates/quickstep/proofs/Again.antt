@@ -47,7 +47,8 @@ code-any : (framed : ℕ) (frame line : Quality) (last count : ℕ) (good : Bool
 unfolding heardAfter equalCount lineAfter
 code-any framed frame line last count good said time isGood three told = rw (isGood, three, told, eq-eqb last last refl)
 
-frame-any : (framed : ℕ) (frame line : Quality) (last count : ℕ) (good : Bool) (argument : ℕ) (said : Quality) (time : ℕ)
+frame-any : (framed : ℕ) (frame line : Quality) (last count : ℕ) (good : Bool) (argument : ℕ)
+    (said : Quality) (time : ℕ)
     → good ≡ true → frame ≡ said
     → heardAfter (heardOf framed frame line last count good) kindFrame argument said time
     ≡ heardOf time frame line last count good
@@ -109,7 +110,8 @@ code-again input at argument said time mode settled same isGood three told =
     ap (λ (c : ℕ). heardAfter h kindLineCode c said time) same ∙
     code-any (h .framed) (h .frame) (h .line) (h .last) (h .count) (h .signal) said time isGood three told
     in
-    ap (λ (x : Heard). inputAtMoment (record { heard = x; run = input .run; settings = input .settings }) time mode false) heard ∙
+    ap (λ (x : Heard). inputAtMoment (record { heard = x; run = input .run; settings = input .settings }) time mode
+    false) heard ∙
     ap (λ (run : Run). withRun input run) (atMoment-settled (input .run) (forecast input mode) time settled)
 
 -- a frame of the same quality comes again in a run that is not failed
@@ -121,7 +123,8 @@ frame-again : (input : Input) (at argument : ℕ) (said : Quality) (time : ℕ) 
 unfolding inputAfter heldArgument isHeldInByte afterEvent settingsAfter inputAtMoment forecast qualityNow canExpire
 frame-again input at argument said time mode settled isGood told runs =
     let h = input .heard in
-    ap (λ (x : Heard). inputAtMoment (record { heard = x; run = input .run; settings = input .settings }) time mode false)
+    ap (λ (x : Heard). inputAtMoment (record { heard = x; run = input .run; settings = input .settings })
+    time mode false)
     (frame-any (h .framed) (h .frame) (h .line) (h .last) (h .count) (h .signal) argument said time isGood told) ∙
     ap (λ (run : Run). withRun (framedInput input time) run)
     (atMoment-settled (input .run) (forecast (framedInput input time) mode) time

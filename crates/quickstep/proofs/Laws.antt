@@ -53,7 +53,8 @@ module _ (inputs : List Input) (mode : Bool) (last due time : ℕ) where
   unfolding dueAnew
   dueAnew-before h = rw (lt-ltb _ _ h)
 
-  pub dueAnew-come : (next : ℕ) → due ≤ time → next ≡ nextOfAll inputs mode last → next ≡ dueAnew inputs mode last due time
+  pub dueAnew-come : (next : ℕ) → due ≤ time → next ≡ nextOfAll inputs mode last
+      → next ≡ dueAnew inputs mode last due time
   unfolding dueAnew
   dueAnew-come next h n = n ∙ (rw (le-ltb _ _ h))
 
@@ -197,7 +198,8 @@ module _ (before : Input) (profile : Profile) (event : Event) (read : FrameRead)
           (λ y. rw (isKind, le-leb _ _ inside, none, r, y))
           (λ n. rw (isKind, le-leb _ _ inside, none, r, n))
 
-      module _ (code : ℕ) (r : read ≡ Code code) (takes : Bool) (is : takes ≡ takesFrames (before .settings .kind)) where
+      module _ (code : ℕ) (r : read ≡ Code code) (takes : Bool)
+          (is : takes ≡ takesFrames (before .settings .kind)) where
         pub repeats-frame : (answer : Bool) → takes ≡ true
             → answer ≡ frameAgain profile (before .heard) (before .run .failed) code
             → answer ≡ repeats before profile event read
@@ -266,11 +268,19 @@ module _ (before : Input) (profile : Profile) (time due : ℕ) (event : Event) (
 
   -- the tests by kind are those of the rows, and of what is said again
   module _ (later : time ≤ event .time) (sooner : event .time < due) (below : event .time < timeLimit) where
-    asked-code : event .kind ≡ kindLineCode → repeats before profile event read ≡ saysAgain before profile time due event read
-    unfolding repeats saysAgain isAgain earlyRefusal firstThatApplies rowOf isArgumentOut isInputOut isWrongKind frameRefusal
+    asked-code : event .kind ≡ kindLineCode
+        → repeats before profile event read ≡ saysAgain before profile time due event read
+    unfolding repeats saysAgain isAgain earlyRefusal firstThatApplies rowOf isArgumentOut isInputOut isWrongKind
+        frameRefusal
     asked-code k =
         byBool (ltb 15 (event .input))
-        (λ y. rw (k, lt-leb timeLimit (event .time) below, le-ltb (event .time) time later, y, lt-leb _ _ (ltb-true _ _ y)))
+        (λ y. rw (
+          k,
+          lt-leb timeLimit (event .time) below,
+          le-ltb (event .time) time later,
+          y,
+          lt-leb _ _ (ltb-true _ _ y),
+        ))
         (λ inside. byBool (ltb 15 (event .argument))
         (λ y. rw (
           k,
@@ -327,7 +337,8 @@ module _ (before : Input) (profile : Profile) (time due : ℕ) (event : Event) (
         → event .argument ≡ 0
         → takesFrames (before .settings .kind) ≡ true
         → repeats before profile event read ≡ saysAgain before profile time due event read
-    unfolding repeats saysAgain isAgain readAgain earlyRefusal firstThatApplies rowOf isArgumentOut isInputOut isWrongKind frameRefusal
+    unfolding repeats saysAgain isAgain readAgain earlyRefusal firstThatApplies rowOf isArgumentOut isInputOut
+        isWrongKind frameRefusal
     asked-read k (Code code) r inside none y =
         rw (
           k,
@@ -342,11 +353,19 @@ module _ (before : Input) (profile : Profile) (time due : ℕ) (event : Event) (
         )
     asked-read k (Refused number) r inside none y = asked-refused k number r
 
-    asked-frame : event .kind ≡ kindFrame → repeats before profile event read ≡ saysAgain before profile time due event read
-    unfolding repeats saysAgain isAgain earlyRefusal firstThatApplies rowOf isArgumentOut isInputOut isWrongKind frameRefusal
+    asked-frame : event .kind ≡ kindFrame
+        → repeats before profile event read ≡ saysAgain before profile time due event read
+    unfolding repeats saysAgain isAgain earlyRefusal firstThatApplies rowOf isArgumentOut isInputOut isWrongKind
+        frameRefusal
     asked-frame k =
         byBool (ltb 15 (event .input))
-        (λ y. rw (k, lt-leb timeLimit (event .time) below, le-ltb (event .time) time later, y, lt-leb _ _ (ltb-true _ _ y)))
+        (λ y. rw (
+          k,
+          lt-leb timeLimit (event .time) below,
+          le-ltb (event .time) time later,
+          y,
+          lt-leb _ _ (ltb-true _ _ y),
+        ))
         (λ inside. byBool (eqb (event .argument) 0)
         (λ none. byBool (takesFrames (before .settings .kind))
         (λ y. asked-read k read refl inside (eqb-true (event .argument) 0 none) y)
@@ -370,8 +389,10 @@ module _ (before : Input) (profile : Profile) (time due : ℕ) (event : Event) (
           lt-ltb 0 (event .argument) (omega (arith, eqb-false (event .argument) 0 some)),
         )))
 
-    asked-tick : event .kind ≡ kindTick → repeats before profile event read ≡ saysAgain before profile time due event read
-    unfolding repeats saysAgain isAgain earlyRefusal firstThatApplies rowOf isArgumentOut isInputOut isWrongKind frameRefusal
+    asked-tick : event .kind ≡ kindTick
+        → repeats before profile event read ≡ saysAgain before profile time due event read
+    unfolding repeats saysAgain isAgain earlyRefusal firstThatApplies rowOf isArgumentOut isInputOut isWrongKind
+        frameRefusal
     asked-tick k =
         byBool (eqb (event .input) 0)
         (λ inside. byBool (eqb (event .argument) 0)
@@ -408,7 +429,8 @@ module _ (before : Input) (profile : Profile) (time due : ℕ) (event : Event) (
             → eqb (event .kind) kindFrame ≡ false
             → repeats before profile event read ≡ saysAgain before profile time due event read
         other t c f =
-            byBool (eqb earlyOwn accepted) (λ y. rw (t, c, f, y, lt-ltb (event .time) due sooner)) (λ n. rw (t, c, f, n))
+            byBool (eqb earlyOwn accepted) (λ y. rw (t, c, f, y, lt-ltb (event .time) due sooner))
+            (λ n. rw (t, c, f, n))
 
 pub ruleset saysAgain-laws = (saysAgain-earlier, saysAgain-due, saysAgain-late, saysAgain-repeats)
 
@@ -453,7 +475,8 @@ pub ruleset ownTake-laws = (ownTake-alike, ownTake-choice)
 
 -- ---- ownStep
 
-module _ (before : Input) (profile : Profile) (mode : Bool) (time due : ℕ) (event : Event) (read : FrameRead) (early : ℕ)
+module _ (before : Input) (profile : Profile) (mode : Bool) (time due : ℕ) (event : Event) (read : FrameRead)
+    (early : ℕ)
     (e : early ≡ earlyRefusal (limitsOf profile) time (before .settings .kind) event read) where
   pub ownStep-refused : (early ≡ accepted → ⊥)
       → ownOf before time due early Nothing ≡ ownStep before profile mode time due event read

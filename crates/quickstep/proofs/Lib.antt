@@ -1,6 +1,6 @@
--- `Again`: what is said again changes next to nothing. `Due`: a time before which nothing is due. `Step`: the plain step
--- before anything is due. `Laws`: the code's definitions, way by way. `Right`: a watch has the state, the answers and the
--- counts of the plain step.
+-- `Again`: what is said again changes next to nothing. `Due`: a time before which nothing is due. `Step`: the plain
+-- step before anything is due. `Laws`: the code's definitions, way by way. `Right`: a watch has the state, the answers
+-- and the counts of the plain step.
 pub mod Again
 pub mod Due
 pub mod Step

@@ -59,7 +59,8 @@ numbered-answer number other state = refl
 
 -- ---- a watch
 
--- its state leaves nothing to be done, nothing is due before its time, and its answer, but for the number, is the state's
+-- its state leaves nothing to be done, nothing is due before its time, and its answer, but for the number, is the
+-- state's
 pub record Kept (watch : Watch) : Type 0 where
   pub calm : Calm (watch .state)
   pub due : watch .due ≤ nextDue (watch .state)
@@ -126,7 +127,8 @@ module _ (watch : Watch) (event : Event) (read : FrameRead) (kept : Kept watch) 
   unfolding takeStep ownPut completed ownStep
   right-refused given =
       rw (own-early, ne-eqb _ _ given, put-back)
-      (right-by plain state due (earlyNumber state event read) 0 (numbered (earlyNumber state event read) (watch .answer))
+      (right-by plain state due (earlyNumber state event read) 0
+      (numbered (earlyNumber state event read) (watch .answer))
       (kept .calm)
       bound
       (kept .told (earlyNumber state event read))
@@ -205,7 +207,8 @@ module _ (watch : Watch) (event : Event) (read : FrameRead) (kept : Kept watch) 
     unfolding takeStep ownPut completed servedWatch ownStep
     right-served serves =
         rw (own-early, none, serves, put-back)
-        (right-by plain (plain .state) (dueAfter due (event .time) (plain .state)) (plain .number) (plain .count) _ calm-after
+        (right-by plain (plain .state) (dueAfter due (event .time) (plain .state)) (plain .number)
+        (plain .count) _ calm-after
         (dueAfter-bound due (event .time) (plain .state))
         refl
         refl)
@@ -343,7 +346,8 @@ fresh-kept profile =
 -- a fresh input has no good signal, so only a tick says again
 fresh-failing : (profile : Profile) (event : Event) → ownAt (freshSelector profile) event .heard .signal ≡ false
 fresh-failing profile event =
-    every-at (λ (input : Input). input .heard .signal ≡ false) (freshSelector profile .inputs) (ownPlace event) freshInput
+    every-at (λ (input : Input). input .heard .signal ≡ false) (freshSelector profile .inputs)
+    (ownPlace event) freshInput
     (every-replicate (λ (input : Input). input .heard .signal ≡ false) 16 freshInput refl)
     (mod-lt (event .input) (omega arith))
 
@@ -404,8 +408,8 @@ sequence-right (given following earlier) =
       right .kept,
     )
 
--- after any sequence of events from a fresh start, refused ones included, a watch has the state, the answer and the count
--- of the plain step
+-- after any sequence of events from a fresh start, refused ones included, a watch has the state, the answer and the
+-- count of the plain step
 pub watch-right : (sequence : Sequence) → WatchRight sequence
 unfolding watchAfter stateAfter numberAfter countAfter step
 watch-right sequence =

@@ -102,8 +102,11 @@ module _ (state : Selector) (event : Event) (input : Input) where
         → candidateAt (state .profile) (set (state .inputs) (event .input) input) (state .mode) number
         ≡ candidateAt (state .profile) (state .inputs) (state .mode) number
     candidate-same number =
-        sym (List·getD-map (candidateFor (state .profile) (state .mode)) (set (state .inputs) (event .input) input) number freshInput)
-        ∙ ap (λ (candidates : List Candidate). getD candidates number (candidateFor (state .profile) (state .mode) freshInput))
+        sym (List·getD-map (candidateFor (state .profile) (state .mode)) (set (state .inputs) (event .input) input)
+        number freshInput)
+        ∙
+        ap (λ (candidates : List Candidate). getD candidates number
+        (candidateFor (state .profile) (state .mode) freshInput))
         candidates-same
         ∙ List·getD-map (candidateFor (state .profile) (state .mode)) (state .inputs) number freshInput
 
@@ -144,9 +147,11 @@ module _ (kind : ℕ) (free : isCommand kind ≡ false) where
       (eqb kind kindQualityMode ≡ false)
   unfolding isCommand
   uncommanding =
-      none-of-four (eqb kind kindForced) (eqb kind kindManual) (eqb kind kindClearSwitch) (eqb kind kindQualityMode) free
+      none-of-four (eqb kind kindForced) (eqb kind kindManual) (eqb kind kindClearSwitch)
+      (eqb kind kindQualityMode) free
 
-module _ (state : Selector) (event : Event) (read : FrameRead) (due : ℕ) (calm : Calm state) (bound : due ≤ nextDue state)
+module _ (state : Selector) (event : Event) (read : FrameRead) (due : ℕ) (calm : Calm state)
+    (bound : due ≤ nextDue state)
     (none : earlyNumber state event read ≡ accepted) where
   pub later : state .time ≤ event .time
   later = not-before state event read calm none
@@ -186,7 +191,8 @@ module _ (state : Selector) (event : Event) (read : FrameRead) (due : ℕ) (calm
     atItsMoment-own =
         let four = uncommanding (event .kind) free in rw (four .0, four .1, four .2, four .3)
 
-    -- COMMANDS NOTHING, and nothing is due: the plain step serves nothing, the own input takes the event, a choice is made.
+    -- COMMANDS NOTHING, and nothing is due: the plain step serves nothing, the own input takes the event, a choice is
+    -- made.
     pub stepRead-own : stepRead state event read ≡ stepped accepted 0 (decided (ownTaken state event read))
     stepRead-own =
         stepRead-taken state event read none unbarred
@@ -194,7 +200,9 @@ module _ (state : Selector) (event : Event) (read : FrameRead) (due : ℕ) (calm
         (λ (count : ℕ). stepped accepted count
         (atItsMoment (ticked state (event .time)) (recordedEvent (ticked state (event .time) .profile) event read)))
         none-served
-        ∙ ap (λ (then : Selector). stepped accepted 0 (atItsMoment then (recordedEvent (then .profile) event read))) brought
+        ∙
+        ap (λ (then : Selector). stepped accepted 0 (atItsMoment then (recordedEvent (then .profile) event read)))
+        brought
         ∙ ap (stepped accepted 0) atItsMoment-own
 
     -- the event's own input leaves nothing to be done at its time
@@ -213,7 +221,8 @@ module _ (state : Selector) (event : Event) (read : FrameRead) (due : ℕ) (calm
       ∙ ap (λ (input : Input). stepped accepted 0 (decided (ownWith state event input)))
       (again-input (ownBefore state event) (state .profile) event (state .mode) (settled sooner free) read again)
       ∙ ap (stepped accepted 0)
-      (decided-same state event (againInput (ownBefore state event) (event .kind) (event .time)) (again-same state event) calm)
+      (decided-same state event (againInput (ownBefore state event) (event .kind) (event .time))
+      (again-same state event) calm)
 
 -- ---- the time after any event that is not refused at once
 

@@ -1,5 +1,5 @@
--- What any event makes of its own input, so that an event that touches one input need not carry sixteen, and what is left
--- to do. Cited by `src/lib.rt`.
+-- What any event makes of its own input, so that an event that touches one input need not carry sixteen, and what is
+-- left to do. Cited by `src/lib.rt`.
 -- Assumes nothing.
 use Prim.Native.Nat.{ℕ, _%_, _<_}
 use mathlib.Core.Bool.{Bool, not, _||_, cond}

@@ -1,5 +1,5 @@
--- A watch after any sequence of events from a fresh start, refused ones included; and that its state, its answers and its
--- counts are those of the plain step.
+-- A watch after any sequence of events from a fresh start, refused ones included; and that its state, its answers and
+-- its counts are those of the plain step.
 -- Assumes nothing.
 use Prim.Native.Nat.{_≤_}
 use mathlib.Core.Path.{_≡_}

@@ -61,8 +61,8 @@ movedTo state inputs time =
       held = state .held;
     }
 
--- a time before which nothing is due, at an event: once it has come, when something is next due of the inputs, later than
--- their time
+-- a time before which nothing is due, at an event: once it has come, when something is next due of the inputs, later
+-- than their time
 unfoldable pub dueAnew : List Input → Bool → ℕ → ℕ → ℕ → ℕ
 dueAnew inputs mode last due time = cond (ltb time due) due (nextOfAll inputs mode last)
 

@@ -127,7 +127,8 @@ module _ (senders : Senders) (question : Question) (before : Questions)
   pub heartbeat-refused : (numberOver before question ≡ accepted → ⊥)
       → asked senders question ≡ answeredWith senders (H.Refused (numberOver before question))
   heartbeat-refused refused =
-      let same : askedNumber senders question ≡ numberOver before question = askedNumber-over senders question before keeps in
+      let same : askedNumber senders question ≡ numberOver before question =
+      askedNumber-over senders question before keeps in
       asked-refused senders question (λ none. refused (sym same ∙ none))
       ∙ ap (λ (number : ℕ). answeredWith senders (H.Refused number)) same
 
@@ -135,7 +136,8 @@ module _ (senders : Senders) (question : Question) (before : Questions)
   own-accepted : length (senders .ports) ≡ 16 → numberOver before question ≡ accepted
       → senderAt (asked senders question .senders) (question .port) ≡ senderOver (question ∷ before)
   own-accepted sixteen none =
-      let same : askedNumber senders question ≡ numberOver before question = askedNumber-over senders question before keeps in
+      let same : askedNumber senders question ≡ numberOver before question =
+      askedNumber-over senders question before keeps in
       let inside : question .port < length (senders .ports) = omega (arith, fit-over before question none .inside) in
       ap (λ (after : Asked). senderAt (after .senders) (question .port)) (asked-accepted senders question (same ∙ none))
       ∙ getD-set-same (senders .ports) (question .port) _ freshSender inside

@@ -177,7 +177,14 @@ module _ (asked port time room octets : ℕ) where
   questionNumber-accepted in-time after inside long six =
       rw (lt-leb _ _ in-time, le-ltb _ _ after, le-ltb _ _ inside, le-ltb _ _ long, eq-eqb _ _ six)
 
-pub ruleset questionNumber-laws = (questionNumber-limit, questionNumber-early, questionNumber-port, questionNumber-buffer, questionNumber-source, questionNumber-accepted)
+pub ruleset questionNumber-laws = (
+  questionNumber-limit,
+  questionNumber-early,
+  questionNumber-port,
+  questionNumber-buffer,
+  questionNumber-source,
+  questionNumber-accepted,
+)
 
 -- ---- contentBy
 

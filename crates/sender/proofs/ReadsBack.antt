@@ -54,7 +54,8 @@ heartbeatOver-flag time code sent frame =
     byBool (leb windowFrames (laterCount time sent))
     (λ full. let wrong : false ≡ true = rw full at frame in absurd (false≢true wrong))
     (λ free.
-    let due : isFrameSent (dueFrame time code sent) ≡ true = rw free at frame in rw free (dueFrame-flag time code sent due))
+    let due : isFrameSent (dueFrame time code sent) ≡ true = rw free at frame in
+    rw free (dueFrame-flag time code sent due))
 
 -- a frame's content, of its answer
 contentBy-frame : (answer : Heartbeat) (code : ℕ) (source before : List ℕ) → isFrameSent answer ≡ true

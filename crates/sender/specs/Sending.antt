@@ -76,8 +76,8 @@ isFrameSent H.Event = true
 isFrameSent H.Nothing = false
 isFrameSent (H.Refused number) = false
 
--- "any answered frame reads back as the port's code in that state", with the event flag, set exactly if the code differs
--- from the last one sent, and the source lent
+-- "any answered frame reads back as the port's code in that state", with the event flag, set exactly if the code
+-- differs from the last one sent, and the source lent
 pub record ReadsBack (earlier : Questions) (question : Question) : Type 0 where
   pub said : isFrameSent (heartbeatAfter earlier question) ≡ true
       → readFrame (take writtenLength (heartbeatBuffer earlier question))

@@ -132,18 +132,21 @@ module _ (input : ℕ) (line : Input) (state : Selector)
       → allBroughtTo (withRecord input line state) time ≡
       withRecord input (inputBroughtTo line time (state .mode)) (allBroughtTo state time)
   brought-with time = λ j.
-      movedTo state (map-set (λ (other : Input). inputBroughtTo other time (state .mode)) (state .inputs) input line j) time
+      movedTo state (map-set (λ (other : Input). inputBroughtTo other time (state .mode)) (state .inputs) input line j)
+      time
 
 -- ---- a choice, and time going by
 
-inputBroughtTo-keeps : (time : ℕ) (mode : Bool) (input : Input) → inputBroughtTo input time mode .settings ≡ input .settings
+inputBroughtTo-keeps : (time : ℕ) (mode : Bool) (input : Input)
+    → inputBroughtTo input time mode .settings ≡ input .settings
 unfolding inputBroughtTo
 inputBroughtTo-keeps time mode input = refl
 
 pub brought-settings : (state : Selector) (time number : ℕ)
     → settingsAt (allBroughtTo state time .inputs) number ≡ settingsAt (state .inputs) number
 brought-settings state time number =
-    map-settings (λ (x : Input). inputBroughtTo x time (state .mode)) (inputBroughtTo-keeps time (state .mode)) (state .inputs) number
+    map-settings (λ (x : Input). inputBroughtTo x time (state .mode)) (inputBroughtTo-keeps time (state .mode))
+    (state .inputs) number
 
 pub alike-decided : (input : ℕ) (one other : Selector) → AlikeButAt input one other → Off input (one .inputs)
     → AlikeButAt input (decided one) (decided other)
@@ -168,7 +171,8 @@ alike-brought input one other alike time =
           brought-with input (alike .line) one (alike .settings) time;
     }
 
-alike-tickedOnce : (input : ℕ) (one other : Selector) → AlikeButAt input one other → Off input (one .inputs) → (time : ℕ)
+alike-tickedOnce : (input : ℕ) (one other : Selector) → AlikeButAt input one other → Off input (one .inputs)
+    → (time : ℕ)
     → AlikeButAt input (State.tickedOnce one time) (State.tickedOnce other time)
 unfolding State.tickedOnce
 alike-tickedOnce input one other alike off time =

@@ -102,7 +102,8 @@ inputAfter-settings : (input : Input) (event : Recorded) (mode : Bool)
 unfolding inputAfter afterEvent inputAtMoment
 inputAfter-settings input event mode = refl
 
-inputAtMoment-settings : (time : ℕ) (mode : Bool) (input : Input) → inputAtMoment input time mode false .settings ≡ input .settings
+inputAtMoment-settings : (time : ℕ) (mode : Bool) (input : Input)
+    → inputAtMoment input time mode false .settings ≡ input .settings
 unfolding inputAtMoment
 inputAtMoment-settings time mode input = refl
 
@@ -172,7 +173,8 @@ module _ (input : ℕ) (line : Input) (inputs : List Input) (settings : line .se
         line = inputAtMoment line (event .time) mode false;
         settings =
             inputAtMoment-settings (event .time) mode line ∙ settings ∙
-            sym (map-settings (λ (x : Input). inputAtMoment x (event .time) mode false) (inputAtMoment-settings (event .time) mode)
+            sym (map-settings (λ (x : Input). inputAtMoment x (event .time) mode false)
+            (inputAtMoment-settings (event .time) mode)
             inputs
             input);
         same = map-set (λ (x : Input). inputAtMoment x (event .time) mode false) inputs input line;

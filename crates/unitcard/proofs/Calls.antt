@@ -177,7 +177,8 @@ module _ (minimum : Quality) (half : Half) (sequence : UnitSequence) where
   half-card =
       ap (λ (flat : UnitCard). cardIn half flat) (after-whole minimum sequence) ∙
       go half ∙
-      ap (λ (state : Selector). halfCard (halfLatestNumber minimum half sequence) state) (half-after minimum sequence half)
+      ap (λ (state : Selector). halfCard (halfLatestNumber minimum half sequence) state)
+      (half-after minimum sequence half)
     where
       go : (part : Half)
           → cardIn part
@@ -188,7 +189,8 @@ module _ (minimum : Quality) (half : Half) (sequence : UnitSequence) where
       go H.Station = refl
 
   half-state : selectorOf (cardIn half (unitCardAfter minimum sequence)) ≡ own
-  half-state = ap selectorOf half-card ∙ selectorOf-cardOf _ _ (nextDue own) own (sequence-named (ownEvents half sequence))
+  half-state =
+      ap selectorOf half-card ∙ selectorOf-cardOf _ _ (nextDue own) own (sequence-named (ownEvents half sequence))
 
 latest-by : (minimum : Quality) (half : Half) (sequence : UnitSequence)
     → halfLatestNumber minimum half sequence ≡ halfLatestBy half sequence

@@ -55,8 +55,8 @@ fn half_in(half: u8) -> Half
     Half::Equipment
 }
 
-// The card that holds a half's selector, with what is answered behind a number and when something is
-// next due of it.
+// The card that holds a half's selector, with what is answered behind a number and when something
+// is next due of it.
 fn half_card(number: u8, state: Selector) -> Card
     ensures { λ answer. ⌜ answer ≡ halfCard number state ⌝ }
 {

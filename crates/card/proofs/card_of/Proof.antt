@@ -35,4 +35,5 @@ returns c = search cardOf-answered
 pub card-of-spec : {M : Type 1} → statement M
 card-of-spec =
     tie.close
-    (tie.spec flat-inputs-requires answer-requires cast-t10 cast-t11 is-selected-requires option-of-requires place-of-requires marks-of-requires returns)
+    (tie.spec flat-inputs-requires answer-requires cast-t10 cast-t11 is-selected-requires option-of-requires
+    place-of-requires marks-of-requires returns)

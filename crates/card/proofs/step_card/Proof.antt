@@ -25,7 +25,8 @@ returns : tie.Need-returns
 unfolding stepCard
 returns c =
     let asked = c .before .before in
-    eventCard-quick _ _ _ _ _ (asked .before .before .own-place .ensures) _ (asked .quick-call .ensures) (c .before .if1 .taken) _
+    eventCard-quick _ _ _ _ _ (asked .before .before .own-place .ensures) _ (asked .quick-call .ensures)
+    (c .before .if1 .taken) _
     (c .quick-card .ensures)
 
 whole-call-requires : tie.Need-whole-call-requires
@@ -35,7 +36,8 @@ returns-2 : tie.Need-returns-2
 unfolding stepCard
 returns-2 c =
     let asked = c .before .before in
-    eventCard-whole _ _ _ _ _ (asked .before .before .own-place .ensures) _ (asked .quick-call .ensures) (c .before .if1 .left) _
+    eventCard-whole _ _ _ _ _ (asked .before .before .own-place .ensures) _ (asked .quick-call .ensures)
+    (c .before .if1 .left) _
     (c .whole-call .ensures)
 
 pub step-card-spec : {M : Type 1} → statement M

@@ -13,7 +13,8 @@ use Rattle.selector.proofs.inputs_at_moment.Tie as tie
 
 abbrev Inv-loop : tie.InvT-loop
 Inv-loop time mode all₀ at₀ all at =
-    (at ≤ 16) × (length all₀ ≡ 16) × (all ≡ filled (λ (input : Input). inputAtMoment input time mode false) at all₀ all₀)
+    (at ≤ 16) × (length all₀ ≡ 16)
+    × (all ≡ filled (λ (input : Input). inputAtMoment input time mode false) at all₀ all₀)
 
 abbrev μ-loop : tie.MeasureT-loop
 μ-loop time mode all₀ at₀ all at = 16 - at

@@ -23,7 +23,8 @@ element-set-from-flat c = search needs
 returns : tie.Need-returns
 returns c =
     let start = c .before .before .before .before in
-    quickCard-at (start .args .t1) (start .args .number) (start .args .quick) _ _ (c .before .before .own-place .ensures)
+    quickCard-at (start .args .t1) (start .args .number) (start .args .quick) _ _
+    (c .before .before .own-place .ensures)
 
 pub quick-card-spec : {M : Type 1} → statement M
 quick-card-spec =

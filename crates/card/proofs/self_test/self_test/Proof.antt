@@ -50,7 +50,8 @@ loop-again c =
       search needs,
       inv .1,
       inv .2,
-      answered-more _ (loop .at) (loop .right) _ (loop .card) _ _ (inv .3) (search needs) (c .before .before .tested-card .ensures) (c .is-told .ensures),
+      answered-more _ (loop .at) (loop .right) _ (loop .card) _ _ (inv .3) (search needs)
+          (c .before .before .tested-card .ensures) (c .is-told .ensures),
     )
 
 cast-result : tie.Need-cast-result Inv-loop μ-loop

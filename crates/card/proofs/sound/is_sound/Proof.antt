@@ -15,7 +15,8 @@ cast-result : tie.Need-cast-result
 cast-result c = search needs
 
 returns : tie.Need-returns
-returns c = cardSound-told _ _ _ (c .before .before .before .plain-card .ensures) (c .before .before .same-card .ensures)
+returns c =
+    cardSound-told _ _ _ (c .before .before .before .plain-card .ensures) (c .before .before .same-card .ensures)
 
 pub is-sound-spec : {M : Type 1} → statement M
 is-sound-spec = tie.close (tie.spec plain-card-requires same-card-requires cast-result returns)

@@ -13,7 +13,14 @@ same-answer-requires c κs = search needs
 
 returns : tie.Need-returns
 unfolding sameCard
-returns c = rw (c .before .before .before .before .before .before .before .before .before .before .before .before .before .before .before .before .before .before .before .before .before .before .before .before .same-answer .ensures, c .before .before .before .before .before .before .before .before .before .before .before .before .before .before .before .before .before .before .before .before .before .before .before .before .before .before .before .same-inputs .ensures)
+returns c =
+    rw (
+      c .before .before .before .before .before .before .before .before .before .before .before .before .before
+          .before .before .before .before .before .before .before .before .before .before .before .same-answer .ensures,
+      c .before .before .before .before .before .before .before .before .before .before .before .before .before
+          .before .before .before .before .before .before .before .before .before .before .before .before .before
+          .before .same-inputs .ensures,
+    )
 
 pub same-card-spec : {M : Type 1} → statement M
 same-card-spec = tie.close (tie.spec same-inputs-requires same-answer-requires returns)

@@ -1,5 +1,5 @@
--- `card::sound::same_inputs` meets its contract: the loop's invariant is that `same` is the answer among the first `at`.
--- Assumes nothing.
+-- `card::sound::same_inputs` meets its contract: the loop's invariant is that `same` is the answer among the first
+-- `at`. Assumes nothing.
 use Prim.Native.Nat.{_≤_, _-_}
 use mathlib.Core.Path.{_≡_}
 use lib.ListN.{length}
