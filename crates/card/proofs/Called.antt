@@ -48,7 +48,7 @@ use Rattle.card.specs.declared.Card.{Card}
 use Rattle.card.specs.declared.CardInput.{CardInput}
 use Rattle.card.specs.declared.quick.Quick.{Quick}
 use Rattle.card.specs.Flat.{isSet, inputOf, flatInput, flatAnswer, switchOf, selectionOf, isSelected, profileIn, optionOf, selectorOf, cardOf, withNumber}
-use Rattle.card.specs.Card.{steppedCard, namesInput, isRanged, profileHeld, ownPlace, StandsAt, ownFlat, quickOf, notQuick, quickStep, framedFlat, cardNumbered, quickCard, watchIn, wholeCard, eventCard, readFor}
+use Rattle.card.specs.Card.{steppedCard, namesInput, isRanged, profileHeld, flatPlace, StandsAt, ownFlat, quickOf, notQuick, quickStep, framedFlat, cardNumbered, quickCard, watchIn, wholeCard, eventCard, readFor}
 use Rattle.card.specs.Range.{IsInput, InRange}
 use Rattle.card.proofs.Laws.{quickStep-refused, quickStep-again, quickStep-slow, eventCard-quick, eventCard-whole}
 use Rattle.card.proofs.Element.{set-same, set-map}
@@ -140,14 +140,14 @@ module _ (number count due : ℕ) (state : Selector) (event : Event) (read : Fra
   unfolding cardOf
   profile-back = profileIn-back (state .profile)
 
-  flat-back : ownFlat card event ≡ flatInput (getD (state .inputs) (ownPlace (event .input)) freshInput)
+  flat-back : ownFlat card event ≡ flatInput (getD (state .inputs) (flatPlace (event .input)) freshInput)
   unfolding cardOf
-  flat-back = List·getD-map flatInput (state .inputs) (ownPlace (event .input)) freshInput
+  flat-back = List·getD-map flatInput (state .inputs) (flatPlace (event .input)) freshInput
 
-  own-back : inputOf (ownFlat card event) ≡ getD (state .inputs) (ownPlace (event .input)) freshInput
-  own-back = ap inputOf flat-back ∙ inputOf-flatInput (getD (state .inputs) (ownPlace (event .input)) freshInput)
+  own-back : inputOf (ownFlat card event) ≡ getD (state .inputs) (flatPlace (event .input)) freshInput
+  own-back = ap inputOf flat-back ∙ inputOf-flatInput (getD (state .inputs) (flatPlace (event .input)) freshInput)
 
-  stands : StandsAt (card .inputs) (event .input) (ownPlace (event .input))
+  stands : StandsAt (card .inputs) (event .input) (flatPlace (event .input))
   unfolding cardOf
   stands =
       record {
@@ -156,7 +156,7 @@ module _ (number count due : ℕ) (state : Selector) (event : Event) (read : Fra
       }
 
   -- one of the sixteen stands at its own number
-  own-number : event .input < inputCount → ownPlace (event .input) ≡ event .input
+  own-number : event .input < inputCount → flatPlace (event .input) ≡ event .input
   own-number few = mod-eq-of-lt few
 
   own-before : event .input < inputCount → inputOf (ownFlat card event) ≡ ownBefore state event
@@ -207,15 +207,15 @@ module _ (number count due : ℕ) (state : Selector) (event : Event) (read : Fra
       (λ e. given (sym early-back ∙ e)))
       refl _ refl (λ e. given (sym early-back ∙ e)) in
       sym
-      (eventCard-quick card event read (ownPlace (event .input)) (flatInput freshInput) stands quick refl
+      (eventCard-quick card event read (flatPlace (event .input)) (flatInput freshInput) stands quick refl
       (sym (ap (λ (one : Quick). one .is) told)) _ refl)
-      ∙ ap (quickCard card (ownPlace (event .input))) (sym told)
+      ∙ ap (quickCard card (flatPlace (event .input))) (sym told)
       ∙
-      ap (λ (early : ℕ). quickCard card (ownPlace (event .input))
+      ap (λ (early : ℕ). quickCard card (flatPlace (event .input))
       (quickOf true (ownFlat card event .framed) (card .time) (card .due) early)) early-back
       ∙
       ap (λ (inputs : List CardInput). withInputs inputs)
-      (set-same (card .inputs) (ownPlace (event .input)) (flatInput freshInput))
+      (set-same (card .inputs) (flatPlace (event .input)) (flatInput freshInput))
     where
       withInputs : List CardInput → Card
       withInputs inputs =
@@ -262,7 +262,7 @@ module _ (number count due : ℕ) (state : Selector) (event : Event) (read : Fra
         quickStep-slow (ownFlat card event) (card .answer) (profileHeld card) (card .time) (card .due) event read true
         (sym ranged) refl (inputOf (ownFlat card event)) refl says refl new _ refl (early-back ∙ none) in
         sym
-        (eventCard-whole card event read (ownPlace (event .input)) (flatInput freshInput) stands quick refl
+        (eventCard-whole card event read (flatPlace (event .input)) (flatInput freshInput) stands quick refl
         (sym (ap (λ (one : Quick). one .is) told)) _ refl)
         ∙ whole-plain
 
@@ -354,9 +354,9 @@ module _ (number count due : ℕ) (state : Selector) (event : Event) (read : Fra
       unfolding cardOf
       called-again =
           sym
-          (eventCard-quick card event read (ownPlace (event .input)) (flatInput freshInput) stands quick refl
+          (eventCard-quick card event read (flatPlace (event .input)) (flatInput freshInput) stands quick refl
           (sym (ap (λ (one : Quick). one .is) quick-told)) _ refl)
-          ∙ ap (quickCard card (ownPlace (event .input))) (sym quick-told)
+          ∙ ap (quickCard card (flatPlace (event .input))) (sym quick-told)
           ∙ ap (λ (place : ℕ). quickCard card place written) (own-number few)
           ∙ again-card
           ∙ sym (ap (steppedCard (againDue due (event .kind) (event .time))) stays)

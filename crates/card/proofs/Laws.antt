@@ -46,7 +46,7 @@ use Rattle.card.specs.declared.CardInput.{CardInput}
 use Rattle.card.specs.declared.quick.Quick.{Quick}
 use Rattle.card.specs.declared.known.CardStatus.{CardStatus}
 use Rattle.card.specs.Flat.{isSet, inputOf, flatInput, flatAnswer, switchOf, selectionOf, isSelected, optionTwo, profileIn, optionOf, selectorOf, cardOf, withNumber}
-use Rattle.card.specs.Card.{freshCard, startCard, isRanged, profileHeld, ownPlace, StandsAt, ownFlat, quickOf, notQuick, quickStep, framedFlat, cardNumbered, quickCard, wholeCard, eventCard, readFor, portCode, numberOfWrite, WritePort}
+use Rattle.card.specs.Card.{freshCard, startCard, isRanged, profileHeld, flatPlace, StandsAt, ownFlat, quickOf, notQuick, quickStep, framedFlat, cardNumbered, quickCard, wholeCard, eventCard, readFor, portCode, numberOfWrite, WritePort}
 use Rattle.card.specs.Status.{noStatus, cardStatus}
 use Rattle.card.specs.Sound.{sameInput, sameAmong, sameInputs, sameCard, tickedAgain, cardSound}
 
@@ -399,7 +399,7 @@ pub quickCard-at : (card : Card) (number : ℕ) (quick : Quick) (place : ℕ) (z
       marks = card .marks;
       spare = card .spare;
     }
-    ≡ quickCard card (ownPlace number) quick
+    ≡ quickCard card (flatPlace number) quick
 quickCard-at card number quick place zeroed at =
     (rw (getD-any (card .inputs) place zeroed (flatInput freshInput) (at .inside)))
     ∙ ap (λ (here : ℕ). quickCard card here quick) (at .own)
@@ -419,11 +419,11 @@ module _ (card : Card) (event : Event) (read : FrameRead) (place : ℕ) (zeroed 
       (getD-any (card .inputs) place zeroed (flatInput freshInput) (at .inside)
       ∙ ap (λ (number : ℕ). getD (card .inputs) number (flatInput freshInput)) (at .own))
 
-  pub eventCard-quick : quick .is ≡ true → (after : Card) → after ≡ quickCard card (ownPlace (event .input)) quick
+  pub eventCard-quick : quick .is ≡ true → (after : Card) → after ≡ quickCard card (flatPlace (event .input)) quick
       → after ≡ eventCard card event read
   unfolding eventCard
   eventCard-quick is after a =
-      a ∙ ap (quickCard card (ownPlace (event .input))) quick-here
+      a ∙ ap (quickCard card (flatPlace (event .input))) quick-here
       ∙ (rw (← ap (λ (one : Quick). one .is) quick-here, is))
 
   pub eventCard-whole : quick .is ≡ false → (after : Card) → after ≡ wholeCard card event read

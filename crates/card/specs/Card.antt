@@ -42,8 +42,8 @@ use Rattle.card.specs.declared.quick.Quick.{Quick}
 use Rattle.card.specs.Flat.{inputOf, flatInput, profileIn, selectorOf, cardOf, withNumber}
 
 -- the header's version
-abbrev pub version : ℕ
-version = 4
+abbrev pub headerVersion : ℕ
+headerVersion = 4
 
 -- how long a card is in C
 abbrev pub cardOctets : ℕ
@@ -96,17 +96,17 @@ abbrev pub profileHeld : Card → Profile
 profileHeld card = profileIn (card .option) (card .place) (card .marks)
 
 -- where an input stands; where there is no such input, its number taken round
-abbrev pub ownPlace : ℕ → ℕ
-ownPlace number = number % inputCount
+abbrev pub flatPlace : ℕ → ℕ
+flatPlace number = number % inputCount
 
 -- that place, among the sixteen
 pub record StandsAt (inputs : List CardInput) (number place : ℕ) : Type 0 where
-  pub own : place ≡ ownPlace number
+  pub own : place ≡ flatPlace number
   pub inside : place < length inputs
 
 -- the record of an event's own input
 abbrev pub ownFlat : Card → Event → CardInput
-ownFlat card event = getD (card .inputs) (ownPlace (event .input)) (flatInput freshInput)
+ownFlat card event = getD (card .inputs) (flatPlace (event .input)) (flatInput freshInput)
 
 -- whether an event is quick, and what one that is writes
 abbrev pub quickOf : Bool → ℕ → ℕ → ℕ → ℕ → Quick
@@ -201,7 +201,7 @@ wholeCard card event read =
 unfoldable pub eventCard : Card → Event → FrameRead → Card
 eventCard card event read =
     let quick = quickStep (ownFlat card event) (card .answer) (profileHeld card) (card .time) (card .due) event read in
-    cond (quick .is) (quickCard card (ownPlace (event .input)) quick) (wholeCard card event read)
+    cond (quick .is) (quickCard card (flatPlace (event .input)) quick) (wholeCard card event read)
 
 -- the card after one event with a lent frame, with its answer
 unfoldable pub stepCard : Card → ℕ → ℕ → ℕ → ℕ → List ℕ → Card

@@ -22,7 +22,7 @@ ghost use Rattle.card.specs.Flat.{isSet};
 ghost use Rattle.card.specs.Status.{cardStatus};
 ghost use Rattle.card.specs.SelfTest.{selfTest};
 ghost use Rattle.card.specs.Sound.{cardSound};
-ghost use Rattle.card.specs.Card.{version, cardOctets, sendersOctets, startCard, stepCard, cardCodes, cardWords, cardDue, cardFrame, WritePort};
+ghost use Rattle.card.specs.Card.{headerVersion, cardOctets, sendersOctets, startCard, stepCard, cardCodes, cardWords, cardDue, cardFrame, WritePort};
 
 // Raised with each change of a struct, of a number or of what a function answers.
 const VERSION: u32 = 4;
@@ -36,7 +36,7 @@ const SENDERS_OCTETS: u32 = 1_544;
 // The library's version: that of its header.
 #[no_mangle]
 pub extern "C" fn nurrispane_version() -> u32
-    ensures { λ answer. ⌜ answer ≡ version ⌝ }
+    ensures { λ answer. ⌜ answer ≡ headerVersion ⌝ }
 {
     VERSION
 }

@@ -24,7 +24,7 @@ use quickstep::due_after;
 use quickstep::says_again;
 ghost use mathlib.Core.Path.{_≡_};
 ghost use Rattle.card.specs.Flat.{profileIn};
-ghost use Rattle.card.specs.Card.{eventOf, readFor, namesInput, isRanged, ownPlace, StandsAt, plainCard, quickStep, quickCard, wholeCard};
+ghost use Rattle.card.specs.Card.{eventOf, readFor, namesInput, isRanged, flatPlace, StandsAt, plainCard, quickStep, quickCard, wholeCard};
 
 // Stands for no input in an answer.
 const NO_INPUT: u8 = 255;
@@ -66,7 +66,7 @@ fn is_ranged(told: CardAnswer) -> bool
 }
 
 // Where an input stands among the sixteen; where there is no such input, its number taken round.
-pub fn own_place(inputs: [CardInput; 16], number: u8) -> usize
+pub fn flat_place(inputs: [CardInput; 16], number: u8) -> usize
     ensures { λ place. ⌜ StandsAt inputs number place ⌝ }
 {
     (number % INPUT_COUNT) as usize
@@ -141,10 +141,10 @@ fn quick_step(
 
 // The card after a quick event.
 pub fn quick_card(card: Card, number: u8, quick: Quick) -> Card
-    ensures { λ answer. ⌜ answer ≡ quickCard card (ownPlace number) quick ⌝ }
+    ensures { λ answer. ⌜ answer ≡ quickCard card (flatPlace number) quick ⌝ }
 {
     let inputs = card.inputs;
-    let place = own_place(inputs, number);
+    let place = flat_place(inputs, number);
     let mut after = card;
     let mut flat = card.inputs[place];
     let mut told = card.answer;
@@ -175,8 +175,8 @@ pub fn quick_call(
 ) -> Quick
     ensures { λ answer. ⌜
         answer ≡
-        quickStep flat told (profileIn option place marks) last due (eventOf kind time input argument)
-        (readFor kind (now (frame .entry))) ⌝ }
+        quickStep flat told (profileIn option place marks) last due
+        (eventOf kind time input argument) (readFor kind (now (frame .entry))) ⌝ }
 {
     let event = Event {
         kind,

@@ -20,7 +20,7 @@ ghost use Rattle.numbers.specs.Kind.{flag, kindArgument, kindFloor, kindSignal,
 ghost use Rattle.input.specs.Record.{freshInput, equalCount, lineAfter, forgotten, heardAfter, settingsAfter, qualityNow, canExpire, forecast, inputAtMoment, inputBroughtTo, afterEvent, passedOf};
 
 // How many equal codes in a row settle a line's quality.
-const REPORTS_NEEDED: u8 = 3;
+pub const REPORTS_NEEDED: u8 = 3;
 
 // A fresh input's hold-off in ms, and its wait in minutes.
 const FRESH_HOLDOFF: u16 = 300;

@@ -98,7 +98,8 @@ askedOf senders question =
 -- what a question comes to; "They keep the sender's state"
 unfoldable pub asked : Senders → Question → Asked
 asked senders question =
-    cond (not (eqb (askedNumber senders question) accepted)) (answeredWith senders (H.Refused (askedNumber senders question)))
+    cond (not (eqb (askedNumber senders question) accepted))
+    (answeredWith senders (H.Refused (askedNumber senders question)))
     (askedOf senders question)
 
 -- what a question leaves in the buffer

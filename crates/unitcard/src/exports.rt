@@ -4,7 +4,7 @@ use crate::UnitCard;
 use crate::start_unit_card;
 use crate::step_unit_card;
 ghost use mathlib.Core.Path.{_≡_};
-ghost use Rattle.card.specs.Card.{version};
+ghost use Rattle.card.specs.Card.{headerVersion};
 ghost use Rattle.unitcard.specs.UnitCard.{unitOctets, startUnitCard, stepUnitCard};
 
 // That of the header, as the card's library has it.
@@ -16,7 +16,7 @@ const UNIT_OCTETS: u32 = 1_368;
 // The version of the unit's library: that of its header.
 #[no_mangle]
 pub extern "C" fn nurrispane_unit_version() -> u32
-    ensures { λ answer. ⌜ answer ≡ version ⌝ }
+    ensures { λ answer. ⌜ answer ≡ headerVersion ⌝ }
 {
     VERSION
 }

@@ -6,8 +6,8 @@ use borrow.Author.Needs.{needs}
 use Rattle.card.proofs.step_card.Statement.{statement}
 use Rattle.card.proofs.step_card.Tie as tie
 
-own-place-requires : tie.Need-own-place-requires
-own-place-requires c κs = search needs
+flat-place-requires : tie.Need-flat-place-requires
+flat-place-requires c κs = search needs
 
 mul-flat : tie.Need-mul-flat
 mul-flat c = search needs
@@ -25,7 +25,7 @@ returns : tie.Need-returns
 unfolding stepCard
 returns c =
     let asked = c .before .before in
-    eventCard-quick _ _ _ _ _ (asked .before .before .own-place .ensures) _ (asked .quick-call .ensures)
+    eventCard-quick _ _ _ _ _ (asked .before .before .flat-place .ensures) _ (asked .quick-call .ensures)
     (c .before .if1 .taken) _
     (c .quick-card .ensures)
 
@@ -36,7 +36,7 @@ returns-2 : tie.Need-returns-2
 unfolding stepCard
 returns-2 c =
     let asked = c .before .before in
-    eventCard-whole _ _ _ _ _ (asked .before .before .own-place .ensures) _ (asked .quick-call .ensures)
+    eventCard-whole _ _ _ _ _ (asked .before .before .flat-place .ensures) _ (asked .quick-call .ensures)
     (c .before .if1 .left) _
     (c .whole-call .ensures)
 
@@ -44,7 +44,7 @@ pub step-card-spec : {M : Type 1} → statement M
 step-card-spec =
     tie.close
     (tie.spec
-    own-place-requires
+    flat-place-requires
     mul-flat
     element-copy-out-flat
     quick-call-requires

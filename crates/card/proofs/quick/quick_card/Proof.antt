@@ -5,8 +5,8 @@ use borrow.Author.Needs.{needs}
 use Rattle.card.proofs.quick.quick_card.Statement.{statement}
 use Rattle.card.proofs.quick.quick_card.Tie as tie
 
-own-place-requires : tie.Need-own-place-requires
-own-place-requires c κs = search needs
+flat-place-requires : tie.Need-flat-place-requires
+flat-place-requires c κs = search needs
 
 mul-flat : tie.Need-mul-flat
 mul-flat c = search needs
@@ -24,13 +24,13 @@ returns : tie.Need-returns
 returns c =
     let start = c .before .before .before .before in
     quickCard-at (start .args .t1) (start .args .number) (start .args .quick) _ _
-    (c .before .before .own-place .ensures)
+    (c .before .before .flat-place .ensures)
 
 pub quick-card-spec : {M : Type 1} → statement M
 quick-card-spec =
     tie.close
     (tie.spec
-    own-place-requires
+    flat-place-requires
     mul-flat
     element-copy-out-flat
     mul-flat-2
