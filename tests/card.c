@@ -727,7 +727,7 @@ static void check_events(void)
 /* A card of any bytes: nothing is promised of the answers, but all are as if it were a state. */
 static void check_cards(void)
 {
-    int kept = 0, chosen = 0, plain = 0;
+    int kept = 0, whole = 0;
 
     for (int i = 0; i < RANDOM_CARDS; i++) {
         struct nurrispane_card wild, next;
@@ -776,21 +776,11 @@ static void check_cards(void)
             kept++;
             continue;
         }
+        /* any other: a card of the state that it was read as */
+        whole++;
         CHECK(next.held < 2 && next.selection < 2 && next.switch_kind < 3);
         CHECK(next.selected == next.answer.selected);
         CHECK(next.switch_input == next.answer.switch_input);
-        /* taken by its own input, and a choice made: what a choice does not change is as it was */
-        wild.held = next.held;
-        wild.switch_kind = next.switch_kind;
-        wild.switch_input = next.switch_input;
-        wild.selection = next.selection;
-        wild.selected = next.selected;
-        wild.answer = next.answer;
-        if (same(&wild, &next)) {
-            chosen++;
-            continue;
-        }
-        plain++;
         for (int port = 0; port < NURRISPANE_INPUTS; port++) {
             const struct nurrispane_input *input = &next.inputs[port];
 
@@ -800,7 +790,7 @@ static void check_cards(void)
         CHECK(next.option == (wild.option == NURRISPANE_OPTION_2 ? 2 : 1) && next.spare == 0);
         CHECK(next.mode < 2);
     }
-    CHECK(kept > 100 && chosen > 100 && plain > 100);
+    CHECK(kept > 100 && whole > 100);
 }
 
 /* A frame is looked at for a frame event alone: here it lies where reading faults. */
