@@ -34,7 +34,8 @@ use Rattle.selector.proofs.Laws.{getD-any}
 use Rattle.due.specs.Next.{lesser, sumOrNever, nextOf, nextOfAll, nextDue}
 use Rattle.due.specs.Served.{mostServed}
 use Rattle.events.specs.Refusals.{earlyRefusal, isWrongKind, frameRefusal}
-use Rattle.events.specs.Step.{inputAfter}
+use Rattle.events.specs.declared.Stepped.{Stepped}
+use Rattle.events.specs.Step.{inputAfter, stepRead}
 use Rattle.events.specs.Given.{readEvent, recordedEvent}
 use Rattle.events.proofs.Laws.{stepRead-most}
 use Rattle.events.proofs.Refused.{accepted-limit, accepted-time}
@@ -495,6 +496,17 @@ module _ (before : Input) (profile : Profile) (mode : Bool) (time due : ℕ) (ev
     ownStep-taken own y h = h ∙ (rw (← e, z, ← s, y))
 
 pub ruleset ownStep-laws = (ownStep-refused, ownStep-served, ownStep-taken)
+
+-- ---- servedWatch
+
+pub servedWatch-calls : (state : Selector) (due : ℕ) (event : Event) (read : FrameRead) (after : Stepped) (next : ℕ)
+    (answer : Answer)
+    → after ≡ stepRead state event read
+    → next ≡ dueAfter due (event .time) (after .state)
+    → answer ≡ answerOf (after .number) (after .state)
+    → watchOf (after .state) next answer (after .count) ≡ servedWatch state due event read
+unfolding servedWatch
+servedWatch-calls state due event read after next answer a n w = rw (n, w, a)
 
 -- ---- completed
 

@@ -1,6 +1,6 @@
 -- `quickstep::served` meets its contract: it is the definition, call by call.
 -- Assumes nothing.
-use Rattle.quickstep.specs.Watch.{servedWatch}
+use Rattle.quickstep.proofs.Laws.{servedWatch-calls}
 use borrow.Author.Needs.{needs}
 use Rattle.quickstep.proofs.served.Statement.{statement}
 use Rattle.quickstep.proofs.served.Tie as tie
@@ -15,8 +15,9 @@ answer-requires : tie.Need-answer-requires
 answer-requires c κs = search needs
 
 returns : tie.Need-returns
-unfolding servedWatch
-returns c = cc
+returns c =
+    servedWatch-calls _ _ _ _ _ _ _ (c .before .before .before .step-read .ensures) (c .before .due-after .ensures)
+    (c .answer .ensures)
 
 pub served-spec : {M : Type 1} → statement M
 served-spec = tie.close (tie.spec step-read-requires due-after-requires answer-requires returns)
