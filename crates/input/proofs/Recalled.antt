@@ -2,7 +2,7 @@
 use Prim.Native.Nat.{ℕ, suc, _+_, _-_, _≤_, _<_, min}
 use mathlib.Core.Bool.{Bool, true, false, not, _&&_, _||_, cond}
 use mathlib.Core.List.{List, [], _∷_}
-use mathlib.Core.Path.{_≡_, refl, fun-ext}
+use mathlib.Core.Path.{_≡_, refl, _∙_, ap, fun-ext}
 use native.Mathlib.Omega.{arith}
 use lib.Dec.{leb, ltb, eqb}
 use borrow.Author.Tests.{ltb-true, ltb-false, leb-true, leb-false, lt-ltb, le-ltb}
@@ -18,6 +18,7 @@ use Rattle.numbers.specs.Kind.{kindSignal, kindPriority, kindLockout, kindHoldo
 use Rattle.run.specs.Run.{rawAt, isExpired, momentAt}
 use Rattle.numbers.proofs.Truth.{byBool}
 use Rattle.input.specs.declared.Heard.{Heard}
+use Rattle.input.specs.declared.Input.{Input}
 use Rattle.input.specs.declared.Settings.{Settings}
 use Rattle.input.specs.Recorded.{History, isOn, lastArgument, modeOn, signalGood, inputKind, floorSet, priorityOf, isLockedOut, holdoffOf, waitOf, fixedOf, isSending, heard, isThird, lineQuality, frameQuality, rawQualityAt, momentOf}
 use Rattle.input.specs.Record.{forgotten, freshSettings, equalCount, lineAfter, heardAfter, settingsAfter, qualityNow, canExpire, forecast, inputAtMoment, inputBroughtTo, afterEvent, takes, recordAfter}
@@ -154,29 +155,64 @@ module _ (input : ℕ) (event : Recorded) (earlier : History) where
 
 -- ---- the record
 
+-- what one event leaves of what was heard, and of the settings
+module _ (number : ℕ) (event : Recorded) (mode before : Bool) (input : Input) where
+  taken : Input
+  taken = takes number event mode (inputBroughtTo input (event .time) before)
+
+  module _ (own : eqb (event .input) number ≡ true) where
+    taken-heard : taken .heard ≡
+        heardAfter (input .heard) (event .kind) (event .argument) (event .said) (event .time)
+    unfolding taken takes afterEvent inputAtMoment inputBroughtTo
+    taken-heard = rw own
+
+    taken-settings : taken .settings ≡ settingsAfter (input .settings) (event .kind) (event .argument)
+    unfolding taken takes afterEvent inputAtMoment inputBroughtTo
+    taken-settings = rw own
+
+  module _ (other : eqb (event .input) number ≡ false) where
+    kept-heard : taken .heard ≡ input .heard
+    unfolding taken takes inputAtMoment inputBroughtTo
+    kept-heard = rw other
+
+    kept-settings : taken .settings ≡ input .settings
+    unfolding taken takes inputAtMoment inputBroughtTo
+    kept-settings = rw other
+
 heard-fresh : (input : ℕ) (profile : Profile) → forgotten false ≡ heardBy input (started profile)
 unfolding heardBy heard lastArgument lastCode codeCount lineSaid frameTime frameSaid
 heard-fresh input profile = refl
 
 pub heard-recalled : (input : ℕ) (history : History) → recordAfter input history .heard ≡ heardBy input history
-unfolding recordAfter takes afterEvent inputAtMoment inputBroughtTo
+unfolding recordAfter taken
 heard-recalled input (started profile) = heard-fresh input profile
 heard-recalled input (event following earlier) =
+    let mode = modeOn (event following earlier) in
     byBool (eqb (event .input) input)
-    (λ e. rw (e, heard-recalled input earlier) (heard-on input event earlier e))
-    (λ e. rw (e, heard-recalled input earlier) (heard-off input event earlier e))
+    (λ e. taken-heard input event mode (modeOn earlier) (recordAfter input earlier) e ∙
+    ap (λ (h : Heard). heardAfter h (event .kind) (event .argument) (event .said) (event .time))
+    (heard-recalled input earlier) ∙
+    heard-on input event earlier e)
+    (λ e. kept-heard input event mode (modeOn earlier) (recordAfter input earlier) e ∙
+    heard-recalled input earlier ∙
+    heard-off input event earlier e)
 
 settings-fresh : (input : ℕ) (profile : Profile) → freshSettings ≡ settingsBy input (started profile)
 unfolding settingsBy lastArgument inputKindOf
 settings-fresh input profile = refl
 
 pub settings-recalled : (input : ℕ) (history : History) → recordAfter input history .settings ≡ settingsBy input history
-unfolding recordAfter takes afterEvent inputAtMoment inputBroughtTo
+unfolding recordAfter taken
 settings-recalled input (started profile) = settings-fresh input profile
 settings-recalled input (event following earlier) =
+    let mode = modeOn (event following earlier) in
     byBool (eqb (event .input) input)
-    (λ e. rw (e, settings-recalled input earlier) (settings-on input event earlier e))
-    (λ e. rw (e, settings-recalled input earlier) (settings-off input event earlier e))
+    (λ e. taken-settings input event mode (modeOn earlier) (recordAfter input earlier) e ∙
+    ap (λ (s : Settings). settingsAfter s (event .kind) (event .argument)) (settings-recalled input earlier) ∙
+    settings-on input event earlier e)
+    (λ e. kept-settings input event mode (modeOn earlier) (recordAfter input earlier) e ∙
+    settings-recalled input earlier ∙
+    settings-off input event earlier e)
 
 -- ---- three in a row is a count of three
 
