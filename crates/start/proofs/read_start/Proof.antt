@@ -1,0 +1,88 @@
+-- `start::read_start` meets its contract: the words are those that it lends `start_by`.
+-- Assumes nothing.
+use Prim.Native.Nat.{ℕ}
+use mathlib.Core.Path.{sym}
+use lib.ListN.{length-replicate}
+use borrow.Author.Needs.{needs}
+use Rattle.start.proofs.read_start.Statement.{statement}
+use Rattle.start.proofs.read_start.Tie as tie
+
+buffer-requires : tie.Need-buffer-requires
+buffer-requires c κs = search needs
+
+buffer-requires-2 : tie.Need-buffer-requires-2
+buffer-requires-2 c κs = search needs
+
+slice-aggregate-arg : tie.Need-slice-aggregate-arg
+slice-aggregate-arg c = search needs
+
+arg-requires : tie.Need-arg-requires
+arg-requires c κs = search needs
+
+slice-aggregate-arg-2 : tie.Need-slice-aggregate-arg-2
+slice-aggregate-arg-2 c = sym (length-replicate {A = ℕ} 65536 0)
+
+arg-requires-2 : tie.Need-arg-requires-2
+arg-requires-2 c κs = search needs
+
+slice-aggregate-arg-3 : tie.Need-slice-aggregate-arg-3
+slice-aggregate-arg-3 c = search needs
+
+arg-requires-3 : tie.Need-arg-requires-3
+arg-requires-3 c κs = search needs
+
+word-count-requires : tie.Need-word-count-requires
+word-count-requires c κs = search needs
+
+array-share-prefix-option : tie.Need-array-share-prefix-option
+array-share-prefix-option c = c .before .before .before .before .before .before .before .before .arg .ensures .0
+
+slice-aggregate-start-by : tie.Need-slice-aggregate-start-by
+slice-aggregate-start-by c = c .before .before .before .before .before .before .before .before .before .arg .ensures .1
+
+array-share-prefix-place : tie.Need-array-share-prefix-place
+array-share-prefix-place c = c .before .before .before .before .before .before .arg2 .ensures .0
+
+slice-aggregate-start-by-2 : tie.Need-slice-aggregate-start-by-2
+slice-aggregate-start-by-2 c = c .before .before .before .before .before .before .before .arg2 .ensures .1
+
+array-share-prefix-marks : tie.Need-array-share-prefix-marks
+array-share-prefix-marks c = c .before .before .before .before .arg3 .ensures .0
+
+slice-aggregate-start-by-3 : tie.Need-slice-aggregate-start-by-3
+slice-aggregate-start-by-3 c = c .before .before .before .before .before .arg3 .ensures .1
+
+start-by-requires : tie.Need-start-by-requires
+start-by-requires c κs = search needs
+
+returns : tie.Need-returns
+returns c =
+    record {
+      count = _;
+      option = _;
+      place = _;
+      marks = _;
+      is = c .start-by .ensures;
+    }
+
+pub read-start-spec : {M : Type 1} → statement M
+read-start-spec =
+    tie.close
+    (tie.spec
+    buffer-requires
+    buffer-requires-2
+    slice-aggregate-arg
+    arg-requires
+    slice-aggregate-arg-2
+    arg-requires-2
+    slice-aggregate-arg-3
+    arg-requires-3
+    word-count-requires
+    array-share-prefix-option
+    slice-aggregate-start-by
+    array-share-prefix-place
+    slice-aggregate-start-by-2
+    array-share-prefix-marks
+    slice-aggregate-start-by-3
+    start-by-requires
+    returns)
