@@ -24,7 +24,6 @@ use numbers::marks_of;
 use numbers::place_of;
 use numbers::told_by;
 use numbers::word_of_quality;
-use switch::AfterChoice;
 use switch::Switch;
 use switch::decide;
 ghost use mathlib.Core.Path.{_≡_};
@@ -32,7 +31,7 @@ ghost use mathlib.Core.Bool.{false, cond};
 ghost use mathlib.Core.List.{map};
 ghost use lib.ListN.{getD};
 ghost use Rattle.input.specs.Record.{freshInput, inputAtMoment, inputBroughtTo};
-ghost use Rattle.selector.specs.State.{seenOf, candidateFor, candidatesOf, freshSelector, afterChoice, decided, tickedOnce};
+ghost use Rattle.selector.specs.State.{seenOf, candidateFor, candidatesOf, freshSelector, decided, tickedOnce};
 ghost use Rattle.selector.specs.Answer.{selectedNumber, switchNumber, switchInput, clockState, clockQuality, outgoingCode, outgoingWord, selectedCandidate, signFor, ports, qualityOf, answerOf, outgoingCodes, outgoingWords};
 
 // Stands for no input in an answer.
@@ -167,19 +166,6 @@ impl Selector {
             mode: true,
             held: false,
         }
-    }
-
-    // What the switch judged and the choice made come to, for a caller that keeps the inputs where
-    // they are. It has that one caller, and is compiled into it.
-    pub fn after_choice(self) -> AfterChoice
-        ensures { λ answer. ⌜ answer ≡ afterChoice self ⌝ }
-    {
-        let inputs = self.inputs;
-        let profile = self.profile;
-        let candidates = candidates_of(profile, inputs, self.mode);
-        let switch = self.switch;
-        let selection = self.selection;
-        decide(candidates, switch, selection, self.held)
     }
 
     // The switch judged and the choice made.
