@@ -15,17 +15,17 @@ use Rattle.numbers.specs.declared.Profile.{Profile}
 use Rattle.numbers.specs.declared.Profile.the-variants as P
 use Rattle.numbers.specs.Inputs.{lastInput, inputCount}
 use Rattle.numbers.specs.Kind.{flag, kindFrame}
-use Rattle.numbers.specs.Profile.{placeOf, marksOf, limitsOf}
+use Rattle.numbers.specs.Profile.{placeOf, marksOf, limitsOf, profileIn, optionOf}
 use Rattle.numbers.specs.Refusal.{accepted}
 use Rattle.frame.specs.declared.FrameRead.{FrameRead}
 use Rattle.frame.specs.Read.{readCode}
-use Rattle.numbers.proofs.Truth.{byBool}
+use Rattle.numbers.proofs.Truth.{byBool, both-first, both-second}
 use Rattle.input.specs.declared.Input.{Input}
 use Rattle.input.specs.Record.{freshInput}
 use Rattle.input.proofs.Laws.{kindArgument-back}
 use Rattle.choice.specs.declared.Selection.{Selection}
 use Rattle.choice.specs.declared.Selection.the-variants as S
-use Rattle.choice.proofs.Choosing.{Inside, both-first, both-second}
+use Rattle.choice.proofs.Choosing.{Inside}
 use Rattle.switch.specs.declared.Switch.{Switch}
 use Rattle.switch.specs.declared.Switch.the-variants as W
 use Rattle.selector.specs.declared.Selector.{Selector}
@@ -47,7 +47,7 @@ use Rattle.quickstep.proofs.Right.{Kept, numbered-answer, own-early, takeStep-r
 use Rattle.card.specs.declared.Card.{Card}
 use Rattle.card.specs.declared.CardInput.{CardInput}
 use Rattle.card.specs.declared.quick.Quick.{Quick}
-use Rattle.card.specs.Flat.{isSet, inputOf, flatInput, flatAnswer, switchOf, selectionOf, isSelected, profileIn, optionOf, selectorOf, cardOf, withNumber}
+use Rattle.card.specs.Flat.{isSet, inputOf, flatInput, flatAnswer, switchOf, selectionOf, isSelected, selectorOf, cardOf, withNumber}
 use Rattle.card.specs.Card.{steppedCard, namesInput, isRanged, profileHeld, flatPlace, StandsAt, ownFlat, quickOf, notQuick, quickStep, framedFlat, cardNumbered, quickCard, watchIn, wholeCard, eventCard, readFor}
 use Rattle.card.specs.Range.{IsInput, InRange}
 use Rattle.card.proofs.Laws.{quickStep-refused, quickStep-again, quickStep-slow, eventCard-quick, eventCard-whole}

@@ -12,7 +12,7 @@ use Rattle.numbers.specs.declared.Profile.the-variants as P
 use Rattle.numbers.specs.From.{started, _following_, profileOf}
 use Rattle.numbers.specs.Inputs.{lastInput, timeLimit}
 use Rattle.numbers.specs.Kind.{kindFrame, kindForced, kindManual}
-use Rattle.numbers.specs.Profile.{placeOf, lastPlace, startNumber, limitsOf}
+use Rattle.numbers.specs.Profile.{placeOf, lastPlace, startNumber, limitsOf, optionTwo, profileIn, optionOf}
 use Rattle.numbers.specs.Refusal.{accepted, argumentOutOfRange}
 use Rattle.numbers.proofs.Truth.{byBool}
 use Rattle.frame.specs.Read.{readCode}
@@ -48,7 +48,7 @@ use Rattle.events.proofs.Demand4.{demand-4}
 use Rattle.quickstep.specs.Watch.{dueAfter}
 use Rattle.card.specs.declared.Card.{Card}
 use Rattle.card.specs.declared.CardAnswer.{CardAnswer}
-use Rattle.card.specs.Flat.{isSet, inputOf, flatInput, flatAnswer, switchOf, selectionOf, isSelected, optionTwo, profileIn, optionOf, selectorOf, cardOf, withNumber}
+use Rattle.card.specs.Flat.{isSet, inputOf, flatInput, flatAnswer, switchOf, selectionOf, isSelected, selectorOf, cardOf, withNumber}
 use Rattle.card.specs.Card.{freshCard, startCard, steppedCard, eventCard, readFor, stepCard, cardCodes, cardWords, cardDue}
 use Rattle.card.specs.Calls.{called, cardAfter, latestNumber, latestCount, latestBy, StartRight, CardRight, Demand1Card, Demand2Card, Demand3Card, Demand4Card, NextDueCard}
 use Rattle.card.proofs.Ports.{port-written}

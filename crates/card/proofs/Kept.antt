@@ -14,11 +14,11 @@ use Rattle.numbers.specs.Profile.{limitsOf}
 use Rattle.numbers.specs.Inputs.{timeLimit}
 use Rattle.numbers.specs.Kind.{flag, kindTick}
 use Rattle.numbers.specs.Refusal.{accepted}
+use Rattle.numbers.proofs.Truth.{both-second}
 use Rattle.frame.specs.declared.FrameRead.{FrameRead}
 use Rattle.frame.specs.declared.FrameRead.the-variants.{Code}
 use Rattle.frame.specs.Read.{readCode}
 use Rattle.input.specs.Record.{freshInput}
-use Rattle.choice.proofs.Choosing.{both-second}
 use Rattle.selector.specs.declared.Selector.{Selector}
 use Rattle.selector.specs.Answer.{answerOf}
 use Rattle.selector.specs.State.{decided}

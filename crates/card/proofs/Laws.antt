@@ -12,13 +12,12 @@ use borrow.Author.Tests.{eq-eqb, ne-eqb, lt-ltb, le-ltb}
 use Rattle.numbers.specs.declared.Answer.{Answer}
 use Rattle.numbers.specs.declared.Event.{Event}
 use Rattle.numbers.specs.declared.InputKind.{InputKind}
-use Rattle.numbers.specs.declared.InputKind.the-variants as N
 use Rattle.numbers.specs.declared.InputNumber.{InputNumber}
 use Rattle.numbers.specs.declared.Profile.{Profile}
 use Rattle.numbers.specs.declared.Profile.the-variants as P
 use Rattle.numbers.specs.Kind.{flag, kindFrame, inputKindOf, kindArgument}
 use Rattle.numbers.specs.Quality.{quality}
-use Rattle.numbers.specs.Profile.{placeOf, marksOf, startNumber, paperNumber, limitsOf}
+use Rattle.numbers.specs.Profile.{placeOf, marksOf, startNumber, paperNumber, limitsOf, profileIn, optionOf}
 use Rattle.numbers.specs.Refusal.{accepted, inputOutOfRange}
 use Rattle.frame.specs.declared.FrameRead.{FrameRead}
 use Rattle.frame.specs.declared.FrameRead.the-variants.{Code}
@@ -45,7 +44,7 @@ use Rattle.card.specs.declared.CardAnswer.{CardAnswer}
 use Rattle.card.specs.declared.CardInput.{CardInput}
 use Rattle.card.specs.declared.quick.Quick.{Quick}
 use Rattle.card.specs.declared.known.CardStatus.{CardStatus}
-use Rattle.card.specs.Flat.{isSet, inputOf, flatInput, flatAnswer, switchOf, selectionOf, isSelected, optionTwo, profileIn, optionOf, selectorOf, cardOf, withNumber}
+use Rattle.card.specs.Flat.{isSet, inputOf, flatInput, flatAnswer, switchOf, selectionOf, isSelected, selectorOf, cardOf, withNumber}
 use Rattle.card.specs.Card.{freshCard, startCard, isRanged, profileHeld, flatPlace, StandsAt, ownFlat, quickOf, notQuick, quickStep, framedFlat, cardNumbered, quickCard, wholeCard, eventCard, readFor, portCode, numberOfWrite, WritePort}
 use Rattle.card.specs.Status.{noStatus, cardStatus}
 use Rattle.card.specs.Sound.{sameInput, sameAmong, sameInputs, sameCard, tickedAgain, cardSound}
@@ -173,42 +172,6 @@ pub flatInput-with : (input : Input) (kind : ℕ) → kind ≡ kindArgument (inp
     → flatWith kind input ≡ flatInput input
 unfolding flatInput
 flatInput-with input kind k = rw k
-
--- ---- kindArgument, profileIn, optionOf
-
-module _ (kind : InputKind) where
-  pub kindArgument-line : kind ≡ N.Line → 0 ≡ kindArgument kind
-  kindArgument-line e = rw e
-
-  pub kindArgument-ethernet : kind ≡ N.Ethernet → 1 ≡ kindArgument kind
-  kindArgument-ethernet e = rw e
-
-  pub kindArgument-words : kind ≡ N.Words → 2 ≡ kindArgument kind
-  kindArgument-words e = rw e
-
-pub ruleset kindArgument-laws = (kindArgument-line, kindArgument-ethernet, kindArgument-words)
-
-module _ (option place marks : ℕ) where
-  pub profileIn-two : option ≡ optionTwo → P.OptionTwo place marks ≡ profileIn option place marks
-  unfolding profileIn
-  profileIn-two e = rw (eq-eqb _ _ e)
-
-  pub profileIn-one : (option ≡ optionTwo → ⊥) → P.OptionOne ≡ profileIn option place marks
-  unfolding profileIn
-  profileIn-one n = rw (ne-eqb _ _ n)
-
-pub ruleset profileIn-laws = (profileIn-two, profileIn-one)
-
-module _ (profile : Profile) where
-  pub optionOf-one : profile ≡ P.OptionOne → 1 ≡ optionOf profile
-  unfolding optionOf
-  optionOf-one e = rw e
-
-  pub optionOf-two : (place marks : ℕ) → profile ≡ P.OptionTwo place marks → 2 ≡ optionOf profile
-  unfolding optionOf
-  optionOf-two place marks e = rw e
-
-pub ruleset optionOf-laws = (optionOf-one, optionOf-two)
 
 -- ---- cardOf
 
@@ -466,12 +429,3 @@ module _ (flat : CardInput) (told : CardAnswer) (profile : Profile) (time due : 
       pub quickStep-slow : early ≡ accepted → notQuick ≡ quickStep flat told profile time due event read
       unfolding quickStep
       quickStep-slow none = rw (← r, y, ← again-here, new, ← early-here, eq-eqb _ _ none)
-
--- a test and its contrary
-pub not-true : (test : Bool) → not test ≡ true → test ≡ false
-not-true true is = absurd (true≢false (sym is))
-not-true false is = refl
-
-pub not-false : (test : Bool) → not test ≡ false → test ≡ true
-not-false true is = refl
-not-false false is = absurd (true≢false is)

@@ -1,6 +1,6 @@
 -- The self-test is passed: by computation of the definitions. Assumes nothing.
 use mathlib.Core.Path.{_≡_, refl}
-use Rattle.numbers.specs.Profile.{limitsOf, placeOf, marksOf, floorIn}
+use Rattle.numbers.specs.Profile.{limitsOf, placeOf, marksOf, floorIn, profileIn, optionOf}
 use Rattle.numbers.specs.Codes.{saidBy, qualityOfCode, qualityOfWord, saidIn}
 use Rattle.numbers.specs.Kind.{rowOf, inputKindOf, isArgumentOut, isInputOut}
 use Rattle.numbers.specs.Rows.{firstThatApplies}
@@ -22,7 +22,7 @@ use Rattle.due.specs.Served.{servedFrom, served}
 use Rattle.events.specs.Refusals.{isWrongKind, frameRefusal, earlyRefusal, isForcedSwitch, lateRefusal}
 use Rattle.events.specs.Step.{isHeldInByte, heldArgument, inputAfter, inputsAfter, modeAfter, atItsMoment, stepRead}
 use Rattle.events.specs.Given.{recordedArgument}
-use Rattle.card.specs.Flat.{inputOf, flatInput, switchOf, selectionOf, isSelected, profileIn, optionOf, selectorOf, cardOf}
+use Rattle.card.specs.Flat.{inputOf, flatInput, switchOf, selectionOf, isSelected, selectorOf, cardOf}
 use Rattle.quickstep.specs.Again.{codeAgain, frameAgain, readAgain, isAgain, saysAgain, againInput, againDue, againOwn}
 use Rattle.quickstep.specs.Own.{isCommand, isServed, seenAlike, ownTake, ownStep}
 use Rattle.quickstep.specs.Watch.{dueAnew, dueAfter, servedWatch, completed, ownPut, takeStep}

@@ -9,6 +9,7 @@ use Rattle.numbers.specs.declared.Profile.{Profile}
 use Rattle.numbers.specs.From.{profileOf}
 use Rattle.numbers.specs.Inputs.{lastInput}
 use Rattle.numbers.specs.Kind.{flag}
+use Rattle.numbers.proofs.Truth.{flag-most}
 use Rattle.selector.specs.declared.Selector.{Selector}
 use Rattle.events.specs.Given.{Sequence}
 use Rattle.events.specs.Sequence.{stateAfter}
@@ -23,10 +24,6 @@ use Rattle.card.specs.Flat.{selectorOf}
 use Rattle.card.specs.Calls.{cardAfter}
 use Rattle.card.specs.Status.{noStatus, flatStatus, cardStatus, AnyStatus, StatusCard}
 use Rattle.card.proofs.Calls.{card-right}
-
-flag-most : (test : Bool) → flag test ≤ 1
-flag-most true = omega arith
-flag-most false = omega arith
 
 -- 0, or 1 for yes
 either-most : (above test : Bool) (field : CardStatus → ℕ) (status : CardStatus)

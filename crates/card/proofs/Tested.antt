@@ -1,6 +1,6 @@
 -- The self-test's definitions, a law for each way through the function that meets it. Assumes nothing.
 use Prim.Native.Nat.{ℕ, suc, _+_, _≤_, _<_}
-use mathlib.Core.Bool.{Bool, true, false, _&&_}
+use mathlib.Core.Bool.{Bool, true, false, _&&_, and-true, and-assoc}
 use mathlib.Core.List.{List, [], _∷_}
 use mathlib.Core.Path.{_≡_, refl, sym, _∙_, ap}
 use native.Mathlib.Numerals.{add-one}
@@ -46,14 +46,6 @@ abbrev pub Answered : List TestLine → ℕ → Bool → Card → Type 0
 Answered lines at right card =
     (right && answeredRight (drop at lines) card) ≡ answeredRight lines (freshCard P.OptionOne)
 
-both-assoc : (one two three : Bool) → ((one && two) && three) ≡ (one && (two && three))
-both-assoc true two three = refl
-both-assoc false two three = refl
-
-both-true : (one : Bool) → (one && true) ≡ one
-both-true true = refl
-both-true false = refl
-
 answered-no-line : (card : Card) → answeredRight [] card ≡ true
 unfolding answeredRight
 answered-no-line card = refl
@@ -68,7 +60,7 @@ pub answered-more : (lines : List TestLine) (at : ℕ) (right same : Bool) (card
     → Answered lines (at + 1) (right && same) after
 unfolding answeredRight
 answered-more lines at right same card after zeroed before inside a s =
-    rw (add-one at, both-assoc right same (answeredRight (drop (suc at) lines) after), s, a)
+    rw (add-one at, and-assoc right same (answeredRight (drop (suc at) lines) after), s, a)
     (ap (λ (left : List TestLine). right && answeredRight left card) (sym (drop-cons lines at zeroed inside)) ∙ before)
 
 pub answered-all : (lines : List TestLine) (at : ℕ) (right : Bool) (card : Card)
@@ -78,7 +70,7 @@ unfolding selfTest
 answered-all lines at right card before past is =
     boolByte-flag right
     ∙ ap flag
-    (sym (both-true right)
+    (sym (and-true right)
     ∙ ap (λ (rest : Bool). right && rest) (sym (answered-no-line card))
     ∙ ap (λ (left : List TestLine). right && answeredRight left card) (sym (drop-of-length-le lines past))
     ∙ before

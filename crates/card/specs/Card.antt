@@ -11,7 +11,7 @@ use Rattle.numbers.specs.declared.Event.{Event}
 use Rattle.numbers.specs.declared.Profile.{Profile}
 use Rattle.numbers.specs.Inputs.{lastInput, inputCount}
 use Rattle.numbers.specs.Kind.{flag, kindFrame}
-use Rattle.numbers.specs.Profile.{startNumber, limitsOf}
+use Rattle.numbers.specs.Profile.{startNumber, limitsOf, profileIn}
 use Rattle.numbers.specs.Refusal.{accepted, inputOutOfRange}
 use Rattle.frame.specs.declared.FrameMessage.{FrameMessage}
 use Rattle.frame.specs.declared.FrameRead.{FrameRead}
@@ -39,7 +39,7 @@ use Rattle.card.specs.declared.CardFrame.{CardFrame}
 use Rattle.card.specs.declared.CardInput.{CardInput}
 use Rattle.card.specs.declared.CardWords.{CardWords}
 use Rattle.card.specs.declared.quick.Quick.{Quick}
-use Rattle.card.specs.Flat.{inputOf, flatInput, profileIn, selectorOf, cardOf, withNumber}
+use Rattle.card.specs.Flat.{inputOf, flatInput, selectorOf, cardOf, withNumber}
 
 -- the header's version
 abbrev pub headerVersion : ℕ

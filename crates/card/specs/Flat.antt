@@ -11,7 +11,7 @@ use Rattle.numbers.specs.declared.Profile.the-variants as P
 use Rattle.numbers.specs.Inputs.{lastInput}
 use Rattle.numbers.specs.Quality.{quality}
 use Rattle.numbers.specs.Kind.{flag, inputKindOf, kindArgument}
-use Rattle.numbers.specs.Profile.{placeOf, marksOf}
+use Rattle.numbers.specs.Profile.{profileIn, optionOf, placeOf, marksOf}
 use Rattle.input.specs.declared.Input.{Input}
 use Rattle.choice.specs.declared.Selection.{Selection}
 use Rattle.choice.specs.declared.Selection.the-variants as S
@@ -106,22 +106,6 @@ selectionOf selection number =
 unfoldable pub isSelected : Selection → ℕ
 isSelected S.Nothing = 0
 isSelected (S.At number) = 1
-
--- the options, as C numbers them
-abbrev pub optionOne : ℕ
-optionOne = 1
-
-abbrev pub optionTwo : ℕ
-optionTwo = 2
-
--- document 02, L10: "Those marks and the place of PROV .. are given with the profile"; any number but 2 is option I
-unfoldable pub profileIn : ℕ → ℕ → ℕ → Profile
-profileIn option place marks = cond (eqb option optionTwo) (P.OptionTwo place marks) P.OptionOne
-
--- the number of a profile's option
-unfoldable pub optionOf : Profile → ℕ
-optionOf P.OptionOne = optionOne
-optionOf (P.OptionTwo place marks) = optionTwo
 
 -- the selector that a card holds
 unfoldable pub selectorOf : Card → Selector

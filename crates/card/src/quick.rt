@@ -7,7 +7,6 @@ use crate::CardAnswer;
 use crate::CardInput;
 use crate::card_of;
 use crate::input_of;
-use crate::profile_in;
 use crate::read_for;
 use crate::selector_of;
 use events::early_refusal;
@@ -18,12 +17,13 @@ use numbers::Event;
 use numbers::INPUT_COUNT;
 use numbers::LAST_INPUT;
 use numbers::Profile;
+use numbers::profile_in;
 use quickstep::Watch;
 use quickstep::again_own;
 use quickstep::due_after;
 use quickstep::says_again;
 ghost use mathlib.Core.Path.{_≡_};
-ghost use Rattle.card.specs.Flat.{profileIn};
+ghost use Rattle.numbers.specs.Profile.{profileIn};
 ghost use Rattle.card.specs.Card.{eventOf, readFor, namesInput, isRanged, flatPlace, StandsAt, plainCard, quickStep, quickCard, wholeCard};
 
 // Stands for no input in an answer.

@@ -10,11 +10,35 @@ use Rattle.numbers.specs.declared.Profile.{Profile}
 use Rattle.numbers.specs.declared.Profile.the-variants as P
 use Rattle.numbers.specs.Refusal.{accepted, argumentOutOfRange}
 use Rattle.numbers.specs.Quality.{notTold, tnc, st3e, st3, invalid, failed}
-use Rattle.numbers.specs.Profile.{limitsOf, placeOf, lastPlace, startNumber, marksOf, floorIn, toldBy, numberInOne, paperNumber}
+use Rattle.numbers.specs.Profile.{optionOne, optionTwo, profileIn, optionOf, limitsOf, placeOf, lastPlace, startNumber, marksOf, floorIn, toldBy, numberInOne, paperNumber}
 use Rattle.numbers.specs.declared.InputKind.{InputKind}
 use Rattle.numbers.specs.declared.InputKind.the-variants as N
-use Rattle.numbers.specs.Kind.{inputKindOf}
+use Rattle.numbers.specs.Kind.{inputKindOf, kindArgument}
 use Rattle.numbers.specs.Codes.{codesOne, codesTwo, codeDnu, saidBy, signOf, qualityOfCode, codeOfQuality, qualityOfWord}
+
+-- ---- a profile by its option's number, and back
+
+module _ (option place marks : ℕ) where
+  pub profileIn-two : option ≡ optionTwo → P.OptionTwo place marks ≡ profileIn option place marks
+  unfolding profileIn
+  profileIn-two two = rw (eq-eqb option optionTwo two)
+
+  pub profileIn-one : (option ≡ optionTwo → ⊥) → P.OptionOne ≡ profileIn option place marks
+  unfolding profileIn
+  profileIn-one other = rw (ne-eqb option optionTwo other)
+
+pub ruleset profileIn-laws = (profileIn-two, profileIn-one)
+
+module _ (profile : Profile) where
+  pub optionOf-one : profile ≡ P.OptionOne → optionOne ≡ optionOf profile
+  unfolding optionOf
+  optionOf-one p = rw p
+
+  pub optionOf-two : (place marks : ℕ) → profile ≡ P.OptionTwo place marks → optionTwo ≡ optionOf profile
+  unfolding optionOf
+  optionOf-two place marks p = rw p
+
+pub ruleset optionOf-laws = (optionOf-one, optionOf-two)
 
 -- ---- a function of the profile is given by its two cases
 
@@ -162,3 +186,15 @@ module _ (argument : ℕ) where
   inputKindOf-words a b = rw (ne-eqb argument 0 a, ne-eqb argument 1 b)
 
 pub ruleset inputKindOf-laws = (inputKindOf-line, inputKindOf-ethernet, inputKindOf-words)
+
+module _ (kind : InputKind) where
+  pub kindArgument-line : kind ≡ N.Line → 0 ≡ kindArgument kind
+  kindArgument-line e = rw e
+
+  pub kindArgument-ethernet : kind ≡ N.Ethernet → 1 ≡ kindArgument kind
+  kindArgument-ethernet e = rw e
+
+  pub kindArgument-words : kind ≡ N.Words → 2 ≡ kindArgument kind
+  kindArgument-words e = rw e
+
+pub ruleset kindArgument-laws = (kindArgument-line, kindArgument-ethernet, kindArgument-words)

@@ -10,6 +10,24 @@ use Rattle.numbers.specs.declared.Profile.the-variants as P
 use Rattle.numbers.specs.Refusal.{accepted, argumentOutOfRange}
 use Rattle.numbers.specs.Quality.{sec, tnc, st3e, st3, invalid, failed}
 
+-- the options, as a line's byte and C number them: "01"
+abbrev pub optionOne : ℕ
+optionOne = 1
+
+-- "or 02"
+abbrev pub optionTwo : ℕ
+optionTwo = 2
+
+-- the profile of an option's number: "Those marks and the place of PROV .. are given with the profile"; any number but 2
+-- is option I
+unfoldable pub profileIn : ℕ → ℕ → ℕ → Profile
+profileIn option place marks = cond (eqb option optionTwo) (P.OptionTwo place marks) P.OptionOne
+
+-- the number of a profile's option
+unfoldable pub optionOf : Profile → ℕ
+optionOf P.OptionOne = optionOne
+optionOf (P.OptionTwo place marks) = optionTwo
+
 -- the numbers of an option: the last fixed quality and the last floor, the last kind of input, whether words come, and
 -- what a clock by itself tells, which is also an input's fresh floor
 unfoldable pub limitsOf : Profile → Limits

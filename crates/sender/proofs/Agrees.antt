@@ -9,8 +9,7 @@ use lib.ListN.{length, length-set, length-replicate, getD-replicate}
 use lib.Seq.{getD-set-same, getD-set-other}
 use borrow.Author.Tests.{eq-eqb, ne-eqb, eqb-true, eqb-false, leb-true, leb-false}
 use Rattle.numbers.specs.Refusal.{accepted}
-use Rattle.run.proofs.Exact.{and-true-right}
-use Rattle.numbers.proofs.Truth.{byBool}
+use Rattle.numbers.proofs.Truth.{byBool, both-second}
 use Rattle.selector.proofs.Laws.{getD-past}
 use Rattle.sender.specs.declared.Asked.{Asked}
 use Rattle.sender.specs.declared.Heartbeat.{Heartbeat}
@@ -63,7 +62,7 @@ accepted-falling port (question ∷ earlier) =
   where
     number : (eqb (question .port) port && eqb (numberOver (acceptedOf port earlier) question) accepted) ≡ true
         → numberOver (acceptedOf port earlier) question ≡ accepted
-    number taken = eqb-true _ _ (and-true-right (eqb (question .port) port) _ taken)
+    number taken = eqb-true _ _ (both-second (eqb (question .port) port) _ taken)
 
 -- ---- asked
 

@@ -6,7 +6,7 @@ use mathlib.Core.Path.{_≡_, refl, sym, _∙_, ap, subst}
 use native.Mathlib.Omega.{arith}
 use lib.Dec.{leb}
 use borrow.Author.Tests.{leb-true, leb-false, le-leb, lt-ltb, ltb-true, ltb-false}
-use Rattle.numbers.proofs.Truth.{byBool}
+use Rattle.numbers.proofs.Truth.{byBool, both-second}
 use Rattle.sender.specs.declared.Heartbeat.{Heartbeat}
 use Rattle.sender.specs.declared.Heartbeat.the-variants as H
 use Rattle.sender.specs.Heartbeat.{Questions, codeAsked, acceptedOf, Sent, window, windowFrames, isLater, laterCount, dueFrame, heartbeatOver, sentAfter, sentOver}
@@ -14,7 +14,6 @@ use Rattle.sender.specs.Sender.{asked}
 use Rattle.sender.specs.Sending.{isWithin, withinCount, Window}
 use Rattle.sender.proofs.Kept.{Descending, lastAsked, isEarlier-asked, event, falling-descending}
 use Rattle.sender.proofs.Agrees.{accepted-falling}
-use Rattle.run.proofs.Exact.{and-true-right}
 use Rattle.sender.proofs.Sending.{answered-by}
 
 module _ (time : ℕ) where
@@ -48,7 +47,7 @@ module _ (time : ℕ) where
   within-frame frame sent free rest =
       byBool (isWithin time frame)
       (λ counts.
-      let before : frame .time ≤ time = leb-true (frame .time) time (and-true-right (isLater time frame) _ counts) in
+      let before : frame .time ≤ time = leb-true (frame .time) time (both-second (isLater time frame) _ counts) in
       rw counts (omega (arith, within-later (frame .time) sent before)))
       (λ old. rw old rest)
 

@@ -4,7 +4,6 @@
 // time of the last accepted question. Nothing here keeps time or ticks the selector: a question
 // brings its time and a state, and the state is taken as it is. Senders with any numbers in them
 // are answered for, no sum can wrap, and no public function has a `requires`.
-use events::TIME_LIMIT;
 use frame::SOURCE_LENGTH;
 use frame::WRITTEN_LENGTH;
 use frame::write_frame;
@@ -13,6 +12,7 @@ use numbers::BUFFER_TOO_SHORT;
 use numbers::INPUT_OUT_OF_RANGE;
 use numbers::SOURCE_NOT_SIX;
 use numbers::TIME_BEFORE_STATE;
+use numbers::TIME_LIMIT;
 use numbers::TIME_TOO_LARGE;
 use run::has_elapsed;
 use selector::Selector;

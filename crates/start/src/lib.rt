@@ -20,7 +20,7 @@ ghost use Rattle.start.specs.Parts.{ValueOf, FourDigits};
 const WORDS: usize = 3;
 
 // The numeral of option II.
-const OPTION_TWO: u8 = b'2';
+const NUMERAL_2: u8 = b'2';
 
 // "MARKS four hexadecimal digits"
 const MARKS: usize = 4;
@@ -132,7 +132,7 @@ pub fn start_in(option: &[u8], place: &[u8], marks: &[u8]) -> StartRead
     ensures { λ read. ⌜
         read ≡ startIn (now (option .entry)) (now (place .entry)) (now (marks .entry)) ⌝ }
 {
-    if !is_option_word(option, OPTION_TWO) {
+    if !is_option_word(option, NUMERAL_2) {
         return StartRead::NoStart;
     }
     if !is_decimal(place) {

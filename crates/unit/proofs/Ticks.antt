@@ -33,7 +33,7 @@ use Rattle.unit.specs.Unit.{timeNumber}
 
 -- a time is refused with 3 or 4
 pub timeNumber-within : (unit time : ℕ) → timeNumber unit time ≢ accepted → OneToThirteen (timeNumber unit time)
-unfolding timeNumber
+unfolding timeNumber firstThatApplies
 timeNumber-within unit time refused =
     byBool (leb timeLimit time)
     (λ l. rw l (record { least = omega arith; most = omega arith }))
@@ -43,14 +43,14 @@ timeNumber-within unit time refused =
 
 -- a time that passes is neither too large nor too early
 timeNumber-limit : (unit time : ℕ) → timeNumber unit time ≡ accepted → leb timeLimit time ≡ false
-unfolding timeNumber
+unfolding timeNumber firstThatApplies
 timeNumber-limit unit time passes =
     byBool (leb timeLimit time)
     (λ l. let k : timeTooLarge ≡ accepted = rw l at passes in absurd (omega arith))
     (λ l. l)
 
 timeNumber-before : (unit time : ℕ) → timeNumber unit time ≡ accepted → ltb time unit ≡ false
-unfolding timeNumber
+unfolding timeNumber firstThatApplies
 timeNumber-before unit time passes =
     byBool (ltb time unit)
     (λ e.
@@ -60,7 +60,7 @@ timeNumber-before unit time passes =
 
 -- it passes again
 pub timeNumber-again : (unit time : ℕ) → timeNumber unit time ≡ accepted → timeNumber time time ≡ accepted
-unfolding timeNumber
+unfolding timeNumber firstThatApplies
 timeNumber-again unit time passes = rw (timeNumber-limit unit time passes, le-ltb time time (omega arith))
 
 -- ---- the rows, by what has happened

@@ -16,6 +16,7 @@ use Rattle.numbers.specs.Inputs.{timeLimit}
 use Rattle.numbers.specs.Kind.{kindSignal, kindFrame, kindLineCode, kindWord, kindInputKind, kindTick}
 use Rattle.numbers.specs.Profile.{limitsOf, placeOf, startNumber}
 use Rattle.numbers.specs.Quality.{failed}
+use Rattle.numbers.specs.Rows.{refusal, firstThatApplies}
 use Rattle.numbers.specs.Refusal.{accepted, timeTooLarge, timeBeforeState, argumentOutOfRange}
 use Rattle.input.specs.Recorded.{History, modeOn, floorOf, timeOf, PassedAt}
 use Rattle.choice.specs.Choice.{selected}
@@ -122,12 +123,10 @@ ownTellings half (addressed following earlier) =
 
 -- ---- one time
 
--- the number that a time is refused with, against the unit's: 3, 4, or 0 where it passes
+-- the number that a time is refused with, against the unit's, by rows 3 and 4; 0 where it passes
 unfoldable pub timeNumber : ℕ → ℕ → ℕ
 timeNumber unit time =
-    cond (leb timeLimit time) timeTooLarge
-    (cond (ltb time unit) timeBeforeState
-    accepted)
+    firstThatApplies (refusal timeTooLarge (leb timeLimit time) ∷ refusal timeBeforeState (ltb time unit) ∷ [])
 
 -- "The unit keeps one time": that of the last event whose time passed
 unfoldable pub unitTime : UnitSequence → ℕ

@@ -14,7 +14,7 @@ use Rattle.numbers.specs.declared.Profile.{Profile}
 use Rattle.numbers.specs.declared.Quality.{Quality}
 use Rattle.numbers.specs.From.{started, _following_}
 use Rattle.numbers.specs.Kind.{flag}
-use Rattle.numbers.specs.Profile.{limitsOf, lastPlace, placeOf, startNumber}
+use Rattle.numbers.specs.Profile.{limitsOf, lastPlace, placeOf, startNumber, profileIn}
 use Rattle.numbers.specs.Quality.{quality}
 use Rattle.numbers.specs.Refusal.{accepted, argumentOutOfRange}
 use Rattle.selector.specs.declared.Selector.{Selector}
@@ -43,7 +43,7 @@ use Rattle.unit.proofs.Times.{one-time, refusals-leave}
 use Rattle.unit.proofs.Output.{squelched-by, source-by, output-right}
 use Rattle.unit.proofs.Runs.{independence}
 use Rattle.card.specs.declared.Card.{Card}
-use Rattle.card.specs.Flat.{flatAnswer, profileIn, selectorOf, cardOf}
+use Rattle.card.specs.Flat.{flatAnswer, selectorOf, cardOf}
 use Rattle.card.specs.Card.{readFor, cardCodes, cardWords, cardDue}
 use Rattle.card.proofs.Range.{Named, stepRead-readFor, sequence-named}
 use Rattle.card.specs.Sound.{cardSound}

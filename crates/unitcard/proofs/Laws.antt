@@ -5,9 +5,9 @@ use borrow.Author.Tests.{eq-eqb, ne-eqb}
 use Rattle.numbers.specs.declared.Profile.{Profile}
 use Rattle.numbers.specs.Quality.{quality}
 use Rattle.numbers.specs.Refusal.{accepted}
+use Rattle.numbers.specs.Profile.{profileIn}
 use Rattle.unit.specs.declared.Half.the-variants as H
 use Rattle.unit.specs.Unit.{unitStartNumber}
-use Rattle.card.specs.Flat.{profileIn}
 use Rattle.unitcard.specs.declared.UnitCard.{UnitCard}
 use Rattle.unitcard.specs.Flat.{stationHalf, halfIn, withNumbers}
 use Rattle.unitcard.specs.UnitCard.{freshUnitCard, startUnitCard}

@@ -9,6 +9,7 @@ use borrow.Author.Tests.{ne-eqb}
 use Rattle.numbers.specs.declared.Event.{Event}
 use Rattle.numbers.specs.Kind.{flag, kindFrame}
 use Rattle.numbers.specs.Refusal.{accepted}
+use Rattle.numbers.proofs.Truth.{flag-most}
 use Rattle.frame.specs.declared.FrameRead.{FrameRead}
 use Rattle.frame.specs.Read.{readCode}
 use Rattle.selector.specs.declared.Selector.{Selector}
@@ -58,10 +59,6 @@ stepUnitRead-named unit to event read named =
     }
 
 -- ---- what C reads
-
-flag-most : (yes : Bool) → flag yes ≤ 1
-flag-most true = omega arith
-flag-most false = omega arith
 
 told-or-none : (squelched : Bool) (number : ℕ) → IsInput number → IsInput (cond squelched noInput number)
 told-or-none true number is = inr refl

@@ -8,6 +8,7 @@ use Rattle.numbers.specs.From.{started, _following_}
 use Rattle.numbers.specs.Kind.{flag}
 use Rattle.numbers.specs.Quality.{quality}
 use Rattle.numbers.specs.Refusal.{accepted, argumentOutOfRange}
+use Rattle.numbers.specs.Profile.{profileIn}
 use Rattle.events.specs.Sequence.{stateAfter}
 use Rattle.events.specs.Past.{recorded}
 use Rattle.events.specs.Told.{answerBy, codesBy, wordsBy}
@@ -17,7 +18,7 @@ use Rattle.unit.specs.declared.Half.the-variants as H
 use Rattle.unit.specs.Unit.{Addressed, UnitSequence, unitStartNumber, ownEvents, ownPast, ownNumber, outputBy}
 use Rattle.unit.specs.Sequence.{unitAfter, halfNumber}
 use Rattle.unit.specs.Claims.{HalfRight, OneTime, RefusalsLeave, OutputRight}
-use Rattle.card.specs.Flat.{flatAnswer, profileIn, selectorOf}
+use Rattle.card.specs.Flat.{flatAnswer, selectorOf}
 use Rattle.card.specs.Card.{cardCodes, cardWords, cardDue}
 use Rattle.card.specs.Sound.{cardSound}
 use Rattle.unitcard.specs.declared.UnitCard.{UnitCard}

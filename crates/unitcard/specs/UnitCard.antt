@@ -8,10 +8,10 @@ use Rattle.numbers.specs.declared.Profile.{Profile}
 use Rattle.numbers.specs.declared.Quality.{Quality}
 use Rattle.numbers.specs.Quality.{quality}
 use Rattle.numbers.specs.Refusal.{accepted}
+use Rattle.numbers.specs.Profile.{profileIn}
 use Rattle.unit.specs.declared.UnitStepped.{UnitStepped}
 use Rattle.unit.specs.Unit.{unitStartNumber}
 use Rattle.unit.specs.Kept.{freshUnit, stepUnitRead}
-use Rattle.card.specs.Flat.{profileIn}
 use Rattle.card.specs.Card.{eventOf, readFor}
 use Rattle.unitcard.specs.declared.UnitCard.{UnitCard}
 use Rattle.unitcard.specs.Flat.{halfIn, unitOf, unitCardOf, withNumbers}

@@ -10,7 +10,6 @@ pub mod exports;
 
 use card::Card;
 use card::card_of;
-use card::profile_in;
 use card::read_for;
 use card::selector_of;
 use card::with_number;
@@ -19,6 +18,7 @@ use numbers::ACCEPTED;
 use numbers::Event;
 use numbers::Profile;
 use numbers::Quality;
+use numbers::profile_in;
 use selector::Selector;
 use unit::Half;
 use unit::Unit;

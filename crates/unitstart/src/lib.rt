@@ -25,7 +25,7 @@ ghost use Rattle.unitstart.specs.Start.{unitStartOf, unitStartTwo, unitS
 const ARGUMENTS: usize = 5;
 
 // The numeral of option I.
-const OPTION_ONE: u8 = b'1';
+const NUMERAL_1: u8 = b'1';
 
 // The largest minimum that is looked at as a number: a larger one is out of range as well.
 const LARGEST: u64 = 255;
@@ -86,7 +86,7 @@ pub fn unit_start_in(option: &[u8], place: &[u8], marks: &[u8], minimum: &[u8]) 
     if !is_decimal(minimum) {
         return UnitStart::NoStart;
     }
-    if is_option_word(option, OPTION_ONE) {
+    if is_option_word(option, NUMERAL_1) {
         return start_with(Profile::OptionOne, minimum);
     }
     start_two(start_in(option, place, marks), minimum)

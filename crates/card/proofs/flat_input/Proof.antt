@@ -5,8 +5,8 @@ use borrow.Author.Needs.{needs}
 use Rattle.card.proofs.flat_input.Statement.{statement}
 use Rattle.card.proofs.flat_input.Tie as tie
 
-kind-number-requires : tie.Need-kind-number-requires
-kind-number-requires c κs = search needs
+kind-argument-requires : tie.Need-kind-argument-requires
+kind-argument-requires c κs = search needs
 
 cast-t7 : tie.Need-cast-t7
 cast-t7 c = search needs
@@ -28,4 +28,4 @@ returns c = search flatInput-with
 
 pub flat-input-spec : {M : Type 1} → statement M
 flat-input-spec =
-    tie.close (tie.spec kind-number-requires cast-t7 cast-t8 cast-t9 cast-t10 cast-t11 returns)
+    tie.close (tie.spec kind-argument-requires cast-t7 cast-t8 cast-t9 cast-t10 cast-t11 returns)

@@ -50,12 +50,13 @@ use denote.Triple.Clauses.{ensured, lasts}
 use denote.Triple.Table.{entered, cited}
 use denote.Triple.Walked.{says, Stays, stay-ref, stay-none, stay-none-slice, walkOf, AllGo, goes-none, goes-none-slice, goes-ref, Walks, ends-at, walked, walk-meets}
 use denote.Exit.{yes}
+use Rattle.numbers.specs.Profile.{profileIn}
 use Rattle.input.specs.Record.{freshInput}
 use Rattle.card.specs.declared.Card.{Card}
 use Rattle.card.specs.declared.CardAnswer.{CardAnswer}
 use Rattle.card.specs.declared.CardInput.{CardInput}
 use Rattle.card.specs.declared.quick.Quick.{Quick}
-use Rattle.card.specs.Flat.{flatInput, profileIn}
+use Rattle.card.specs.Flat.{flatInput}
 use Rattle.card.specs.Card.{eventOf, readFor, StandsAt, quickStep, framedFlat, cardNumbered, quickCard, wholeCard, stepCard}
 use Rattle.card.proofs.Laws.{eventCard-quick, eventCard-whole}
 use Rattle.card.proofs.Element.{elt, unraw, each-at, each-vals, each-set, set-map}

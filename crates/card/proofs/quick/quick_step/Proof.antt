@@ -1,7 +1,8 @@
 -- `card::quick::quick_step` meets its contract: each way is a law.
 -- Assumes nothing.
-use Rattle.card.proofs.Laws.{quickStep-unranged, quickStep-again, quickStep-refused, quickStep-slow, not-true, not-false}
+use Rattle.card.proofs.Laws.{quickStep-unranged, quickStep-again, quickStep-refused, quickStep-slow}
 use borrow.Author.Needs.{needs}
+use borrow.Author.Tests.{not-true, not-false}
 use Rattle.card.proofs.quick.quick_step.Statement.{statement}
 use Rattle.card.proofs.quick.quick_step.Tie as tie
 

@@ -1,8 +1,8 @@
--- `card::profile_in` meets its contract: each way is a law.
+-- `numbers::profile_in` meets its contract: each way is a law.
 -- Assumes nothing.
-use Rattle.card.proofs.Laws.{profileIn-laws}
-use Rattle.card.proofs.profile_in.Statement.{statement}
-use Rattle.card.proofs.profile_in.Tie as tie
+use Rattle.numbers.proofs.Profiles.{profileIn-laws}
+use Rattle.numbers.proofs.profile_in.Statement.{statement}
+use Rattle.numbers.proofs.profile_in.Tie as tie
 
 returns : tie.Need-returns
 returns c = search profileIn-laws
