@@ -9,25 +9,12 @@ use native.Mathlib.Omega.{arith}
 use native.Mathlib.Decide.{ℕ-discrete}
 use lib.Dec.{ltb}
 use borrow.Author.Tests.{ltb-true, lt-ltb}
-use Rattle.numbers.proofs.Truth.{byBool, is-false}
+use Rattle.numbers.proofs.Truth.{byBool, is-false, both-first, both-second, contra}
 use Rattle.numbers.specs.declared.InputNumber.{InputNumber}
 use Rattle.numbers.specs.Inputs.{inputCount}
 use Rattle.choice.specs.declared.Selection.{Selection}
 use Rattle.choice.specs.declared.Selection.the-variants.{Nothing, At}
 use Rattle.choice.specs.Choice.{selected, Ranking, Best, Chosen, seeded, offered, scanned, choose}
-
--- ---- tests
-
-pub both-first : (test other : Bool) → (test && other) ≡ true → test ≡ true
-both-first true b x = refl
-both-first false b x = x
-
-pub both-second : (test other : Bool) → (test && other) ≡ true → other ≡ true
-both-second true b x = x
-both-second false b x = absurd (false≢true x)
-
-pub contra : {A : Type 0} {test : Bool} → test ≡ true → test ≡ false → A
-contra x y = absurd (true≢false (sym x ∙ y))
 
 -- ---- selections
 

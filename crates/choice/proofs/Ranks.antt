@@ -10,7 +10,7 @@ use native.Mathlib.Decide.{ℕ-discrete}
 use lib.Dec.{leb, ltb, eqb}
 use lib.ListN.{getD}
 use borrow.Author.Tests.{eqb-true, ltb-true, ltb-false, leb-true, eqb-false, lt-ltb, le-ltb, le-leb, ne-eqb, not-true}
-use Rattle.numbers.proofs.Truth.{byBool}
+use Rattle.numbers.proofs.Truth.{byBool, both-first, both-second, contra}
 use Rattle.numbers.specs.declared.Priority.{Priority}
 use Rattle.numbers.specs.declared.Quality.{Quality}
 use Rattle.numbers.specs.Inputs.{inputCount}
@@ -24,7 +24,6 @@ use Rattle.choice.specs.Candidate.{nobody, isUsable, isAdmitted, rankedQ
 use Rattle.choice.specs.Choice.{Ranking}
 use Rattle.choice.proofs.Places.{within-exact}
 use Rattle.choice.proofs.Laws.{isBetter-rank, isBetter-priority, isBetter-not}
-use Rattle.choice.proofs.Choosing.{both-first, both-second, contra}
 
 -- ---- isEligible
 

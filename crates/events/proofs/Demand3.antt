@@ -6,7 +6,7 @@ use mathlib.Core.List.{List, [], _∷_, map}
 use mathlib.Core.Logic.{_↔_, Iff·trans}
 use mathlib.Core.Path.{_≡_, refl, sym, _∙_, ap, subst}
 use native.Mathlib.Omega.{arith}
-use Rattle.numbers.proofs.Truth.{byBool}
+use Rattle.numbers.proofs.Truth.{byBool, contra}
 use Rattle.numbers.specs.declared.Profile.{Profile}
 use Rattle.numbers.specs.From.{started, profileOf}
 use Rattle.numbers.specs.Inputs.{inputCount}
@@ -17,7 +17,7 @@ use Rattle.choice.specs.declared.Selection.{Selection}
 use Rattle.choice.specs.declared.Selection.the-variants as S
 use Rattle.choice.specs.Candidate.{eligibleAmong, betterAmong}
 use Rattle.choice.specs.Choice.{selected, Best, Chosen}
-use Rattle.choice.proofs.Choosing.{contra, selected-injective, nothing-selected}
+use Rattle.choice.proofs.Choosing.{selected-injective, nothing-selected}
 use Rattle.switch.specs.declared.Switch.{Switch}
 use Rattle.switch.specs.declared.Switch.the-variants as W
 use Rattle.switch.specs.OneChoice.{forcedMayStand, manualMayStand}

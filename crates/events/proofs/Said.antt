@@ -7,7 +7,7 @@ use mathlib.Core.Path.{_≡_, refl, sym, _∙_}
 use lib.Dec.{eqb}
 use lib.ListN.{getD}
 use borrow.Author.Tests.{eqb-true, eq-eqb, not-true}
-use Rattle.numbers.proofs.Truth.{byBool}
+use Rattle.numbers.proofs.Truth.{byBool, both-first, both-second, contra}
 use Rattle.numbers.proofs.Rows.{testOf, row-exact}
 use Rattle.numbers.specs.Inputs.{inputCount}
 use Rattle.numbers.specs.Kind.{kindForced, kindManual}
@@ -15,7 +15,6 @@ use Rattle.numbers.specs.Refusal.{forcedBarred, manualForcedStands, manualNotEl
 use Rattle.numbers.specs.Rows.{RowApplies}
 use Rattle.input.specs.Recorded.{History}
 use Rattle.choice.specs.Candidate.{nobody, eligibleAmong, anyLower}
-use Rattle.choice.proofs.Choosing.{both-first, both-second, contra}
 use Rattle.choice.proofs.Ranks.{lower-found, lower-some}
 use Rattle.switch.specs.declared.Switch.{Switch}
 use Rattle.switch.specs.declared.Switch.the-variants as W

@@ -9,7 +9,7 @@ use native.Mathlib.Omega.{arith}
 use lib.Dec.{eqb, ltb}
 use lib.ListN.{getD}
 use borrow.Author.Tests.{ltb-true, ltb-false, eqb-false, ne-eqb, not-true}
-use Rattle.numbers.proofs.Truth.{byBool}
+use Rattle.numbers.proofs.Truth.{byBool, both-first, both-second, contra}
 use Rattle.numbers.specs.declared.Priority.{Priority}
 use Rattle.numbers.specs.declared.Quality.{Quality}
 use Rattle.numbers.specs.Inputs.{inputCount}
@@ -23,7 +23,6 @@ use Rattle.choice.specs.declared.Rank.{Rank}
 use Rattle.choice.specs.Rank.{rankOf}
 use Rattle.choice.specs.Candidate as Seen
 use Rattle.choice.specs.Candidate.{nobody, isAdmitted, rankedQuality, candidateOf, isEligible, eligibleAmong, betterAmong, anyLower}
-use Rattle.choice.proofs.Choosing.{both-first, both-second, contra}
 use Rattle.choice.proofs.Places.{ranks}
 use Rattle.choice.proofs.Ranks.{eligible-exact, Before, isBetter-exact, Lower, lower-found}
 use Rattle.switch.specs.OneChoice.{forcedMayStand, manualMayStand}

@@ -8,8 +8,7 @@ use borrow.Author.Tests.{eqb-true, eqb-false, leb-true, leb-false, lt-ltb, le-lt
 use lib.Dec.{eqb, leb, ltb}
 use lib.ListN.{length, take, drop, replicate, length-append, length-replicate, length-drop, drop-of-length-le}
 use lib.Seq.{drop-drop, take-at, take-all}
-use Rattle.numbers.proofs.Truth.{byBool}
-use Rattle.run.proofs.Exact.{and-true-right}
+use Rattle.numbers.proofs.Truth.{byBool, both-second}
 use Rattle.numbers.specs.Inputs.{lastInput, timeLimit}
 use Rattle.numbers.specs.Refusal.{accepted, timeTooLarge, timeBeforeState, inputOutOfRange, bufferTooShort, sourceNotSix}
 use Rattle.digits.specs.Digits.{octetsOf}
@@ -210,7 +209,7 @@ module _ (line : List ℕ) (port time room start : ℕ) (is : readQuestion line 
       (numberSaid (firstPart third))
       (length line - length source)
       ≡ Q.Question port time room start = rw yes at is in
-      record { place = cc; address = and-true-right parts (isSource source) yes })
+      record { place = cc; address = both-second parts (isSource source) yes })
       (λ no.
       let wrong : Q.Nothing ≡ Q.Question port time room start = rw no at is in
       absurd (let other : _≡_ {A = ℕ} 0 1 = cc in omega arith))

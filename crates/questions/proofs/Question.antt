@@ -9,8 +9,7 @@ use lib.ListN.{length, getD, take, drop, length-drop}
 use lib.Seq.{drop-drop, take-all}
 use borrow.Author.Tests.{eq-eqb, ne-eqb, lt-ltb, le-ltb, eqb-true, ltb-true}
 use Rattle.digits.specs.Digits.{space}
-use Rattle.numbers.proofs.Truth.{byBool}
-use Rattle.run.proofs.Exact.{and-true-right}
+use Rattle.numbers.proofs.Truth.{byBool, both-second}
 use Rattle.questions.specs.declared.PartRead.{PartRead}
 use Rattle.questions.specs.declared.PartRead.the-variants as P
 use Rattle.questions.specs.declared.QuestionRead.the-variants as Q
@@ -57,7 +56,7 @@ module _ (line : List ℕ) (start : ℕ) (read : PartRead) (told : read ≡ read
     pub next-inside : next ≤ length line
     next-inside =
         let more : hasMore (drop start line) ≡ true =
-        and-true-right (isNumber (firstPart (drop start line))) (hasMore (drop start line)) (part .number) in
+        both-second (isNumber (firstPart (drop start line))) (hasMore (drop start line)) (part .number) in
         let short : partLength (drop start line) < length (drop start line) = ltb-true _ _ more in
         omega (arith, part .place, length-drop start line)
 

@@ -20,12 +20,11 @@ use Rattle.frame.specs.Read.{codeOfRead}
 use Rattle.run.specs.declared.Forecast.{Forecast}
 use Rattle.run.specs.declared.Run.{Run}
 use Rattle.run.specs.Run.{isExpired, rawAt}
-use Rattle.numbers.proofs.Truth.{byBool}
+use Rattle.numbers.proofs.Truth.{byBool, both-first, both-second}
 use Rattle.run.proofs.Kept.{Settled, atMoment-settled}
 use Rattle.input.specs.declared.Heard.{Heard}
 use Rattle.input.specs.declared.Input.{Input}
 use Rattle.input.specs.Record.{equalCount, lineAfter, heardAfter, settingsAfter, qualityNow, canExpire, forecast, withRun, inputAtMoment, afterEvent}
-use Rattle.choice.proofs.Choosing.{both-first, both-second}
 use Rattle.selector.specs.State.{candidateFor}
 use Rattle.due.proofs.Millisecond.{SettledAt}
 use Rattle.events.specs.Given.{recordedArgument, recordedEvent}

@@ -17,13 +17,12 @@ use Rattle.numbers.specs.Inputs.{inputCount}
 use Rattle.numbers.specs.Kind.{kindFrame}
 use Rattle.numbers.specs.Profile.{limitsOf}
 use Rattle.numbers.specs.Refusal.{accepted}
-use Rattle.numbers.proofs.Truth.{byBool, or-first, or-second}
+use Rattle.numbers.proofs.Truth.{byBool, or-first, or-second, both-first, both-second}
 use Rattle.frame.specs.declared.FrameRead.{FrameRead}
 use Rattle.frame.specs.declared.FrameRead.the-variants.{Code, Refused}
 use Rattle.frame.specs.Read.{readCode}
 use Rattle.input.specs.declared.Input.{Input}
 use Rattle.input.specs.Record.{freshInput}
-use Rattle.choice.proofs.Choosing.{both-first, both-second}
 use Rattle.selector.specs.declared.Selector.{Selector}
 use Rattle.selector.specs.State.{freshSelector, decided}
 use Rattle.selector.specs.Answer.{answerOf}

@@ -9,12 +9,13 @@ use native.Mathlib.Omega.{arith}
 use lib.ListN.{getD}
 use borrow.Author.Tests.{not-true}
 use Rattle.numbers.specs.Inputs.{inputCount}
+use Rattle.numbers.proofs.Truth.{both-first, both-second}
 use Rattle.choice.specs.declared.Candidate.{Candidate}
 use Rattle.choice.specs.declared.Selection.{Selection}
 use Rattle.choice.specs.declared.Selection.the-variants.{Nothing, At}
 use Rattle.choice.specs.Candidate.{nobody, isEligible, eligibleAmong, betterAmong, anyLower}
 use Rattle.choice.specs.Choice.{Chosen, selected}
-use Rattle.choice.proofs.Choosing.{both-first, both-second, choose-chosen, selected-injective, nothing-selected}
+use Rattle.choice.proofs.Choosing.{choose-chosen, selected-injective, nothing-selected}
 use Rattle.choice.proofs.Ranks.{isBetter-ranking, lower-none}
 use Rattle.switch.specs.declared.Switch.{Switch}
 use Rattle.switch.specs.declared.Switch.the-variants as W

@@ -7,7 +7,7 @@ use mathlib.Core.Path.{_≡_, refl, sym, _∙_, ap}
 use mathlib.Core.Logic.{_⊎_, ⊎-elim}
 use lib.Dec.{eqb}
 use lib.ListN.{getD}
-use Rattle.numbers.proofs.Truth.{byBool}
+use Rattle.numbers.proofs.Truth.{byBool, contra}
 use Rattle.numbers.specs.Inputs.{inputCount}
 use Rattle.numbers.specs.Kind.{kindForced, kindManual}
 use Rattle.numbers.specs.Refusal.{accepted, forcedBarred, manualForcedStands, manualNotEligible, manualLowerQuality}
@@ -17,7 +17,7 @@ use Rattle.choice.specs.declared.Selection.{Selection}
 use Rattle.choice.specs.declared.Selection.the-variants as S
 use Rattle.choice.specs.Candidate.{nobody, isEligible, isBetter, eligibleAmong, betterAmong, isLower, lowerAmong, anyLower}
 use Rattle.choice.specs.Choice.{Best, Chosen, choose}
-use Rattle.choice.proofs.Choosing.{contra, choose-chosen, chosen-unique}
+use Rattle.choice.proofs.Choosing.{choose-chosen, chosen-unique}
 use Rattle.choice.proofs.Ranks.{isBetter-ranking}
 use Rattle.switch.specs.declared.Switch.{Switch}
 use Rattle.switch.specs.declared.Switch.the-variants as W

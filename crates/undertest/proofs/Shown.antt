@@ -10,13 +10,13 @@ use lib.Seq.{getD-set-other}
 use Rattle.numbers.specs.declared.Quality.{Quality}
 use Rattle.numbers.specs.Profile.{limitsOf, marksOf, isMarked, toldBy}
 use Rattle.numbers.specs.Codes.{codeOfQuality, wordOfQuality}
+use Rattle.numbers.proofs.Truth.{contra}
 use Rattle.input.specs.declared.Input.{Input}
 use Rattle.input.specs.declared.Settings.{Settings}
 use Rattle.input.specs.Record.{freshInput}
 use Rattle.choice.specs.declared.Candidate.{Candidate}
 use Rattle.choice.specs.declared.Selection.{Selection}
 use Rattle.choice.specs.declared.Selection.the-variants as S
-use Rattle.choice.proofs.Choosing.{contra}
 use Rattle.switch.specs.OneChoice.{forcedMayStand, decide}
 use Rattle.selector.specs.declared.Selector.{Selector}
 use Rattle.selector.specs.State.{candidateFor, candidatesOf, decided}

@@ -1,24 +1,21 @@
 -- `frame::frame_number` meets its contract: a test of several parts says of each what its own test would say.
 -- Assumes nothing.
 use Prim.Native.Nat.{ℕ}
-use mathlib.Core.Bool.{Bool, true, false, _&&_, false≢true}
+use mathlib.Core.Bool.{Bool, true, false, _&&_}
 use mathlib.Core.List.{List}
-use mathlib.Core.Path.{_≡_, refl, sym, ap, _∙_}
+use mathlib.Core.Path.{_≡_, sym, ap, _∙_}
 use native.Mathlib.Omega.{arith}
 use borrow.Author.Tests.{eq-eqb, ne-eqb, not-true, not-false}
 use Rattle.frame.specs.Octets.{upperHalf}
-use Rattle.frame.specs.Read.{rightLength, rightDestination, rightProtocol, rightOrganisation, rightVersion}
+use Rattle.frame.specs.Read.{rightLength, rightDestination, rightProtocol, rightOrganisation, rightVersion, rightTlv}
 use Rattle.frame.proofs.ReadLaws.{rightLength-right, rightLength-short, rightLength-long, frameNumber-length, frameNumber-destination, frameNumber-protocol, frameNumber-organisation, frameNumber-version, frameNumber-tlv, frameNumber-none}
 use Rattle.frame.proofs.Header.{protocol-and-organisation}
 use borrow.Author.Needs.{needs}
+use Rattle.numbers.proofs.Truth.{both-first, both-second}
 use Rattle.frame.proofs.frame_number.Statement.{statement}
 use Rattle.frame.proofs.frame_number.Tie as tie
 
 -- ---- two parts together
-
-both-true : (one other : Bool) → (one && other) ≡ true → (one ≡ true) × (other ≡ true)
-both-true true other both = (refl, both)
-both-true false other both = absurd (false≢true both)
 
 second-false : (one other : Bool) → one ≡ true → (one && other) ≡ false → other ≡ false
 second-false one other first both = rw first at both
@@ -49,7 +46,11 @@ protocol-found c = sym (c .has-octets3 .ensures)
 
 rows-right : (c : tie.Else4)
     → (rightProtocol (frameOf2 (c .before)) ≡ true) × (rightOrganisation (frameOf2 (c .before)) ≡ true)
-rows-right c = both-true _ _ (sym (both-found (c .before)) ∙ not-false _ (c .if4 .left))
+rows-right c =
+    let protocol = rightProtocol (frameOf2 (c .before)) in
+    let organisation = rightOrganisation (frameOf2 (c .before)) in
+    let both : (protocol && organisation) ≡ true = sym (both-found (c .before)) ∙ not-false _ (c .if4 .left) in
+    (both-first protocol organisation both, both-second protocol organisation both)
 
 -- ---- the needs
 
@@ -133,9 +134,11 @@ returns-8 : tie.Need-returns-8
 returns-8 c =
     let right = c .before .before in
     let addressed = right .before .before .before in
-    let last = both-true _ _ (sym (c .before .has-version-and-tlv .ensures) ∙ not-false _ (c .if6 .left)) in
+    let frame = frameOf (addressed .before .before .before) in
+    let last = sym (c .before .has-version-and-tlv .ensures) ∙ not-false _ (c .if6 .left) in
     frameNumber-none _ (length-right (addressed .before .before .before)) (destination-right addressed)
-    (rows-right right .0) (rows-right right .1) (last .0) (last .1)
+    (rows-right right .0) (rows-right right .1) (both-first _ (rightTlv frame) last)
+    (both-second (rightVersion frame) _ last)
 
 pub frame-number-spec : {M : Type 1} → statement M
 frame-number-spec =
