@@ -287,7 +287,8 @@ impl Input {
     }
 
     pub fn priority(mut self, priority: Priority, time: u64, mode: bool) -> Input
-        ensures { λ answer. ⌜ answer ≡ afterEvent self kindPriority (priority .0) notTold time mode ⌝ }
+        ensures { λ answer. ⌜
+            answer ≡ afterEvent self kindPriority (priority .0) notTold time mode ⌝ }
     {
         let mut settings = self.settings;
         settings.priority = priority;
@@ -296,7 +297,8 @@ impl Input {
     }
 
     pub fn lockout(mut self, locked: bool, time: u64, mode: bool) -> Input
-        ensures { λ answer. ⌜ answer ≡ afterEvent self kindLockout (flag locked) notTold time mode ⌝ }
+        ensures { λ answer. ⌜
+            answer ≡ afterEvent self kindLockout (flag locked) notTold time mode ⌝ }
     {
         let mut settings = self.settings;
         settings.locked = locked;
@@ -323,7 +325,8 @@ impl Input {
     }
 
     pub fn fixed_quality(mut self, quality: Quality, time: u64, mode: bool) -> Input
-        ensures { λ answer. ⌜ answer ≡ afterEvent self kindFixedQuality (quality .0) notTold time mode ⌝ }
+        ensures { λ answer. ⌜
+            answer ≡ afterEvent self kindFixedQuality (quality .0) notTold time mode ⌝ }
     {
         let mut settings = self.settings;
         settings.fixed = quality;
@@ -338,7 +341,8 @@ impl Input {
     }
 
     pub fn sending(mut self, sending: bool, time: u64, mode: bool) -> Input
-        ensures { λ answer. ⌜ answer ≡ afterEvent self kindSending (flag sending) notTold time mode ⌝ }
+        ensures { λ answer. ⌜
+            answer ≡ afterEvent self kindSending (flag sending) notTold time mode ⌝ }
     {
         let mut settings = self.settings;
         settings.sending = sending;
@@ -357,7 +361,8 @@ impl Input {
 
     // The input's kind set, also to the kind it has: what was heard is forgotten.
     pub fn kind(mut self, kind: InputKind, time: u64, mode: bool) -> Input
-        ensures { λ answer. ⌜ answer ≡ afterEvent self kindInputKind (kindArgument kind) notTold time mode ⌝ }
+        ensures { λ answer. ⌜
+            answer ≡ afterEvent self kindInputKind (kindArgument kind) notTold time mode ⌝ }
     {
         let old = self.heard;
         let heard = forgotten(old.signal);

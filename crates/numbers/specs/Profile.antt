@@ -18,8 +18,8 @@ optionOne = 1
 abbrev pub optionTwo : ℕ
 optionTwo = 2
 
--- the profile of an option's number: "Those marks and the place of PROV .. are given with the profile"; any number but 2
--- is option I
+-- the profile of an option's number: "Those marks and the place of PROV .. are given with the profile"; any number
+-- but 2 is option I
 unfoldable pub profileIn : ℕ → ℕ → ℕ → Profile
 profileIn option place marks = cond (eqb option optionTwo) (P.OptionTwo place marks) P.OptionOne
 

@@ -35,7 +35,8 @@ fn put_decimal(out: &mut [u8], place: usize, number: u64) -> usize
 // Writes a number, behind a space where another stands before it.
 fn put_next(out: &mut [u8], place: usize, number: u64, behind: bool) -> usize
     requires { ⌜ place + widestNumber ≤ length (now out) ⌝ }
-    ensures { λ end. ⌜ Put (nextText behind number) place (now (out .entry)) end (now (out .exit)) ⌝ }
+    ensures { λ end. ⌜
+        Put (nextText behind number) place (now (out .entry)) end (now (out .exit)) ⌝ }
 {
     if behind {
         out[place] = b' ';
@@ -47,7 +48,8 @@ fn put_next(out: &mut [u8], place: usize, number: u64, behind: bool) -> usize
 // Writes numbers that have room.
 fn put_all(numbers: &[u64], out: &mut [u8], place: usize) -> usize
     requires { ⌜ place + widestNumber * length (now numbers) ≤ length (now out) ⌝ }
-    ensures { λ end. ⌜ PutNumbers (now (numbers .entry)) place (now (out .entry)) end (now (out .exit)) ⌝ }
+    ensures { λ end. ⌜
+        PutNumbers (now (numbers .entry)) place (now (out .entry)) end (now (out .exit)) ⌝ }
 {
     let mut end = place;
     let mut taken = 0;
@@ -61,7 +63,8 @@ fn put_all(numbers: &[u64], out: &mut [u8], place: usize) -> usize
 // Writes numbers in decimal from a place of `out`, a space between two, and answers the place
 // behind them. Where there is no room for 21 characters a number, nothing is written.
 pub fn put_numbers(numbers: &[u64], out: &mut [u8], place: usize) -> usize
-    ensures { λ end. ⌜ PutNumbers (now (numbers .entry)) place (now (out .entry)) end (now (out .exit)) ⌝ }
+    ensures { λ end. ⌜
+        PutNumbers (now (numbers .entry)) place (now (out .entry)) end (now (out .exit)) ⌝ }
 {
     if out.len() < place {
         return place;
