@@ -1,25 +1,21 @@
 -- Calls in a row are steps in a row. Assumes nothing.
 use Prim.Native.Nat.{ℕ, _+_, _-_, _≤_, _<_}
-use mathlib.Core.Bool.{Bool, true, false}
-use mathlib.Core.List.{List, [], _∷_, _++_, map}
+use mathlib.Core.List.{List, [], _++_}
 use mathlib.Core.Path.{_≡_, refl, sym, _∙_, ap, subst}
 use native.Mathlib.Omega.{arith}
 use lib.ListN.{getD, drop}
 use lib.Dec.{eqb}
 use borrow.Author.Tests.{eq-eqb, eqb-true, lt-ltb, le-ltb}
-use Rattle.numbers.specs.declared.Profile.{Profile}
-use Rattle.numbers.specs.declared.Profile.the-variants as P
-use Rattle.numbers.specs.From.{started, _following_, profileOf}
-use Rattle.numbers.specs.Inputs.{lastInput, timeLimit}
-use Rattle.numbers.specs.Kind.{kindFrame, kindForced, kindManual}
-use Rattle.numbers.specs.Profile.{placeOf, lastPlace, startNumber, limitsOf, optionTwo, profileIn, optionOf}
+use Rattle.numbers.specs.From.{started, _following_}
+use Rattle.numbers.specs.Inputs.{timeLimit}
+use Rattle.numbers.specs.Kind.{kindFrame}
+use Rattle.numbers.specs.Profile.{placeOf, lastPlace, startNumber, limitsOf, optionTwo, profileIn}
 use Rattle.numbers.specs.Refusal.{accepted, argumentOutOfRange}
 use Rattle.numbers.proofs.Truth.{byBool}
 use Rattle.frame.specs.Read.{readCode}
 use Rattle.frame.specs.Write.{writtenLength, frameOctets}
 use Rattle.selector.specs.declared.Selector.{Selector}
 use Rattle.selector.specs.State.{freshSelector}
-use Rattle.selector.specs.Clock.{selectedNumber, switchNumber, switchInput}
 use Rattle.selector.specs.Answer.{answerOf, outgoingCodes, outgoingWords}
 use Rattle.selector.proofs.Ports.{getD-ports}
 use Rattle.due.specs.Next.{nextDue}
@@ -27,7 +23,7 @@ use Rattle.due.proofs.Calm.{movedTo}
 use Rattle.due.proofs.Jump.{each-before, nextDue-later}
 use Rattle.due.proofs.Right.{ticked-each}
 use Rattle.events.specs.declared.Stepped.{Stepped}
-use Rattle.events.specs.Step.{kindAt, earlyNumber, stepRead, step}
+use Rattle.events.specs.Step.{kindAt, earlyNumber, step}
 use Rattle.events.specs.Given.{Given, Sequence, tickAt}
 use Rattle.events.specs.Sequence.{stateAfter, numberAfter, countAfter}
 use Rattle.events.specs.Due.{mostDue}
@@ -48,8 +44,8 @@ use Rattle.events.proofs.Demand4.{demand-4}
 use Rattle.quickstep.specs.Watch.{dueAfter}
 use Rattle.card.specs.declared.Card.{Card}
 use Rattle.card.specs.declared.CardAnswer.{CardAnswer}
-use Rattle.card.specs.Flat.{isSet, inputOf, flatInput, flatAnswer, switchOf, selectionOf, isSelected, selectorOf, cardOf, withNumber}
-use Rattle.card.specs.Card.{freshCard, startCard, steppedCard, eventCard, readFor, stepCard, cardCodes, cardWords, cardDue}
+use Rattle.card.specs.Flat.{flatAnswer, selectorOf, cardOf, withNumber}
+use Rattle.card.specs.Card.{freshCard, startCard, steppedCard, readFor, stepCard, cardCodes, cardWords, cardDue}
 use Rattle.card.specs.Calls.{called, cardAfter, latestNumber, latestCount, latestBy, StartRight, CardRight, Demand1Card, Demand2Card, Demand3Card, Demand4Card, NextDueCard}
 use Rattle.card.proofs.Ports.{port-written}
 use Rattle.card.proofs.Range.{stepRead-readFor, sequence-named}

@@ -1,6 +1,6 @@
 -- One element of an array that stands in memory, within a struct: a part of it, as `types.Part` has a field. And the
 -- facts that an array's relation tells of one element. Assumes nothing.
-use mathlib.Core.Path.{_≡_, refl, sym, _∙_, ap, subst}
+use mathlib.Core.Path.{_≡_, refl, _∙_, ap, subst}
 use Prim.Native.Nat.{ℕ, zero, suc, _+_, _*_, _<_}
 use native.Mathlib.Omega.{arith}
 use mathlib.Core.List.{List, [], _∷_, map}

@@ -15,7 +15,6 @@ use Rattle.numbers.specs.Inputs.{timeLimit}
 use Rattle.numbers.specs.Kind.{flag, kindTick}
 use Rattle.numbers.specs.Refusal.{accepted}
 use Rattle.numbers.proofs.Truth.{both-second}
-use Rattle.frame.specs.declared.FrameRead.{FrameRead}
 use Rattle.frame.specs.declared.FrameRead.the-variants.{Code}
 use Rattle.frame.specs.Read.{readCode}
 use Rattle.input.specs.Record.{freshInput}
@@ -36,7 +35,7 @@ use Rattle.events.proofs.Extra.{sequence-ever}
 use Rattle.quickstep.specs.Watch.{dueAfter}
 use Rattle.card.specs.declared.Card.{Card}
 use Rattle.card.specs.declared.CardInput.{CardInput}
-use Rattle.card.specs.Flat.{flatInput, selectorOf, cardOf}
+use Rattle.card.specs.Flat.{flatInput, cardOf}
 use Rattle.card.specs.Card.{eventOf, readFor, steppedCard, plainCard}
 use Rattle.card.specs.Calls.{cardAfter, latestNumber, latestCount}
 use Rattle.card.specs.Range.{IsInput, InRange}

@@ -2,8 +2,8 @@
 use Prim.Native.Nat.{ℕ, zero, suc, _≤_, _<_, _+_}
 use mathlib.Core.Bool.{Bool, true, false, _&&_, cond, true≢false}
 use mathlib.Core.List.{List}
-use mathlib.Core.Logic.{_⊎_, inl, inr, _≢_}
-use mathlib.Core.Path.{_≡_, refl, sym, _∙_, ap, subst}
+use mathlib.Core.Logic.{inl, inr, _≢_}
+use mathlib.Core.Path.{_≡_, refl, sym, subst}
 use native.Mathlib.Omega.{arith}
 use lib.Dec.{eqb, leb, ltb}
 use borrow.Author.Tests.{ltb-false, ne-eqb, leb-true, eqb-true}
@@ -36,7 +36,7 @@ use Rattle.selector.specs.State as State
 use Rattle.due.specs.Next.{nextDue}
 use Rattle.due.specs.Served.{served, servedFrom, ticked}
 use Rattle.events.specs.declared.Stepped.{Stepped}
-use Rattle.events.specs.Given.{Given, Sequence}
+use Rattle.events.specs.Given.{Sequence}
 use Rattle.events.specs.Refusals.{frameRefusal, earlyRefusal}
 use Rattle.events.specs.Step.{recordedArgument, recordedEvent, eventTaken, atItsMoment, kindAt, earlyNumber, lateNumber, stepRead, step}
 use Rattle.events.specs.Sequence.{stateAfter}

@@ -14,7 +14,7 @@ use Rattle.choice.specs.Rank.{isPlaced, rankOf}
 use Rattle.choice.specs.Choice.{seeded, offered, scanned, choose}
 use Rattle.switch.specs.Choices.{commanded}
 use Rattle.switch.specs.OneChoice.{manualMayStand, judged, selectedBy, isClockLocked, isHeld, decide}
-use Rattle.selector.specs.State.{freshSelector, candidateFor, decided, tickedOnce}
+use Rattle.selector.specs.State.{candidateFor, decided, tickedOnce}
 use Rattle.selector.specs.Answer.{selectedCandidate, answerOf}
 use Rattle.selector.specs.Clock.{clockState, clockQuality, selectedNumber, switchNumber, switchInput}
 use Rattle.due.specs.Next.{lesser, sumOrNever, ifLater, timerDue, frameDue, nextOf, nextAmong}

@@ -6,8 +6,6 @@ use mathlib.Core.List.{map}
 use lib.Dec.{eqb, ltb}
 use Rattle.numbers.specs.declared.Answer.{Answer}
 use Rattle.numbers.specs.declared.InputNumber.{InputNumber}
-use Rattle.numbers.specs.declared.Profile.{Profile}
-use Rattle.numbers.specs.declared.Profile.the-variants as P
 use Rattle.numbers.specs.Inputs.{lastInput}
 use Rattle.numbers.specs.Quality.{quality}
 use Rattle.numbers.specs.Kind.{flag, inputKindOf, kindArgument}

@@ -1,15 +1,14 @@
 -- What was taken is right: all of what the input is answered with, or the beginning of it. Assumes nothing.
-use Prim.Native.Nat.{ℕ, _≤_}
+use Prim.Native.Nat.{ℕ}
 use mathlib.Core.Bool.{true, false, true≢false}
 use mathlib.Core.List.{List, [], _++_, append-assoc, append-nil}
-use mathlib.Core.Path.{_≡_, refl, sym, ap, subst, _∙_}
-use native.Mathlib.Omega.{arith}
+use mathlib.Core.Path.{_≡_, sym, ap, _∙_}
 use lib.ListN.{length, take, drop, take-append-drop}
-use lib.Seq.{take-all, take-length}
+use lib.Seq.{take-length}
 use Rattle.numbers.specs.declared.Profile.{Profile}
 use Rattle.numbers.specs.declared.Quality.{Quality}
 use Rattle.unitline.specs.Said.{replayedUnit}
-use Rattle.reader.specs.Lines.{lastLine, linesOf, linesAfter}
+use Rattle.reader.specs.Lines.{lastLine, linesOf}
 use Rattle.desk.specs.declared.Desk.{Desk}
 use Rattle.desk.specs.Desk.{sendersDesk, unitDesk, deskAfter, toldTo}
 use Rattle.desk.specs.Heartbeats.{heartbeats}
@@ -18,10 +17,7 @@ use Rattle.desk.proofs.Right.{heartbeats-right, replayed-unit-right}
 use Rattle.replayer.specs.Chunks.{endedLines, unended}
 use Rattle.replayer.proofs.Ended.{linesAfter-ended, endedLines-append}
 use Rattle.console.specs.declared.Ended.{Ended}
-use Rattle.console.specs.declared.Ending.{Ending}
-use Rattle.console.specs.declared.Ending.the-variants.{Whole, Unread}
-use Rattle.console.specs.declared.Handed.{Handed}
-use Rattle.console.specs.Calls.{isWhole, HandedOver}
+use Rattle.console.specs.Calls.{isWhole}
 use Rattle.console.specs.Right.{Begins}
 use Rattle.console.proofs.Laws.{handed-whole}
 use Rattle.clerk.specs.Turns.{InputEnded, finished, stopped, unread}

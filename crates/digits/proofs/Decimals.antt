@@ -8,7 +8,7 @@ use native.Mathlib.Omega.{arith}
 use borrow.Author.Tests.{ltb-false, lt-ltb, le-ltb}
 use lib.Dec.{ltb}
 use lib.ListN.{length, take, drop, getD, set, replicate, length-set, length-append, length-drop, length-replicate}
-use lib.Seq.{length-take-le, take-take, take-at, take-all, drop-at, set-split}
+use lib.Seq.{take-take, take-at, take-all, drop-at, set-split}
 use Rattle.digits.specs.declared.decimal.DecimalText.{DecimalText}
 use Rattle.digits.specs.Digits.{numeral0}
 use Rattle.digits.specs.Decimal.{decimalPlaces, decimalWith, decimalOf, decimal, decimalValue, InDecimal}

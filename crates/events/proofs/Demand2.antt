@@ -1,7 +1,7 @@
 -- DEMAND 2, for what is answered of a state after any sequence of events. Assumes nothing.
 use Prim.Native.Nat.{ℕ, _<_}
 use mathlib.Core.Bool.{Bool, true, false, cond}
-use mathlib.Core.List.{List, [], _∷_, map}
+use mathlib.Core.List.{List, map}
 use mathlib.Core.Path.{_≡_, refl, sym, _∙_, ap}
 use lib.Dec.{eqb}
 use lib.ListN.{getD}
@@ -12,13 +12,11 @@ use Rattle.numbers.specs.declared.Quality.{Quality}
 use Rattle.numbers.specs.From.{profileOf}
 use Rattle.numbers.specs.Profile.{limitsOf, marksOf, isMarked, toldBy}
 use Rattle.numbers.specs.Codes.{codeOfQuality, wordOfQuality}
-use Rattle.input.specs.declared.Input.{Input}
 use Rattle.input.specs.declared.Settings.{Settings}
 use Rattle.input.specs.Recorded.{History, modeOn, timeOf, isSending}
 use Rattle.input.specs.Record.{freshInput, recordAfter}
 use Rattle.input.proofs.Recalled.{settingsBy, settings-recalled}
 use Rattle.input.proofs.Demand2.{passed-now}
-use Rattle.choice.specs.declared.Candidate.{Candidate}
 use Rattle.choice.specs.declared.Selection.{Selection}
 use Rattle.choice.specs.declared.Selection.the-variants as S
 use Rattle.switch.specs.OneChoice.{forcedMayStand}
@@ -29,7 +27,7 @@ use Rattle.selector.specs.Clock.{clockState, clockQuality, outgoingCode, outgoi
 use Rattle.selector.specs.Answer.{selectedCandidate, candidateAt, qualityOf, answerOf, signFor, outgoingCodes, outgoingWords}
 use Rattle.selector.proofs.Ports.{getD-ports, ports-same}
 use Rattle.events.specs.Sequence.{Sequence, stateAfter}
-use Rattle.events.specs.Past.{Made, candidateBy, candidatesBy, seen, pastOf, recorded, madeIn}
+use Rattle.events.specs.Past.{Made, candidateBy, seen, pastOf, recorded, madeIn}
 use Rattle.events.specs.Told.{shown, candidateSelected, qualityBy, answerBy, toldAt, isSelectedPort, codeBy, wordBy}
 use Rattle.events.specs.Demand2.{Demand2}
 use Rattle.events.proofs.Agrees.{Agrees, sequence-agrees, settings-at, candidate-recorded}

@@ -11,7 +11,7 @@ use Rattle.numbers.specs.declared.Profile.{Profile}
 use Rattle.numbers.specs.From.{started, profileOf}
 use Rattle.numbers.specs.Inputs.{inputCount}
 use Rattle.numbers.specs.Kind.{kindForced, kindManual}
-use Rattle.input.specs.Recorded.{History, lastArgument, priorityOf}
+use Rattle.input.specs.Recorded.{History, lastArgument}
 use Rattle.choice.specs.declared.Candidate.{Candidate}
 use Rattle.choice.specs.declared.Selection.{Selection}
 use Rattle.choice.specs.declared.Selection.the-variants as S
@@ -27,7 +27,7 @@ use Rattle.switch.proofs.Selecting.{latest-right, manualMayStand-eligible}
 use Rattle.events.specs.Sequence.{Sequence, stateAfter}
 use Rattle.events.specs.Past.{Made, candidatesBy, seen, decidedBy, recorded, madeIn}
 use Rattle.events.specs.Happened.{MadeAt}
-use Rattle.events.specs.Demand3.{Admitted, Eligible, Better, RightlyChosen, Latest, Stands, StandsForced, Unsurpassed, StandsManual, RightlyDecided, selectedBefore, RightAt, Demand3}
+use Rattle.events.specs.Demand3.{Eligible, Better, RightlyChosen, Latest, Stands, StandsForced, Unsurpassed, StandsManual, RightlyDecided, selectedBefore, RightAt, Demand3}
 use Rattle.events.specs.Manual.{ManualEligible}
 use Rattle.events.proofs.Stated.{admitted-exact, eligible-stated, better-stated, unsurpassed-exact, passes-made}
 use Rattle.events.proofs.Happened.{happened}

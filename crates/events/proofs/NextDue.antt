@@ -1,13 +1,12 @@
 -- L3: the code's next due time is the least of the due moments by the recorded events. Assumes nothing.
-use Prim.Native.Nat.{ℕ, zero, suc, _+_, _-_, _≤_, _<_}
+use Prim.Native.Nat.{ℕ, suc, _+_, _-_, _<_}
 use mathlib.Core.Bool.{Bool, true, false}
-use mathlib.Core.Path.{_≡_, refl, sym, _∙_, ap, subst}
+use mathlib.Core.Path.{_≡_, refl, sym, ap, subst}
 use native.Mathlib.Omega.{arith}
 use Rattle.input.specs.Recorded.{timeOf}
 use Rattle.selector.specs.declared.Selector.{Selector}
 use Rattle.due.specs.Next.{never, nextDue}
-use Rattle.due.specs.Each as Each
-use Rattle.due.specs.Each.{each, one, dueIn}
+use Rattle.due.specs.Each.{one, dueIn}
 use Rattle.due.proofs.Jump.{nextDue-later, dueIn-before, dueIn-next}
 use Rattle.events.specs.Sequence.{Sequence, stateAfter}
 use Rattle.events.specs.Due.{isDue}

@@ -7,7 +7,7 @@ use mathlib.Core.Path.{_≡_, refl, sym, _∙_}
 use lib.Dec.{eqb}
 use lib.ListN.{getD}
 use borrow.Author.Tests.{eqb-true, eq-eqb, not-true}
-use Rattle.numbers.proofs.Truth.{byBool, both-first, both-second, contra}
+use Rattle.numbers.proofs.Truth.{byBool, both-first, both-second}
 use Rattle.numbers.proofs.Rows.{testOf, row-exact}
 use Rattle.numbers.specs.Inputs.{inputCount}
 use Rattle.numbers.specs.Kind.{kindForced, kindManual}

@@ -1,21 +1,20 @@
 -- What a choice sees of the inputs, and what demand 3 says of them: the same, by the recorded events at any time.
 -- Assumes nothing.
-use Prim.Native.Nat.{ℕ, _≤_, _<_}
-use mathlib.Core.Bool.{Bool, true, false, not, _&&_, cond, true≢false, false≢true}
+use Prim.Native.Nat.{ℕ, _<_}
+use mathlib.Core.Bool.{Bool, true, false, not, _&&_, true≢false}
 use mathlib.Core.List.{List, [], _∷_, map}
-use mathlib.Core.Logic.{_⊎_, inl, inr, ⊎-elim, _↔_}
+use mathlib.Core.Logic.{inl, inr, _↔_}
 use mathlib.Core.Path.{_≡_, refl, sym, _∙_, ap, subst}
 use native.Mathlib.Omega.{arith}
 use lib.Dec.{eqb, ltb}
 use lib.ListN.{getD}
 use borrow.Author.Tests.{ltb-true, ltb-false, eqb-false, ne-eqb, not-true}
-use Rattle.numbers.proofs.Truth.{byBool, both-first, both-second, contra}
-use Rattle.numbers.specs.declared.Priority.{Priority}
+use Rattle.numbers.proofs.Truth.{byBool, both-first, both-second}
 use Rattle.numbers.specs.declared.Quality.{Quality}
 use Rattle.numbers.specs.Inputs.{inputCount}
 use Rattle.numbers.specs.From.{profileOf}
 use Rattle.numbers.specs.Profile.{placeOf}
-use Rattle.numbers.specs.Quality.{notTold, failed}
+use Rattle.numbers.specs.Quality.{notTold}
 use Rattle.run.proofs.Exact.{passed-unique, passed-exact}
 use Rattle.input.specs.Recorded.{History, modeOn, priorityOf, isLockedOut, floorOf, momentsUntil, PassedAt, passedAt}
 use Rattle.choice.specs.declared.Candidate.{Candidate}
@@ -24,7 +23,7 @@ use Rattle.choice.specs.Rank.{rankOf}
 use Rattle.choice.specs.Candidate as Seen
 use Rattle.choice.specs.Candidate.{nobody, isAdmitted, rankedQuality, candidateOf, isEligible, eligibleAmong, betterAmong, anyLower}
 use Rattle.choice.proofs.Places.{ranks}
-use Rattle.choice.proofs.Ranks.{eligible-exact, Before, isBetter-exact, Lower, lower-found}
+use Rattle.choice.proofs.Ranks.{eligible-exact, Before, isBetter-exact, lower-found}
 use Rattle.switch.specs.OneChoice.{forcedMayStand, manualMayStand}
 use Rattle.switch.proofs.Standing.{Passes}
 use Rattle.switch.proofs.Selecting.{manualMayStand-eligible, manualMayStand-lower, eligible-admitted}

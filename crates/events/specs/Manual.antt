@@ -4,7 +4,7 @@ use Prim.Native.Nat.{ℕ}
 use mathlib.Core.Path.{_≡_}
 use Rattle.switch.specs.Choices.{manualOn, choicesAgo}
 use Rattle.events.specs.Sequence.{Sequence, stateAfter}
-use Rattle.events.specs.Past.{Made, decidedBy, recorded, madeIn}
+use Rattle.events.specs.Past.{decidedBy, recorded, madeIn}
 use Rattle.events.specs.Demand3.{Eligible, Latest}
 
 -- after a sequence of events, and after each choice made in it

@@ -9,7 +9,6 @@ use borrow.Author.Tests.{ltb-true, ltb-false, leb-true, leb-false, lt-ltb, le-lt
 use Rattle.numbers.specs.declared.Profile.{Profile}
 use Rattle.numbers.specs.Recorded.{Recorded}
 use Rattle.numbers.specs.From.{started, _following_}
-use Rattle.numbers.specs.declared.InputKind.{InputKind}
 use Rattle.numbers.specs.declared.Priority.{Priority}
 use Rattle.numbers.specs.declared.Quality.{Quality}
 use Rattle.numbers.specs.Quality.{quality, notTold, failed}

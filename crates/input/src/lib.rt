@@ -17,7 +17,7 @@ ghost use Prim.Native.Nat.{_*_};
 ghost use Rattle.numbers.specs.Inputs.{minute};
 ghost use Rattle.numbers.specs.Quality.{notTold};
 ghost use Rattle.numbers.specs.Kind.{flag, kindArgument, kindFloor, kindSignal, kindFrame, kindLineCode, kindPriority, kindLockout, kindHoldoff, kindWait, kindFixedQuality, kindClearWait, kindSending, kindInputKind};
-ghost use Rattle.input.specs.Record.{freshInput, equalCount, lineAfter, forgotten, heardAfter, settingsAfter, qualityNow, canExpire, forecast, inputAtMoment, inputBroughtTo, afterEvent, passedOf};
+ghost use Rattle.input.specs.Record.{freshInput, equalCount, lineAfter, forgotten, heardAfter, qualityNow, canExpire, forecast, inputAtMoment, inputBroughtTo, afterEvent, passedOf};
 
 // How many equal codes in a row settle a line's quality.
 pub const REPORTS_NEEDED: u8 = 3;

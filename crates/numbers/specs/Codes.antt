@@ -1,7 +1,7 @@
 -- Documents 01 ("Qualities and codes") and 02 (L10, L12): the tables of codes and of words, each once, read both ways.
 -- Cited by `src/lib.rt`. Assumes nothing.
 use Prim.Native.Nat.{ℕ}
-use mathlib.Core.Bool.{Bool, _||_, cond}
+use mathlib.Core.Bool.{_||_, cond}
 use mathlib.Core.List.{List, [], _∷_}
 use lib.Dec.{eqb}
 use Rattle.numbers.specs.declared.Quality.{Quality}

@@ -1,6 +1,6 @@
 -- What a question is answered with, way by way. Assumes nothing.
 use Prim.Native.Nat.{ℕ, zero, suc, _+_, _-_, _≤_, _<_}
-use mathlib.Core.Bool.{Bool, true, false, not, _&&_, cond}
+use mathlib.Core.Bool.{Bool, true, not, _&&_, cond}
 use mathlib.Core.List.{List, [], _∷_, _++_, append-nil}
 use mathlib.Core.Path.{_≡_, refl, sym, _∙_, ap}
 use native.Mathlib.Omega.{arith}
@@ -28,7 +28,7 @@ use Rattle.questions.specs.declared.QuestionAnswer.{QuestionAnswer}
 use Rattle.questions.specs.declared.QuestionRead.{QuestionRead}
 use Rattle.questions.specs.declared.QuestionRead.the-variants as Q
 use Rattle.questions.specs.Line.{partLength, firstPart, hasMore, otherParts, numberSaid, isSource, hasMark, isNumberPart, readQuestion}
-use Rattle.questions.specs.Answer.{longestQuestion, askedIn, frameText, nothingText, noQuestionText, heartbeatText, lentRoom, putQuestion, lineQuestion}
+use Rattle.questions.specs.Answer.{longestQuestion, askedIn, frameText, nothingText, noQuestionText, heartbeatText, lentRoom, putQuestion}
 use Rattle.questions.specs.Asked.{padded, heldLine, LentAlike, answeredAsked, answeredRead, answeredQuestion}
 use Rattle.questions.proofs.Texts.{lentRoom-fits}
 

@@ -1,5 +1,5 @@
 -- The parts of a line, and what each way through the code's reading of them gives. Assumes nothing.
-use Prim.Native.Nat.{ℕ, suc, _+_, _*_, _-_, _/_, _%_, _^_, _≤_, _<_}
+use Prim.Native.Nat.{ℕ, _+_, _*_, _-_, _/_, _%_, _^_, _≤_, _<_}
 use mathlib.Core.Bool.{Bool, true, false, not, _&&_, cond}
 use mathlib.Core.List.{List, [], _∷_}
 use mathlib.Core.Path.{_≡_, refl, sym, _∙_, ap}
@@ -8,9 +8,9 @@ use native.Mathlib.Numerals.{add-one}
 use native.Mathlib.Omega.{arith}
 use mir.Val.{Fits}
 use mir.Syntax.{w64}
-use lib.Dec.{eqb, leb, ltb}
+use lib.Dec.{eqb, ltb}
 use lib.ListN.{length, getD, take, drop, length-drop, drop-of-length-le}
-use lib.Seq.{drop-cons, drop-drop}
+use lib.Seq.{drop-cons}
 use borrow.Author.Tests.{eq-eqb, ne-eqb, lt-ltb, le-ltb, le-leb, lt-leb}
 use Rattle.digits.specs.Decimal.{decimalValue}
 use Rattle.digits.specs.Digits.{numeral0, numeral9, isBetween, isNumeral, allDigits, space, allNumerals}
@@ -18,7 +18,7 @@ use Rattle.numbers.proofs.Truth.{byBool}
 use Rattle.questions.specs.declared.NumberRead.{NumberRead}
 use Rattle.questions.specs.declared.NumberRead.the-variants as N
 use Rattle.questions.specs.declared.PartRead.the-variants as P
-use Rattle.questions.specs.Line.{mark, dash, partLength, firstPart, hasMore, otherParts, numberSaid, isNumber, isSource, hasMark, isNumberPart, partEnd, numberIn, readPart}
+use Rattle.questions.specs.Line.{dash, partLength, firstPart, hasMore, numberSaid, isNumber, isSource, partEnd, numberIn, readPart}
 
 -- ---- partEnd
 

@@ -1,10 +1,10 @@
 -- What a line says, way by way through `read_question`. Assumes nothing.
 use Prim.Native.Nat.{ℕ, suc, _+_, _-_, _≤_, _<_}
-use mathlib.Core.Bool.{Bool, true, false, _&&_, cond}
+use mathlib.Core.Bool.{Bool, true, false, _&&_}
 use mathlib.Core.List.{List, [], _∷_}
 use mathlib.Core.Path.{_≡_, refl, sym, _∙_, ap}
 use native.Mathlib.Omega.{arith}
-use lib.Dec.{eqb, ltb}
+use lib.Dec.{eqb}
 use lib.ListN.{length, getD, take, drop, length-drop}
 use lib.Seq.{drop-drop, take-all}
 use borrow.Author.Tests.{eq-eqb, ne-eqb, lt-ltb, le-ltb, eqb-true, ltb-true}
@@ -14,7 +14,6 @@ use Rattle.questions.specs.declared.PartRead.{PartRead}
 use Rattle.questions.specs.declared.PartRead.the-variants as P
 use Rattle.questions.specs.declared.QuestionRead.the-variants as Q
 use Rattle.questions.specs.Line.{mark, partLength, firstPart, hasMore, otherParts, numberSaid, isNumber, isSource, hasMark, isNumberPart, partEnd, readPart, readQuestion}
-use Rattle.questions.proofs.Parts.{partLength-le, partEnd-le}
 
 -- ---- what a part that was read says
 

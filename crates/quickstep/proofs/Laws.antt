@@ -1,12 +1,11 @@
 -- The definitions of `specs/`, a law for each way through the function that meets it. Assumes nothing.
-use Prim.Native.Nat.{ℕ, _≤_, _<_, _%_}
-use mathlib.Core.Bool.{Bool, true, false, not, _&&_, true≢false}
+use Prim.Native.Nat.{ℕ, _≤_, _<_}
+use mathlib.Core.Bool.{Bool, true, false, _&&_}
 use mathlib.Core.List.{List}
 use mathlib.Core.Path.{_≡_, refl, sym, _∙_, ap}
 use native.Mathlib.Omega.{arith}
-use native.Mathlib.Nat.{mod-eq-of-lt}
 use lib.Dec.{eqb, leb, ltb}
-use lib.ListN.{length, getD, set}
+use lib.ListN.{getD, set}
 use borrow.Author.Tests.{eqb-true, eqb-false, eq-eqb, ne-eqb, le-leb, lt-leb, lt-ltb, le-ltb, ltb-true, ltb-false}
 use Rattle.numbers.specs.declared.Answer.{Answer}
 use Rattle.numbers.specs.declared.Event.{Event}
@@ -14,7 +13,7 @@ use Rattle.numbers.specs.declared.Profile.{Profile}
 use Rattle.numbers.specs.declared.Quality.{Quality}
 use Rattle.numbers.specs.Recorded.{saidEvent}
 use Rattle.numbers.specs.Profile.{limitsOf}
-use Rattle.numbers.specs.Inputs.{lastInput, frameLife, inputCount, timeLimit, reportsNeeded}
+use Rattle.numbers.specs.Inputs.{lastInput, frameLife, timeLimit, reportsNeeded}
 use Rattle.numbers.specs.Codes.{qualityOfCode}
 use Rattle.numbers.specs.Kind.{kindFrame, kindLineCode, kindForced, kindManual, kindClearSwitch, kindQualityMode, kindTick, rowOf, isArgumentOut, isInputOut, takesCodes, takesFrames}
 use Rattle.numbers.specs.Refusal.{accepted}
@@ -45,7 +44,7 @@ use Rattle.quickstep.specs.declared.Own.{Own}
 use Rattle.quickstep.specs.declared.Watch.{Watch}
 use Rattle.quickstep.specs.Again.{codeAgain, frameAgain, readAgain, isAgain, saysAgain, repeats, framedInput, againInput, againDue, ownOf, againOwn}
 use Rattle.quickstep.specs.Own.{OwnPlace, isCommand, isServed, seenAlike, ownTake, ownStep}
-use Rattle.quickstep.specs.Watch.{watchOf, numbered, movedTo, dueAnew, dueAfter, servedWatch, completed, ownPlace, ownPut, ownAt, takeStep, watchStep}
+use Rattle.quickstep.specs.Watch.{watchOf, numbered, movedTo, dueAnew, dueAfter, servedWatch, completed, ownPut, ownAt, takeStep, watchStep}
 
 -- ---- dueAnew, dueAfter
 

@@ -1,14 +1,13 @@
 -- A watch has the state, the answers and the counts of the plain step, after any sequence of events. Assumes nothing.
-use Prim.Native.Nat.{ℕ, _≤_, _<_, _%_}
-use mathlib.Core.Bool.{Bool, true, false, not, _&&_, cond, true≢false}
-use mathlib.Core.List.{List}
+use Prim.Native.Nat.{ℕ, _≤_, _<_}
+use mathlib.Core.Bool.{Bool, true, false, not, _&&_, true≢false}
 use mathlib.Core.Path.{_≡_, refl, sym, _∙_, ap, subst}
 use native.Mathlib.Omega.{arith}
 use native.Mathlib.Nat.{mod-lt, mod-eq-of-lt}
 use lib.Dec.{eqb, leb, ltb}
 use lib.ListN.{length, getD, set}
 use lib.Seq.{set-getD}
-use borrow.Author.Tests.{eqb-true, ne-eqb, eq-eqb, leb-false, lt-leb, ltb-true, ltb-false}
+use borrow.Author.Tests.{eqb-true, ne-eqb, leb-false, lt-leb, ltb-true, ltb-false}
 use Rattle.numbers.specs.declared.Answer.{Answer}
 use Rattle.numbers.specs.declared.Event.{Event}
 use Rattle.numbers.specs.declared.Profile.{Profile}
@@ -26,7 +25,7 @@ use Rattle.input.specs.Record.{freshInput}
 use Rattle.selector.specs.declared.Selector.{Selector}
 use Rattle.selector.specs.State.{freshSelector, decided}
 use Rattle.selector.specs.Answer.{answerOf}
-use Rattle.due.specs.Next.{never, lesser, nextOf, nextDue}
+use Rattle.due.specs.Next.{lesser, nextOf, nextDue}
 use Rattle.due.proofs.Every.{every-at, every-replicate}
 use Rattle.due.proofs.Millisecond.{lesser-one, lesser-other}
 use Rattle.due.proofs.Calm.{Calm, calm-fresh}
@@ -37,12 +36,10 @@ use Rattle.events.specs.Sequence.{stateAfter, numberAfter, countAfter}
 use Rattle.events.specs.Step.{stepped, earlyNumber, stepRead, step}
 use Rattle.events.proofs.Calm.{accepted-or-not, stepRead-refused, calm-stepRead}
 use Rattle.events.proofs.Refused.{earlyRefusal-outside}
-use Rattle.quickstep.specs.declared.Own.{Own}
 use Rattle.quickstep.specs.declared.Watch.{Watch}
-use Rattle.quickstep.specs.declared.Left.the-variants.{Nothing}
-use Rattle.quickstep.specs.Again.{frameAgain, readAgain, isAgain, saysAgain, againInput, againDue, ownOf, againOwn}
+use Rattle.quickstep.specs.Again.{frameAgain, readAgain, isAgain, saysAgain, againInput, againDue, againOwn}
 use Rattle.quickstep.specs.Own.{isCommand, isServed, seenAlike, ownTake, ownStep}
-use Rattle.quickstep.specs.Watch.{watchOf, numbered, freshWatch, movedTo, dueAnew, dueAfter, servedWatch, completed, ownPlace, ownPut, ownAt, takeStep, watchStep}
+use Rattle.quickstep.specs.Watch.{watchOf, numbered, freshWatch, dueAnew, dueAfter, servedWatch, completed, ownPlace, ownPut, ownAt, takeStep, watchStep}
 use Rattle.quickstep.specs.Sequence.{watchAfter, WatchRight}
 use Rattle.quickstep.proofs.Again.{again-input, again-free}
 use Rattle.quickstep.proofs.Due.{lesser-same, put-due, again-due, againDue-least, againDue-other, dueAnew-bound, dueAfter-bound}

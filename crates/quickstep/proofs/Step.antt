@@ -6,7 +6,7 @@ use mathlib.Core.List.{List}
 use mathlib.Core.Path.{_≡_, refl, sym, _∙_, ap, subst}
 use native.Mathlib.Omega.{arith}
 use lib.Dec.{eqb}
-use lib.ListN.{length, getD, set, List·getD-map}
+use lib.ListN.{getD, set, List·getD-map}
 use lib.Seq.{map-set-same}
 use borrow.Author.Tests.{eqb-false}
 use Rattle.numbers.specs.declared.Event.{Event}

@@ -18,7 +18,7 @@ use Rattle.input.specs.Record.{freshInput}
 use Rattle.choice.specs.declared.Candidate.{Candidate}
 use Rattle.choice.specs.declared.Selection.{Selection}
 use Rattle.choice.specs.declared.Selection.the-variants as S
-use Rattle.choice.specs.Candidate.{nobody, isEligible}
+use Rattle.choice.specs.Candidate.{nobody}
 use Rattle.switch.specs.declared.Switch.{Switch}
 use Rattle.switch.specs.declared.Switch.the-variants as W
 use Rattle.selector.specs.declared.Selector.{Selector}

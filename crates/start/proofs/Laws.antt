@@ -1,6 +1,6 @@
 -- What the definitions of `specs/Start` come to, way by way. Assumes nothing.
-use Prim.Native.Nat.{ℕ, zero, suc, _+_, _*_, _<_, _≤_}
-use mathlib.Core.Bool.{Bool, true, false, cond, not, _&&_, and-false}
+use Prim.Native.Nat.{ℕ, _+_, _*_, _<_, _≤_}
+use mathlib.Core.Bool.{Bool, true, false, not, and-false}
 use mathlib.Core.List.{List, [], _∷_}
 use mathlib.Core.Path.{_≡_, refl, sym, ap, _∙_}
 use native.Mathlib.Numerals.{add-one}
@@ -10,7 +10,7 @@ use lib.Dec.{eqb, leb, ltb}
 use lib.ListN.{length, getD, drop, drop-of-length-le}
 use lib.Seq.{drop-cons}
 use Rattle.numbers.specs.declared.Profile.the-variants as P
-use Rattle.numbers.specs.Refusal.{accepted, argumentOutOfRange}
+use Rattle.numbers.specs.Refusal.{accepted}
 use Rattle.numbers.specs.Profile.{placeOf, lastPlace, startNumber}
 use Rattle.numbers.proofs.Truth.{byBool}
 use Rattle.digits.specs.Digits.{numeral0, numeral9, isBetween, isNumeral, isDigit, allDigits, digitValue, allNumerals}

@@ -1,6 +1,6 @@
 -- START: document 02, L10 and L11, and the paper of their readings, "Programs". Cited by `src/lib.rt`. A character is
 -- its number in ASCII. Assumes nothing.
-use Prim.Native.Nat.{ℕ, zero, suc, _+_, _*_}
+use Prim.Native.Nat.{ℕ, _+_, _*_}
 use mathlib.Core.Bool.{Bool, cond, _&&_}
 use mathlib.Core.List.{List, [], _∷_}
 use mathlib.Core.Path.{_≡_}

@@ -1,15 +1,14 @@
 -- The definitions of `specs/`, a law for each way through the function that meets it. Assumes nothing.
 use Prim.Native.Nat.{ℕ, _+_, _≤_, _<_}
 use mathlib.Core.Bool.{Bool, true, false}
-use mathlib.Core.Path.{_≡_, refl, sym, _∙_, ap}
-use native.Mathlib.Omega.{arith}
+use mathlib.Core.Path.{_≡_, _∙_}
 use borrow.Author.Tests.{lt-ltb, le-ltb}
 use Rattle.numbers.specs.Inputs.{frameLife}
 use Rattle.numbers.specs.Quality.{isFailed}
 use Rattle.run.specs.declared.Forecast.{Forecast}
 use Rattle.run.specs.declared.Run.{Run}
 use Rattle.input.specs.declared.Heard.{Heard}
-use Rattle.due.specs.Next.{never, sumOrNever}
+use Rattle.due.specs.Next.{never}
 use Rattle.due.proofs.Laws.{sumOrNever-sum, sumOrNever-never}
 use Rattle.status.specs.Status.{endAhead}
 use Rattle.status.specs.Kept.{timerAhead, frameAhead}

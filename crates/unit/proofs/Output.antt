@@ -36,7 +36,7 @@ use Rattle.events.specs.Given.{Sequence}
 use Rattle.events.specs.Sequence.{stateAfter}
 use Rattle.events.specs.Past.{Made, Past, candidateBy, decidedBy, pastOf, recorded, madeIn}
 use Rattle.events.specs.Told.{shown, candidateSelected, answerBy}
-use Rattle.events.specs.Demand3.{Admitted, Eligible, Latest, Unsurpassed}
+use Rattle.events.specs.Demand3.{Admitted, Latest, Unsurpassed}
 use Rattle.events.proofs.Agrees.{sequence-agrees}
 use Rattle.events.proofs.Stated.{passedAt-passes, passedAt-only}
 use Rattle.events.proofs.Happened.{happened}

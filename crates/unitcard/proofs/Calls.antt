@@ -33,10 +33,9 @@ use Rattle.events.proofs.NextDue.{next-right}
 use Rattle.unit.specs.declared.Half.{Half}
 use Rattle.unit.specs.declared.Half.the-variants as H
 use Rattle.unit.specs.declared.Unit.{Unit}
-use Rattle.unit.specs.declared.UnitStepped.{UnitStepped}
 use Rattle.unit.specs.Unit.{Addressed, UnitSequence, Telling, isMinimum, unitStartNumber, goesTo, ownEvents, ownPast, outputBy}
 use Rattle.unit.specs.Kept.{halfStep, stepUnitRead, stepUnit, isSquelched, sourceOf}
-use Rattle.unit.specs.Sequence.{unitAfter, halfOf, halfAfter, halfNumber, tellings}
+use Rattle.unit.specs.Sequence.{unitAfter, halfAfter, halfNumber, tellings}
 use Rattle.unit.specs.Claims.{otherHalf, DifferOnlyIn, SameOf}
 use Rattle.unit.proofs.Halves.{half-after, half-number-own, half-right}
 use Rattle.unit.proofs.Times.{one-time, refusals-leave}

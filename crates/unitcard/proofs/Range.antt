@@ -1,13 +1,11 @@
 -- The inputs that a unit names stay among the sixteen, so that C may index by what it reads. Assumes nothing.
-use Prim.Native.Nat.{ℕ, _≤_}
+use Prim.Native.Nat.{ℕ}
 use mathlib.Core.Bool.{Bool, true, false, cond}
 use mathlib.Core.List.{List, []}
 use mathlib.Core.Logic.{inr, _≢_}
-use mathlib.Core.Path.{_≡_, refl, _∙_}
-use native.Mathlib.Omega.{arith}
+use mathlib.Core.Path.{_≡_, refl}
 use borrow.Author.Tests.{ne-eqb}
 use Rattle.numbers.specs.declared.Event.{Event}
-use Rattle.numbers.specs.Kind.{flag, kindFrame}
 use Rattle.numbers.specs.Refusal.{accepted}
 use Rattle.numbers.proofs.Truth.{flag-most}
 use Rattle.frame.specs.declared.FrameRead.{FrameRead}
@@ -16,18 +14,16 @@ use Rattle.selector.specs.declared.Selector.{Selector}
 use Rattle.selector.specs.Clock.{noInput}
 use Rattle.selector.specs.Answer.{answerOf}
 use Rattle.events.specs.Given.{tickAt}
-use Rattle.events.specs.Step.{stepRead}
 use Rattle.unit.specs.declared.Half.{Half}
 use Rattle.unit.specs.declared.Unit.{Unit}
-use Rattle.unit.specs.declared.UnitStepped.{UnitStepped}
 use Rattle.unit.specs.Kept.{halfStep, stepUnitRead, isSquelched, sourceOf}
 use Rattle.card.specs.Flat.{cardOf}
 use Rattle.card.specs.Card.{eventOf, readFor}
-use Rattle.card.specs.Range.{IsInput, InRange}
+use Rattle.card.specs.Range.{IsInput}
 use Rattle.card.proofs.Range.{Named, selectorOf-named, stepRead-named, readFor-unread, cardOf-inRange}
 use Rattle.unitcard.specs.declared.UnitCard.{UnitCard}
 use Rattle.unitcard.specs.Flat.{equipmentHalf, stationHalf, halfIn, unitOf, unitCardOf}
-use Rattle.unitcard.specs.UnitCard.{steppedUnitCard, stepUnitCard}
+use Rattle.unitcard.specs.UnitCard.{stepUnitCard}
 use Rattle.unitcard.specs.Range.{AnyUnit}
 
 -- what both selectors of a unit name are inputs

@@ -1,17 +1,16 @@
 -- Laws of the start of a unit, way by way. Assumes nothing.
 use Prim.Native.Nat.{ℕ, _≤_, _<_}
-use mathlib.Core.Bool.{Bool, true, false, not, cond, _&&_}
+use mathlib.Core.Bool.{Bool, true, false, not}
 use mathlib.Core.List.{List}
-use mathlib.Core.Path.{_≡_, refl, sym, ap, _∙_}
+use mathlib.Core.Path.{_≡_, sym, ap, _∙_}
 use native.Mathlib.Omega.{arith}
 use borrow.Author.Tests.{eq-eqb, ne-eqb, lt-leb, le-leb, not-true, not-false}
-use lib.Dec.{eqb, leb}
 use Rattle.numbers.specs.declared.Profile.{Profile}
 use Rattle.numbers.specs.declared.Profile.the-variants as P
 use Rattle.numbers.specs.declared.Quality.{Quality}
 use Rattle.numbers.specs.Profile.{limitsOf}
 use Rattle.numbers.specs.Quality.{quality}
-use Rattle.numbers.specs.Refusal.{accepted, argumentOutOfRange}
+use Rattle.numbers.specs.Refusal.{accepted}
 use Rattle.digits.specs.Decimal.{decimalValue}
 use Rattle.text.specs.declared.NumberRead.{NumberRead}
 use Rattle.text.specs.declared.NumberRead.the-variants.{Number, NoNumber}
@@ -20,7 +19,7 @@ use Rattle.start.specs.declared.StartRead.{StartRead}
 use Rattle.start.specs.declared.StartRead.the-variants as S
 use Rattle.start.specs.Start.{isOptionWord, isDecimal, startIn}
 use Rattle.start.proofs.Laws.{number-above, place-is}
-use Rattle.unit.specs.Unit.{isMinimum, unitStartNumber}
+use Rattle.unit.specs.Unit.{unitStartNumber}
 use Rattle.unitstart.specs.declared.UnitStart.{UnitStart}
 use Rattle.unitstart.specs.declared.UnitStart.the-variants.{Started, Refused, NoStart}
 use Rattle.unitstart.specs.Start.{numeral1, unitStartOf, unitStartTwo, unitStartIn, unitStartBy}

@@ -1,6 +1,5 @@
 -- `frametext::flag_digit` meets its contract.
 -- Assumes nothing.
-use mathlib.Core.Path.{refl}
 use Rattle.digits.specs.Digits.{digitOf}
 use Rattle.frametext.proofs.flag_digit.Statement.{statement}
 use Rattle.frametext.proofs.flag_digit.Tie as tie

@@ -1,7 +1,6 @@
 -- `questions::lent_room` meets its contract: each way is a law.
 -- Assumes nothing.
 use Rattle.questions.proofs.Texts.{lentRoom-laws}
-use borrow.Author.Needs.{needs}
 use Rattle.questions.proofs.lent_room.Statement.{statement}
 use Rattle.questions.proofs.lent_room.Tie as tie
 

@@ -3,7 +3,6 @@
 use mathlib.Core.Path.{sym}
 use native.Mathlib.Omega.{arith}
 use borrow.Author.Needs.{needs}
-use lib.ListN.{length}
 use lib.Seq.{length-take-le}
 use Rattle.salvage.proofs.Lines.{reported-within, printed-refused, printed-kept}
 use Rattle.salvage.proofs.put_salvaged.Statement.{statement}
