@@ -36,6 +36,13 @@ OPTION_II = Profile(
     place=0,
 )
 
+
+
+def of_option(option):
+    """What the option alone says."""
+    return OPTION_II if option == OPTION_II.option else OPTION_I
+
+
 # The programs that take START.
 TAKE_START = ("replay", "outgoing", "counts", "words", "heartbeat", "facts")
 
@@ -62,7 +69,11 @@ def take_start(start):
 def follow(option):
     """What is told from now on is of a log of this option; None, where no line of it is formed, is option I."""
     global chosen
-    chosen = OPTION_II._replace(place=int(given[1]) if given else 0) if option == OPTION_II.option else OPTION_I
+    chosen = of_option(option)
+    if option == OPTION_II.option and given:
+        chosen = chosen._replace(place=int(given[1]))
+    if option == OPTION_I.option and given:
+        raise Trouble("--start is for a log of option II, and this one is of option I")
 
 
 def start_of(program):

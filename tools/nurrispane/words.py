@@ -12,6 +12,8 @@ from nurrispane.files import Trouble
 TIME_LIMIT = 2**48
 LARGEST_INPUT = 0xFF
 LARGEST_ARGUMENT = 0xFFFF
+LARGEST_CODE = 0b1111
+BINARY_CODE = re.compile("[01]{4}")
 LARGEST_FRAME = 65_535
 # The options, by the byte after a line's kind; and the most digits of a line.
 OPTIONS = (1, 2)
@@ -83,9 +85,9 @@ def frame_in_words(octets):
     """The words for a frame after its input, or None where they would be longer than its octets."""
     source = octets[6:12].hex() if len(octets) >= 12 else "020000000001"
     flag = int(len(octets) > 20 and octets[20] == 0x18)
-    code = octets[27] & 15 if len(octets) > 27 else 0
-    sound = resized(sound_frame(code, source, flag), len(octets))
-    said = ["%d" % code]
+    said_code = octets[27] & LARGEST_CODE if len(octets) > 27 else 0
+    sound = resized(sound_frame(said_code, source, flag), len(octets))
+    said = [f"{said_code:04b}"]
     if source != "020000000001":
         said.append("source=" + "-".join(re.findall("..", source)))
     if flag:
@@ -167,10 +169,26 @@ def line_of_words(said, option):
     return line
 
 
+def code(word, largest, option):
+    """A code: four binary digits, the name of a quality, or a plain number, which has no leading 0."""
+    if BINARY_CODE.fullmatch(word.text):
+        return int(word.text, 2)
+    codes = profiles.of_option(option).codes
+    for value, name in codes.items():
+        if name == word.text:
+            return value
+    if not re.fullmatch("0|[1-9][0-9]{0,29}", word.text):
+        names = ", ".join(codes.values())
+        raise Wrong(word.column, f"a code is four binary digits, as 0010, or one of {names}, not {ascii(word.text)}")
+    return number(word, largest, "a code")
+
+
 def known_event(kind, time, take, option):
     input_number = number(take("an input"), LARGEST_INPUT, "an input") if kind.has_input else 0
     argument = 0
-    if kind.names is not None:
+    if kind.word == "code":
+        argument = code(take("a code"), LARGEST_ARGUMENT, option)
+    elif kind.names is not None:
         word = take("an argument")
         named = kind.names.get(word.text)
         what = "an argument of %s" % kind.word
@@ -182,7 +200,7 @@ def known_event(kind, time, take, option):
 
 def frame_line(time, take, said, option):
     input_number = number(take("an input"), LARGEST_INPUT, "an input")
-    octets = sound_frame(number(take("a code"), 15, "a code"))
+    octets = sound_frame(code(take("a code"), LARGEST_CODE, option))
     while said:
         octets = change_frame(octets, said.popleft())
     return event_line(FRAME_KIND, time, input_number, 0, octets, option)
@@ -384,16 +402,26 @@ def line_in_words(data, option=None):
         if frame is not None:
             return "%d frame %d %s" % (event.time, event.input, frame)
     kind = BY_NUMBER.get(event.kind)
-    if kind is None or not kind.has_input and event.input != 0 or kind.names is None and event.argument != 0:
+    if kind is None or not has_words(kind, event):
         said = "%d event %02x %d %d %s" % (event.time, event.kind, event.input, event.argument, event.octets.hex())
         return said.rstrip()
     said = ["%d" % event.time, kind.word]
     if kind.has_input:
         said.append("%d" % event.input)
-    if kind.names is not None:
+    if kind.word == "code" and event.argument <= LARGEST_CODE:
+        said.append(f"{event.argument:04b}")
+    elif kind.names is not None:
         names = [name for name, value in kind.names.items() if value == event.argument]
         said.append(names[0] if names else "%d" % event.argument)
     return " ".join(said)
+
+
+def has_words(kind, event):
+    """Whether an event can be said with its kind's word: one without input or argument has 0 there, and an argument that is no
+    code is not written as one."""
+    if kind.word == "code" and event.argument > LARGEST_CODE:
+        return not BINARY_CODE.fullmatch(f"{event.argument}")
+    return (kind.has_input or event.input == 0) and (kind.names is not None or event.argument == 0)
 
 
 # So many equal bytes in a row are told once.
@@ -411,11 +439,15 @@ def bytes_in_words(data):
     return " ".join(said + [escaped(data[place:])]).rstrip()
 
 
+ESCAPED = [chr(byte) if 0x21 <= byte <= 0x7E and chr(byte) not in "\\#|()" else "\\x%02x" % byte for byte in range(256)]
+# So many bytes are escaped at a time: a piece of text for each byte of a long line would take many times its room.
+PIECE = 1 << 16
+
+
 def escaped(data):
     """Plain characters as they stand, all others as \\xHH; no text that could be read as something else."""
-    text = "".join(
-        chr(byte) if 0x21 <= byte <= 0x7E and chr(byte) not in "\\#|()" else "\\x%02x" % byte for byte in data
-    )
+    pieces = (data[place:place + PIECE] for place in range(0, len(data), PIECE))
+    text = "".join("".join(map(ESCAPED.__getitem__, piece)) for piece in pieces)
     return "\\x78" + text[1:] if re.fullmatch("x[0-9]+", text) else text
 
 
