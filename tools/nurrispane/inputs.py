@@ -74,8 +74,12 @@ def left(fact, end, brief=False):
     return ends if brief else "%s ms left, %s" % (format(end - fact.time, ","), ends)
 
 
-def unfit(fact, brief=False):
-    """Why an input that is not eligible is not: a reason and its words."""
+# So many equal reports in a row make a code or a word count.
+REPORTS_NEEDED = 3
+
+
+def unfit(fact, brief=False, equal=0):
+    """Why an input that is not eligible is not: a reason and its words; `equal` is how many equal reports the log has of it."""
     if fact.priority == 0:
         return "off", "off"
     if fact.locked:
@@ -86,7 +90,8 @@ def unfit(fact, brief=False):
             return "wait", "wait: " + left(fact, fact.timer, brief)
         if not fact.signal:
             return "failed", "failed: the signal is failing"
-        return "failed", "failed: no %s counts" % REPORTS[fact.kind]
+        so_far = f" yet: {equal} of {REPORTS_NEEDED} equal reports" if equal else ""
+        return "failed", f"failed: no {REPORTS[fact.kind]} counts{so_far}"
     if fact.passed == names.do_not_use:
         return quality(fact.passed), "%s can't be followed" % quality(fact.passed)
     if fact.passed == names.invalid:
@@ -110,15 +115,15 @@ def outdone(facts, number, selected):
     return "equal", "equal to input %d, which %s" % (selected, kept)
 
 
-def why(facts, number, answer, brief=False):
+def why(facts, number, answer, brief=False, equal=0):
     """Why an input is selected or is not, by the facts and the right answer: a reason and its words, in brief without what
-    changes with each millisecond."""
+    changes with each millisecond; `equal` is how many equal reports the log has of it."""
     _, selected, _, _, switch, on = answer
     fact = facts[number]
     if number == selected:
         reason = "selected", "selected" + (" by a %s switch" % answers.SWITCHES[switch] if switch else "")
     elif not fact.eligible:
-        reason = unfit(fact, brief)
+        reason = unfit(fact, brief, equal)
     elif switch:
         reason = "switch", "a %s switch stands on input %d" % (answers.SWITCHES[switch], on)
     else:
@@ -130,7 +135,10 @@ def why(facts, number, answer, brief=False):
 
 
 REPORT = re.compile(rb"(02|03|12)0[12]([0-9a-f]{12})([0-9a-f]{2})([0-9a-f]{4})(?:[0-9a-f]{55}([0-9a-f])[0-9a-f]*)?")
-WORD = b"12"
+WORD, FRAME = b"12", b"02"
+# What forgets the reports of an input: a failing signal, and its kind set.
+SIGNAL = re.compile(rb"010[12][0-9a-f]{12}([0-9a-f]{2})000([01])")
+KIND = re.compile(rb"100[12][0-9a-f]{12}([0-9a-f]{2})[0-9a-f]{4}")
 
 
 def report_in_words(kind, number):
@@ -141,15 +149,34 @@ def report_in_words(kind, number):
 
 
 class Reports:
-    """The last report of each input that was accepted, as the log has it."""
+    """The last report of each input that was accepted, and how many equal ones there are in a row since its signal is good and
+    its kind is set: as the log has it. Whether they count, the facts say."""
 
     def __init__(self):
-        self.last = {}
+        self.last, self.rows, self.good = {}, {}, set()
 
     def take(self, line, answer):
-        if answer[:2] == b"00" and (report := REPORT.fullmatch(line)):
-            said = int(report.group(5) or report.group(4), 16)
-            self.last[int(report.group(3), 16)] = int(report.group(2), 16), report_in_words(report.group(1), said)
+        if answer[:2] != b"00":
+            return
+        if report := REPORT.fullmatch(line):
+            said, number = int(report.group(5) or report.group(4), 16), int(report.group(3), 16)
+            self.last[number] = int(report.group(2), 16), report_in_words(report.group(1), said)
+            if report.group(1) != FRAME and number in self.good:
+                before, count = self.rows.get(number, (None, 0))
+                self.rows[number] = said, count + 1 if said == before else 1
+        elif signal := SIGNAL.fullmatch(line):
+            number, failing = (int(part, 16) for part in signal.groups())
+            if failing:
+                self.good.discard(number)
+                self.rows.pop(number, None)
+            else:
+                self.good.add(number)
+        elif kind := KIND.fullmatch(line):
+            self.rows.pop(int(kind.group(1), 16), None)
+
+    def equal(self, number):
+        """How many equal codes or words in a row."""
+        return self.rows.get(number, (None, 0))[1]
 
     def told(self, number, time):
         if number not in self.last:

@@ -15,8 +15,8 @@ EXAMPLES = [
     "./nurrispane explain examples/whole-replay.log --line 11",
     "./nurrispane explain examples/whole-replay.log --input 3 --csv",
 ]
-HEAD = ["in", "kind", "priority", "locked", "signal", "last report", "raw", "passed", "why not"]
-CSV = ["line", "time", "event", "number", "selected", "state", "quality", "switch", "on", "input", "kind", "priority", "locked",
+HEAD = ["in", "kind", "priority", "lockout", "signal", "last report", "raw", "passed", "why not"]
+CSV = ["line", "time", "event", "number", "selected", "state", "quality", "switch", "on", "input", "kind", "priority", "lockout",
        "signal", "last report", "raw", "passed", "eligible", "timer", "frame", "reason", "why"]
 
 
@@ -83,9 +83,9 @@ def asked_inputs(options, facts, answer):
 def cells(number, facts, answer, reports):
     fact = facts[number]
     kind = inputs.KINDS[fact.kind]
-    return ["%d" % number, kind, "%d" % fact.priority if fact.priority else "off", "yes" if fact.locked else "no",
+    return ["%d" % number, kind, "%d" % fact.priority if fact.priority else "off", "set" if fact.locked else "none",
             "good" if fact.signal else "failing", reports.told(number, fact.time), inputs.quality(fact.raw),
-            inputs.quality(fact.passed), inputs.why(facts, number, answer)[1]]
+            inputs.quality(fact.passed), inputs.why(facts, number, answer, equal=reports.equal(number))[1]]
 
 
 def in_words(lines, options):
@@ -121,7 +121,7 @@ def in_csv(lines, options):
         for each in range(inputs.INPUTS) if options.input is None else [options.input]:
             fact = facts[each]
             told = cells(each, facts, octets, reports)
-            reason, said = inputs.why(facts, each, octets)
+            reason, said = inputs.why(facts, each, octets, equal=reports.equal(each))
             writer.writerow([number, fact.time if time is None else time, event, *octets, each, *told[1:6], fact.raw, fact.passed,
                              fact.eligible, fact.timer, fact.frame, reason, said])
     yield out.getvalue()
