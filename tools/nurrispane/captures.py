@@ -53,7 +53,7 @@ class Capture:
             raise Trouble("%s cannot be read: %s" % (name_of(self.path), reason(error))) from error
 
     def wrong(self, what):
-        raise Trouble("%s: after frame %d: %s" % (self.path, self.frames_read, what))
+        raise Trouble("%s: after frame %d: %s" % (name_of(self.path), self.frames_read, what))
 
     def bytes(self, file, count):
         """So many bytes; the end of the file is trouble."""

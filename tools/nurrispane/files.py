@@ -26,8 +26,27 @@ def reason(error):
     return getattr(error, "strerror", None) or str(error)
 
 
+def plain(text):
+    """Text that a terminal shows and doesn't obey: what isn't printable is written as \\xHH, but for the ends of lines."""
+    return "".join(each if each.isprintable() or each == "\n" else ascii(each)[1:-1] for each in text)
+
+
 def name_of(path):
-    return "standard input" if str(path) == "-" else str(path)
+    """A file's name as it is told."""
+    return "standard input" if str(path) == "-" else plain(str(path)).replace("\n", "\\n")
+
+
+class PlainText:
+    """A text stream that gets plain text only, for what is told of names and arguments that come from anywhere."""
+
+    def __init__(self, stream):
+        self.stream = stream
+
+    def write(self, text):
+        return self.stream.write(plain(text))
+
+    def __getattr__(self, name):
+        return getattr(self.stream, name)
 
 
 def standard(stream, name):
@@ -65,7 +84,7 @@ def write(path, data):
     # behind a link it is the file that is replaced, not the link
     path = pathlib.Path(os.path.realpath(path))
     if path.exists() and not path.is_file():
-        raise Trouble("%s cannot be written: it is no file" % path)
+        raise Trouble("%s cannot be written: it is no file" % name_of(path))
     temporary = None
     try:
         handle, temporary = tempfile.mkstemp(prefix=".%s." % path.name, dir=path.parent)
@@ -80,7 +99,7 @@ def write(path, data):
             with contextlib.suppress(OSError):
                 os.unlink(temporary)
         if isinstance(error, OSError):
-            raise Trouble("%s cannot be written: %s" % (path, reason(error))) from error
+            raise Trouble("%s cannot be written: %s" % (name_of(path), reason(error))) from error
         raise
 
 
@@ -110,21 +129,27 @@ def write_out(data):
         raise Trouble("standard output cannot be written: %s" % reason(error)) from error
 
 
+def free_directory(path):
+    """Trouble where something is there already, but for an empty directory."""
+    path = pathlib.Path(path)
+    if path.exists() and not (path.is_dir() and not any(path.iterdir())):
+        raise Trouble("%s is there already" % name_of(path))
+
+
 @contextlib.contextmanager
 def whole_directory(path):
     """A directory to fill, which gets its name once all of it is there."""
+    free_directory(path)
     path = pathlib.Path(path)
-    if path.exists() and not (path.is_dir() and not any(path.iterdir())):
-        raise Trouble("%s is there already" % path)
     try:
         temporary = pathlib.Path(tempfile.mkdtemp(prefix=".%s." % path.name, dir=path.absolute().parent))
     except OSError as error:
-        raise Trouble("%s cannot be made: %s" % (path, reason(error))) from error
+        raise Trouble("%s cannot be made: %s" % (name_of(path), reason(error))) from error
     try:
         yield temporary
         os.chmod(temporary, 0o777 & ~current_umask())
         os.replace(temporary, path)
     except OSError as error:
-        raise Trouble("%s cannot be made: %s" % (path, reason(error))) from error
+        raise Trouble("%s cannot be made: %s" % (name_of(path), reason(error))) from error
     finally:
         shutil.rmtree(temporary, ignore_errors=True)

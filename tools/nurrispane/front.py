@@ -5,6 +5,7 @@ Such a module has SUMMARY (a line), EXAMPLES (calls that work), `arguments(parse
 """
 
 import argparse
+import contextlib
 import importlib
 import os
 import pathlib
@@ -12,7 +13,7 @@ import signal
 import sys
 import traceback
 
-from nurrispane.files import FINE, TROUBLE, NobodyReads, Trouble, reason, write_out
+from nurrispane.files import FINE, TROUBLE, NobodyReads, PlainText, Trouble, name_of, reason, write_out
 
 STATUS = "exit status: 0 fine, 1 a finding, 2 trouble; a file is written whole or not at all"
 
@@ -48,6 +49,12 @@ def parser_of(word):
 
 
 def main(arguments):
+    """The exit status; what is said on standard error is plain text."""
+    with contextlib.redirect_stderr(PlainText(sys.stderr)):
+        return status_of(arguments)
+
+
+def status_of(arguments):
     word = arguments[0] if arguments else None
     try:
         if word in ("--help", "-h"):
@@ -66,7 +73,9 @@ def main(arguments):
     except Trouble as trouble:
         sys.stderr.write("nurrispane %s: %s\n" % (word, trouble))
     except OSError as error:
-        sys.stderr.write("nurrispane %s: %s%s\n" % (word, "%s: " % error.filename if error.filename else "", reason(error)))
+        sys.stderr.write("nurrispane %s: %s%s\n" % (word, "%s: " % name_of(error.filename) if error.filename else "", reason(error)))
+    except MemoryError:
+        sys.stderr.write(f"nurrispane {word}: this needs more memory than there is\n")
     except KeyboardInterrupt:
         sys.stderr.write("nurrispane %s: stopped\n" % word)
     except Exception:

@@ -7,7 +7,7 @@ import sys
 import tempfile
 import threading
 
-from nurrispane import profiles
+from nurrispane import profiles, words
 from nurrispane.files import ROOT, Trouble, name_of, read, reason, standard, write, write_out
 
 CHUNK = 1 << 16
@@ -44,16 +44,21 @@ def stream(name, source, sink):
 
     A line that is not answered, or an answer that is not whole, is trouble."""
     ready(name)
-    asked, told, failed, front = LineCount(), LineCount(), [], []
+    asked, told, failed = LineCount(), LineCount(), []
+    try:
+        front = source.read(CHUNK)
+    except OSError as error:
+        raise Trouble("the log cannot be read: %s" % reason(error)) from error
+    profiles.follow(words.option_in(front))
     process = subprocess.Popen(command(name), stdin=subprocess.PIPE, stdout=subprocess.PIPE, stderr=subprocess.PIPE)
 
     def feed():
         try:
-            while piece := source.read(CHUNK):
+            piece = front
+            while piece:
                 asked.take(piece)
-                if not front:
-                    front.append(piece)
                 process.stdin.write(piece)
+                piece = source.read(CHUNK)
             process.stdin.close()
         except BrokenPipeError:
             pass  # the program ended early: the count tells
@@ -76,7 +81,7 @@ def stream(name, source, sink):
     if failed:
         raise Trouble(failed[0])
     ended_well(name, status, said, asked, told)
-    return b"".join(front)
+    return front
 
 
 def given(name, data):
@@ -115,6 +120,7 @@ def put_out(name, path, out):
         with opened(path) as source:
             return stream(name, source, write_out)
     data = read(path)
+    profiles.follow(words.option_in(data))
     write(out, b"".join(line + b"\n" for line in answers(name, data)))
     return data[:CHUNK]
 

@@ -10,7 +10,7 @@ of the set finds, in which line and by which answer; README.txt says how to play
 import collections
 
 from nurrispane import answers, captures, faults, programs, sequences, words
-from nurrispane.files import FINE, Trouble, whole_directory, write, write_out
+from nurrispane.files import FINE, Trouble, free_directory, name_of, whole_directory, write, write_out
 
 SUMMARY = "sequences for a bench: captures to play, commands, expected answers, what they find"
 EXAMPLES = [
@@ -221,6 +221,9 @@ def shortened(line):
 
 
 def run(options):
+    if options.find and options.part == "pairs":
+        raise Trouble("--find chooses from the set that finds the known faults, so it doesn't go with --part pairs")
+    free_directory(options.dir)
     table = sequences.read_table()
     if sequences.is_stale(table):
         raise Trouble("sequences/table.txt is stale: sequences/make makes it anew")
@@ -235,5 +238,5 @@ def run(options):
         write(directory / "README.txt", text(readme(logs)))
         write(directory / "TABLE.md", text(findings(logs, table)))
     seconds = sum(sequences.duration(it.sequence.data) for it in logs) / 1000
-    write_out(b"%d sequences in %s, %.0f s of bench time\n" % (len(logs), str(options.dir).encode(), seconds))
+    write_out(f"{len(logs)} sequences in {name_of(options.dir)}, {seconds:.0f} s of bench time\n".encode())
     return FINE

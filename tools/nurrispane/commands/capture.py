@@ -122,6 +122,8 @@ def ticks(step, last, option):
 
 
 def run(options):
+    if options.until is not None and options.tick is None:
+        raise Trouble("--until says how far ticks go, and there are none without --tick")
     addresses, interfaces = read_map(options.map)
     capture = captures.Capture(options.file)
     taken, reasons, first, earliest = [], collections.Counter(), {}, None

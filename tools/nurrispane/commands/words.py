@@ -4,7 +4,7 @@ Both ways give the same log, byte for byte, malformed lines and a missing last L
 that is wrong is told with its file, line and column."""
 
 from nurrispane import words
-from nurrispane.files import FINE, name_of, read, read_text, write
+from nurrispane.files import FINE, Trouble, name_of, read, read_text, write
 
 SUMMARY = "an event log in words, and words as an event log"
 EXAMPLES = [
@@ -22,6 +22,8 @@ def arguments(parser):
 
 
 def run(options):
+    if options.name is not None and not options.log:
+        raise Trouble("--name says which log of a file in words, so it goes with --log")
     if options.log:
         log = words.one_log(read_text(options.file), name_of(options.file), options.name)
         write(options.out, log.data())
