@@ -4,7 +4,7 @@ import os
 import re
 import sys
 
-os.chdir(os.path.join(os.path.dirname(os.path.abspath(__file__)), ".."))
+os.chdir(os.path.dirname(os.path.dirname(os.path.abspath(__file__))))
 CRATES = sorted(os.path.basename(os.path.dirname(path)) for path in glob.glob("crates/*/src"))
 MUST_FAIL, FURTHER, WRONG_ANSWERS = "crates/{}/must-fail", "tests/further-edits/{}", "tests/wrong-answers/{}"
 
@@ -22,6 +22,19 @@ def edits(folder):
 def name_of(path):
     """An edit's name, by its path."""
     return os.path.basename(path).removesuffix(".edit")
+
+
+def changes(path):
+    """What an edit changes: of each of its pairs the file, below its crate's folder, the old text and the new one."""
+    at, old, pairs = None, None, []
+    for line in read(path).splitlines():
+        if line.startswith("file: "):
+            at = line[len("file: "):]
+        elif line.startswith("old: "):
+            old = line[len("old: "):]
+        elif line.startswith("new:"):
+            pairs.append((at, old, line[len("new:"):].removeprefix(" ")))
+    return pairs
 
 
 def declared(paths):

@@ -177,12 +177,14 @@ enum nurrispane_event {
 
 /*
  * The numbers of an answer. Of those that apply to an event the smallest is given. 2 to 13 leave
- * the state, its time included; 14 to 17 leave what a tick at the event's time leaves. Writing a
- * frame checks 5, 19, 18, and leaves the buffer where it refuses.
+ * a card's state, its time included; 14 to 17 leave what a tick at the event's time leaves. What they
+ * leave of a unit's cards, nurrispane_unit_step() says. Writing a frame checks 5, 19, 18, and leaves the
+ * buffer where it refuses. 1, 20 and 21 (a log that does not go back to the old form) are of programs
+ * that read logs: not given here.
  */
 enum nurrispane_number {
     NURRISPANE_ACCEPTED = 0,
-    NURRISPANE_REFUSED_LINE_MALFORMED = 1,        /* for programs that read logs: not given here */
+    NURRISPANE_REFUSED_LINE_MALFORMED = 1,        /* not given here */
     NURRISPANE_REFUSED_KIND_UNKNOWN = 2,
     NURRISPANE_REFUSED_TIME_TOO_LARGE = 3,        /* at or above 2^48 */
     NURRISPANE_REFUSED_TIME_BEFORE_STATE = 4,     /* before that of the state */
@@ -201,7 +203,7 @@ enum nurrispane_number {
     NURRISPANE_REFUSED_MANUAL_LOWER_QUALITY = 17, /* manual: an eligible input has lower quality */
     NURRISPANE_REFUSED_BUFFER_TOO_SHORT = 18,     /* frame buffer under 60 octets */
     NURRISPANE_REFUSED_SOURCE_NOT_SIX = 19,       /* source address not six octets */
-    NURRISPANE_REFUSED_OUTPUT_TOO_SHORT = 20      /* for programs that read logs: not given here */
+    NURRISPANE_REFUSED_OUTPUT_TOO_SHORT = 20      /* not given here */
 };
 
 /* The clock states. */
@@ -264,7 +266,7 @@ struct nurrispane_answer {
  */
 struct nurrispane_card {
     struct nurrispane_input inputs[NURRISPANE_INPUTS];
-    uint64_t time;        /* of the last event that was not refused with 2 to 13, ms */
+    uint64_t time;        /* of the last event not refused with 2 to 13, in a unit that passed it, ms */
     uint64_t due;         /* nothing is due before this, ms; nurrispane_next_due() says when something is */
     uint8_t mode;         /* quality mode */
     uint8_t held;         /* the clock has been locked after some choice */
