@@ -13,14 +13,20 @@ from nurrispane import words
 from nurrispane.files import Trouble, name_of, reason
 
 ETHERNET = 1
+# Cooked captures, as of Linux's interface "any": the octets before the payload are the system's, and no destination is among them.
+COOKED_1, COOKED_2 = 113, 276
+# What a cooked header says of a frame: sent to a group, or sent by this machine; and that its address is one of Ethernet.
+TO_A_GROUP, SENT_HERE = 2, 4
+ETHERNET_DEVICE, ADDRESS = 1, 6
 NANO = 10**9
 SHORTEST_BLOCK = 12
 # No block or frame is longer: more is a damaged length.
 LARGEST_BLOCK = 1 << 26
 
 # A frame of a capture: its number from 1, its time in ns or None, its interface, its octets
-# without FCS, and how many octets it had on the wire, also without FCS.
-Frame = collections.namedtuple("Frame", "number time interface octets length")
+# without FCS, and how many octets it had on the wire, also without FCS. `link` is how it was captured; a cooked one has ESMC's
+# destination put in, and `index` is the number that the system has of its interface, where the file says it.
+Frame = collections.namedtuple("Frame", "number time interface octets length link index")
 
 
 class Interface:
@@ -77,7 +83,11 @@ class Capture:
         """A frame, its FCS taken off as far as it was captured."""
         self.frames_read += 1
         length = max(length, len(octets)) - fcs
-        return Frame(self.frames_read, time, interface, octets[:max(length, 0)], length)
+        octets, index = octets[:max(length, 0)], None
+        if interface.link in COOKED:
+            header, octets, index = uncooked(interface.link, octets)
+            length = length - header + HEADER
+        return Frame(self.frames_read, time, interface, octets, length, interface.link, index)
 
     # ---- pcap
 
@@ -210,6 +220,31 @@ def options(order, body):
 def dropped_of(order, body):
     """How many frames an interface's statistics call dropped, by the interface or by the system."""
     return sum(struct.unpack_from(order + "Q", value)[0] for code, value in options(order, body[12:]) if code in (5, 7))
+
+
+# ---- cooked captures
+
+# Of each kind: the octets before the payload, and where in them packet type, device, length of the address, address, protocol and the
+# interface's number are.
+Cooked = collections.namedtuple("Cooked", "length layout fields")
+COOKED = {
+    COOKED_1: Cooked(16, ">HHH8s2s", ("sort", "device", "size", "address", "protocol")),
+    COOKED_2: Cooked(20, ">2sHIHBB8s", ("protocol", "reserved", "index", "device", "sort", "size", "address")),
+}
+# An Ethernet header.
+HEADER = 14
+
+
+def uncooked(link, octets):
+    """How many octets were the system's; the frame as Ethernet has it, with ESMC's destination, b"" where it was sent to no
+    group or can't be one of Ethernet; and the number of its interface, if that is told."""
+    kind = COOKED[link]
+    if len(octets) < kind.length:
+        return kind.length, b"", None
+    told = dict(zip(kind.fields, struct.unpack_from(kind.layout, octets)))
+    fits = told["sort"] in (TO_A_GROUP, SENT_HERE) and told["device"] == ETHERNET_DEVICE and told["size"] == ADDRESS
+    head = DESTINATION + told["address"][:ADDRESS] + told["protocol"]
+    return kind.length, head + octets[kind.length:] if fits else b"", told.get("index")
 
 
 # ---- what is ESMC

@@ -5,11 +5,14 @@ frame events in the order of their times, byte for byte: an event's time is that
 capture's first frame, of whatever protocol, in whole milliseconds; with --first the log's first frame
 gets that time. VLAN-tagged, short and oversized frames are kept as they are; replay refuses them
 with document 01's number. --map says which input a frame is heard
-on, by the sender's address or by the interface of the capture (its name, or its number from 0).
+on, by the sender's address or by the interface of the capture (its name, or its number from 0; in a cooked
+capture of version 2 also index-N, N as `ip link` has it). A cooked capture (interface "any") lacks each frame's
+destination: that of ESMC is put in, and it says so.
 The card is of option I; of option II where --setup has a line "option 2", or with --option 2.
-What is left out is counted on standard error, and why. Exit status 1: frames of a mapped input
-are missing in the log, since the capture cut them short, gave them no time or says that it
-dropped some."""
+Where the capture's clock was set back, the order of the file is kept and time goes on from there; --clock times
+takes the times as they are. What is left out is counted on standard error, and why. Exit status 1: frames of a mapped
+input are missing in the log, since the capture cut them short, gave them no time or says that it dropped some; the
+clock was set back, and --clock doesn't say what to do; something in --map has no frame; or the log has none at all."""
 
 import collections
 import re
@@ -24,17 +27,25 @@ EXAMPLES = [
     "./nurrispane capture examples/bench.pcapng --map east=4 --tick 1000 --until 9000 --list",
 ]
 
-OTHER, UNMAPPED, CUT, NO_TIME, NOT_ETHERNET = (
+OTHER, UNMAPPED, CUT, NO_TIME, NOT_ETHERNET, NOT_CARRIED = (
     "another protocol",
     "no input mapped",
     "cut short by the capture",
     "no time in the capture",
     "not captured as Ethernet",
+    "cooked, and sent to no group",
 )
 LARGEST_FRAME = 1_514
 LAST_INPUT = 15
 # in ns
-MILLISECOND = 10**6
+MILLISECOND, SECOND = 10**6, 10**9
+# How much one interface's time may go back without its clock having been set: frames are written a little out of order.
+DISORDER = 10 * MILLISECOND
+# A longer time without a frame is told, in case the clock was set forward.
+LONG_SILENCE = 60 * SECOND
+# So many addresses of a capture are told.
+MOST_ADDRESSES = 16
+LINKS = {captures.ETHERNET: "Ethernet", captures.COOKED_1: "cooked, version 1", captures.COOKED_2: "cooked, version 2"}
 
 
 def arguments(parser):
@@ -47,6 +58,8 @@ def arguments(parser):
     parser.add_argument("--tick", type=positive, metavar="MS", help="put in a tick each MS milliseconds")
     parser.add_argument("--until", type=whole, metavar="MS", help="ticks go on up to this time")
     parser.add_argument("--first", type=whole, metavar="MS", help="the time of the log's first frame")
+    parser.add_argument("--clock", choices=["file", "times"], help="where the clock was set back: file, the order of the file, and time goes "
+                        "on from there; times, the times as they are, in their order")
     parser.add_argument("--all", action="store_true", help="frames of other protocols too, as a card may be handed them")
     parser.add_argument("--list", action="store_true", help="tell each frame that is left out")
     parser.add_argument("--out", metavar="LOG", help="write to LOG, whole or not at all")
@@ -79,10 +92,19 @@ def read_map(pairs):
     return addresses, interfaces
 
 
+def with_colons(address):
+    return ":".join(re.findall("..", address))
+
+
+def keys_of(frame):
+    """What --map may call the interface of a frame."""
+    index = [] if frame.index is None else [f"index-{frame.index}"]
+    return [*index, frame.interface.name, f"{frame.interface.number}"]
+
+
 def input_of(frame, addresses, interfaces):
     """The input that a frame is heard on, or None."""
-    name = frame.interface.name
-    by_interface = interfaces.get(name if name in interfaces else "%d" % frame.interface.number)
+    by_interface = next((interfaces[key] for key in keys_of(frame) if key in interfaces), None)
     by_address = addresses.get(frame.octets[6:12].hex())
     if None not in (by_interface, by_address) and by_interface != by_address:
         raise Trouble("frame %d: its address is mapped to %d, its interface to %d" % (frame.number, by_address, by_interface))
@@ -91,8 +113,10 @@ def input_of(frame, addresses, interfaces):
 
 def left_out(frame, number, take_all):
     """Why a frame is left out, or None."""
-    if frame.interface.link != captures.ETHERNET:
+    if frame.link not in LINKS:
         return NOT_ETHERNET
+    if frame.link != captures.ETHERNET and not frame.octets:
+        return NOT_CARRIED
     if not take_all and not captures.is_esmc(frame.octets):
         return OTHER
     if number is None:
@@ -100,6 +124,74 @@ def left_out(frame, number, take_all):
     if len(frame.octets) < frame.length:
         return CUT
     return NO_TIME if frame.time is None else None
+
+
+class Clock:
+    """The capture's clock as its frames come in the file: what is added to a frame's time, and where it went back or far ahead."""
+
+    def __init__(self, chosen):
+        self.chosen, self.added, self.latest, self.first = chosen, 0, None, None
+        self.own, self.back, self.ahead = {}, [], []
+
+    def time_of(self, frame):
+        """The frame's time in ns, on a clock that is never set back unless `times` is chosen."""
+        before = self.own.get(frame.interface.number)
+        if before is not None and frame.time < before - DISORDER:
+            self.back.append((frame.number, before - frame.time))
+            self.own = {}
+            if self.chosen != "times":
+                self.added = self.latest - frame.time
+        self.own[frame.interface.number] = max(frame.time, self.own.get(frame.interface.number, frame.time))
+        time = frame.time + self.added
+        if self.latest is not None and time - self.latest > LONG_SILENCE:
+            self.ahead.append((frame.number, time - self.latest))
+        self.latest = time if self.latest is None else max(self.latest, time)
+        self.first = time if self.first is None else min(self.first, time)
+        return time
+
+    def told(self):
+        """What is said of it."""
+        for number, by in self.back:
+            done = "the times are taken as they are" if self.chosen == "times" else "the order of the file is kept, and time goes on from there"
+            yield f"the clock was set back by {by / SECOND:,.3f} s at frame {number}: {done}"
+        if self.back and self.chosen is None:
+            yield "--clock file says that this is meant, --clock times takes the times as they are"
+        for number, by in self.ahead:
+            yield f"frame {number} comes {by / SECOND:,.3f} s after those before it: a silence, or the clock was set forward"
+
+
+class Content:
+    """What is in a capture: frames and ESMC frames of each interface, and of each sender's address."""
+
+    def __init__(self, take_all):
+        self.frames, self.esmc, self.addresses = collections.Counter(), collections.Counter(), collections.Counter()
+        # what --map may name of the frames that it may take
+        self.take_all, self.heard = take_all, set()
+
+    def take(self, frame):
+        where, address = (frame.interface.number, frame.index), frame.octets[6:12].hex()
+        is_esmc = frame.link in LINKS and captures.is_esmc(frame.octets)
+        self.frames[where] += 1
+        if is_esmc:
+            self.esmc[where] += 1
+            self.addresses[address] += 1
+        if is_esmc or self.take_all:
+            self.heard.update([address, *keys_of(frame)])
+
+    def told(self, interfaces):
+        """The lines that say what there is to map."""
+        for it in interfaces:
+            link = LINKS.get(it.link, f"link type {it.link}")
+            for number, index in sorted(self.frames, key=str):
+                if number == it.number:
+                    name = "" if it.name is None else f" ({it.name})"
+                    name += "" if index is None else f", index-{index}"
+                    counts = f"{self.frames[number, index]} frames, {self.esmc[number, index]} of ESMC"
+                    yield f"in the file: interface {number}{name}, {link}: {counts}"
+        for address, count in self.addresses.most_common(MOST_ADDRESSES):
+            yield f"in the file: {with_colons(address)} sent {count} of ESMC"
+        if len(self.addresses) > MOST_ADDRESSES:
+            yield f"in the file: {len(self.addresses) - MOST_ADDRESSES} further addresses sent ESMC"
 
 
 def setup_lines(path, log):
@@ -121,33 +213,55 @@ def ticks(step, last, option):
     return [(time, words.event_line(words.BY_WORD["tick"].number, time, 0, 0, option=option)) for time in range(step, last + 1, step)]
 
 
+class Taken:
+    """What a capture gives: time, input and octets of each frame that is taken, and of the others how many for what reason."""
+
+    def __init__(self, options):
+        self.addresses, self.interfaces = read_map(options.map)
+        self.options, self.capture = options, captures.Capture(options.file)
+        self.clock, self.content = Clock(options.clock), Content(options.all)
+        self.events, self.reasons, self.first, self.cooked = [], collections.Counter(), {}, 0
+        for frame in self.capture.frames():
+            self.take(frame)
+
+    def take(self, frame):
+        self.content.take(frame)
+        time = None if frame.time is None else self.clock.time_of(frame)
+        number = input_of(frame, self.addresses, self.interfaces)
+        why = left_out(frame, number, self.options.all)
+        if why is None:
+            self.events.append((time, number, frame.octets))
+            self.cooked += frame.link != captures.ETHERNET
+            return
+        self.reasons[why] += 1
+        self.first.setdefault(why, frame.number)
+        if self.options.list:
+            sys.stderr.write("capture: frame %d left out: %s\n" % (frame.number, why))
+
+    def in_time(self):
+        """Time in ms, input and octets of what is taken, in the order of the times."""
+        events = sorted(self.events, key=lambda event: event[0])
+        zero = self.clock.first
+        if self.options.first is not None and events:
+            zero = events[0][0] - self.options.first * MILLISECOND
+        return [((time - zero) // MILLISECOND, number, octets) for time, number, octets in events]
+
+    def unheard(self):
+        """What --map names and no ESMC frame has."""
+        unheard = [key for key in [*self.addresses, *self.interfaces] if key not in self.content.heard]
+        return [with_colons(key) if key in self.addresses else key for key in unheard]
+
+
 def run(options):
     if options.until is not None and options.tick is None:
         raise Trouble("--until says how far ticks go, and there are none without --tick")
-    addresses, interfaces = read_map(options.map)
-    capture = captures.Capture(options.file)
-    taken, reasons, first, earliest = [], collections.Counter(), {}, None
-    for frame in capture.frames():
-        number = input_of(frame, addresses, interfaces)
-        why = left_out(frame, number, options.all)
-        if frame.time is not None:
-            earliest = frame.time if earliest is None else min(earliest, frame.time)
-        if why is None:
-            taken.append((frame.time, number, frame.octets))
-            continue
-        reasons[why] += 1
-        first.setdefault(why, frame.number)
-        if options.list:
-            sys.stderr.write("capture: frame %d left out: %s\n" % (frame.number, why))
-    unused = sorted(set(interfaces) - {key for it in capture.interfaces for key in (it.name, "%d" % it.number)})
+    taken = Taken(options)
+    keys = {key for it in taken.capture.interfaces for key in (it.name, "%d" % it.number)}
+    unused = sorted(key for key in taken.interfaces if key not in keys and not key.startswith("index-"))
     if unused:
         raise Trouble("the capture has no interface %s" % ", ".join(unused))
-    taken.sort(key=lambda frame: frame[0])
-    if options.first is not None and taken:
-        earliest = taken[0][0] - options.first * MILLISECOND
-    events = [((time - earliest) // MILLISECOND, number, octets) for time, number, octets in taken]
-    write(options.out, log_of(options, events))
-    return report(capture, taken, reasons, first)
+    write(options.out, log_of(options, taken.in_time()))
+    return report(taken)
 
 
 def log_of(options, events):
@@ -165,16 +279,34 @@ def log_of(options, events):
     return b"".join(line + b"\n" for _, line in sorted(lines, key=lambda line: line[0]))
 
 
-def report(capture, taken, reasons, first):
-    """Tells what was taken and what was left out; a finding where the log lacks what an input heard."""
-    say = lambda text: sys.stderr.write("capture: %s\n" % text)
-    say("%d frames: %d in the log, %d left out" % (capture.frames_read, len(taken), sum(reasons.values())))
-    for why in (OTHER, UNMAPPED, CUT, NO_TIME, NOT_ETHERNET):
+def report(taken):
+    """Tells what was taken and what was left out; a finding where the log lacks what an input heard, or is not to be believed."""
+    say = lambda text: sys.stderr.write(f"capture: {text}\n")
+    reasons, capture = taken.reasons, taken.capture
+    say("%d frames: %d in the log, %d left out" % (capture.frames_read, len(taken.events), sum(reasons.values())))
+    for why in (OTHER, UNMAPPED, CUT, NO_TIME, NOT_ETHERNET, NOT_CARRIED):
         if reasons[why]:
-            say("%d left out: %s (the first is frame %d)" % (reasons[why], why, first[why]))
-    oversized = sum(1 for _, _, octets in taken if len(octets) > LARGEST_FRAME)
+            say("%d left out: %s (the first is frame %d)" % (reasons[why], why, taken.first[why]))
+    oversized = sum(1 for _, _, octets in taken.events if len(octets) > LARGEST_FRAME)
     if oversized:
         say("%d of more than %d octets: too long for a line, replay refuses it with 1" % (oversized, LARGEST_FRAME))
+    if taken.cooked:
+        say(f"{taken.cooked} were captured cooked, without their destination: ESMC's is put in, and a wrong one doesn't show")
     if capture.dropped:
         say("the capture says that it dropped %d frames" % capture.dropped)
-    return FINDING if reasons[CUT] or reasons[NO_TIME] or capture.dropped else FINE
+    for text in [*taken.clock.told(), *nothing_heard(taken)]:
+        say(text)
+    doubtful = taken.clock.back and taken.options.clock is None
+    lacking = reasons[CUT] or reasons[NO_TIME] or capture.dropped or taken.unheard() or not taken.events
+    return FINDING if doubtful or lacking else FINE
+
+
+def nothing_heard(taken):
+    """What --map doesn't reach, and then what is in the file."""
+    unheard = taken.unheard()
+    if not taken.options.map:
+        yield "without --map no frame has an input"
+    elif unheard:
+        yield f"no frame of ESMC in the file has {', '.join(unheard)}"
+    if unheard or not taken.events:
+        yield from taken.content.told(taken.capture.interfaces)

@@ -1,7 +1,8 @@
 """Salvages a damaged log: writes a new one with every line that replay doesn't refuse with 1 to 13, unchanged, and tells
 each line that is dropped with its refusal.
 
-The proved program makes the new log; its lines replay to the answers they had. NEW is written whole or not at all: a
+The proved program makes the new log; its lines replay to the answers they had. Where a line whose time was torn is kept, and shuts
+out what comes after it, that line is named. NEW is written whole or not at all: a
 crash leaves the file that was there, or the new one. Exit status 0: nothing is dropped; 1: something is; 2: trouble. A
 log of more than 1,048,576 octets, or one with more than 32,768 lines to drop, is trouble: the program can't hold it, and
 nothing is written."""
@@ -16,6 +17,8 @@ EXAMPLES = ["./nurrispane salvage tests/vectors/L11/torn-option-two.log -o /tmp/
 
 # The most numbers of a report, two a dropped line; and what the program says where there are more.
 PLACES, TOO_SHORT = 65_536, b"14"
+# The refusal of a time before that of the state.
+TOO_EARLY = 4
 
 
 def arguments(parser):
@@ -59,7 +62,25 @@ def told(options, log, report):
     profiles.follow(words.option_of(lines))
     for number, refusal in report:
         yield "line %d dropped, refused with %s: %s" % (number, answers.refusal(refusal), shortened(lines[number - 1]))
+    for kept, shut_out in shutting_out(report):
+        time = words.event_of(lines[kept - 1]).time
+        count = "1 line" if len(shut_out) == 1 else f"{len(shut_out)} lines"
+        yield (f"line {kept} is kept, and its time, {time:,} ms, shut out {count} with an earlier one (line {logs.ranges(shut_out)}); if it is "
+               f"torn, take that line out and salvage again: {shortened(lines[kept - 1])}")
     yield "%d of %d lines are in %s, %d dropped" % (len(lines) - len(report), len(lines), name_of(options.out), len(report))
+
+
+def shutting_out(report):
+    """The kept lines whose time lies after that of lines dropped for it, each with these: the state's time is that of the last
+    line that was kept."""
+    dropped, found = {number for number, _ in report}, {}
+    for number, refusal in report:
+        if refusal == TOO_EARLY:
+            kept = number - 1
+            while kept in dropped:
+                kept -= 1
+            found.setdefault(kept, []).append(number)
+    return found.items()
 
 
 def shortened(line):
