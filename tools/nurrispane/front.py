@@ -1,7 +1,8 @@
 """The front command: ./nurrispane WORD .., a module of `commands` for each word.
 
 Such a module has SUMMARY (a line), EXAMPLES (calls that work), `arguments(parser)` and
-`run(options)`, which gives the exit status.
+`run(options)`, which gives the exit status. With LIVE set its calls need interfaces, and work
+where these are.
 """
 
 import argparse
