@@ -1,5 +1,5 @@
 -- The station output squelches and tells its source as document 02 says. Cites `happened`, `demand-2-answers` and
--- `demand-3`; of the quality mode that is kept `sequence-agrees`; of usable `eligible-exact`. Assumes nothing.
+-- `demand-3`; of the quality mode that is kept `sequence-agrees`; of usable `nothing-usable`. Assumes nothing.
 use Prim.Native.Nat.{ℕ, _≤_, _<_}
 use mathlib.Core.Bool.{Bool, true, false, not, _&&_, _||_, cond, true≢false}
 use mathlib.Core.List.{List, [], _∷_}
@@ -42,9 +42,11 @@ use Rattle.events.proofs.Stated.{passedAt-passes, passedAt-only}
 use Rattle.events.proofs.Happened.{happened}
 use Rattle.events.proofs.Demand2.{demand-2-answers}
 use Rattle.events.proofs.Demand3.{demand-3}
+use Rattle.events.specs.Usable.{NothingUsable}
+use Rattle.events.proofs.Usable.{quality-stated, some-selected, nothing-usable}
 use Rattle.unit.specs.declared.Half.the-variants as H
 use Rattle.unit.specs.declared.Unit.{Unit}
-use Rattle.unit.specs.Unit.{UnitSequence, ownEvents, ownPast, SelectedPasses, UsableFrom, NothingUsable, WorseThan, squelchedBy, outputBy, ownOutputs}
+use Rattle.unit.specs.Unit.{UnitSequence, ownEvents, ownPast, WorseThan, squelchedBy, outputBy, ownOutputs}
 use Rattle.unit.specs.Kept.{isSquelched, sourceOf}
 use Rattle.unit.specs.Sequence.{unitAfter, outputs}
 use Rattle.unit.specs.Claims.{OutputRight, ProvWorse}
@@ -121,13 +123,6 @@ outputs-own minimum (addressed following earlier) = λ j.
 
 -- ---- what is computed is what is stated
 
-module _ (place floor : ℕ) (passed : Quality) (mode : Bool) where
-  -- an input that is neither off nor locked is eligible exactly if its passed quality is usable
-  unbarred : isEligible (candidateOf place floor passed (record { 0 = 1 }) false mode) ≡
-      candidateOf place floor passed (record { 0 = 1 }) false mode .usable
-  unfolding isEligible candidateOf isAdmitted
-  unbarred = refl
-
 module _ (past : Past) where
   abbrev history : History
   history = past .history
@@ -137,95 +132,6 @@ module _ (past : Past) where
 
   abbrev candidate : Candidate
   candidate = candidateSelected past
-
-  -- the selected input as a choice sees it, by the passed quality that document 01 states
-  candidate-stated : (number : ℕ) (passed : Quality) → SelectedPasses past number passed
-      → candidate ≡
-      candidateOf place (floorOf number history) passed (record { 0 = priorityOf number history })
-      (isLockedOut number history)
-      (modeOn history)
-  unfolding candidateBy
-  candidate-stated number passed here =
-      ap (shown past) (here .isSelected) ∙
-      ap
-      (λ (passes : Quality). candidateOf place (floorOf number history) passes
-      (record { 0 = priorityOf number history })
-      (isLockedOut number history)
-      (modeOn history))
-      (sym (passedAt-only history (timeOf history) number passed (here .passes)))
-
-  -- usable depends on neither priority nor lockout
-  usable-stated : (number : ℕ) (passed : Quality) → SelectedPasses past number passed
-      → candidate .usable ≡
-      isEligible (candidateOf place (floorOf number history) passed (record { 0 = 1 }) false (modeOn history))
-  unfolding candidateOf
-  usable-stated number passed here =
-      ap (λ (seen : Candidate). seen .usable) (candidate-stated number passed here) ∙
-      sym (unbarred place (floorOf number history) passed (modeOn history))
-
-  -- what is told of it with mode on is its passed quality
-  quality-stated : (number : ℕ) (passed : Quality) → SelectedPasses past number passed → modeOn history ≡ true
-      → candidate .quality ≡ passed
-  unfolding candidateOf rankedQuality
-  quality-stated number passed here on =
-      ap (λ (seen : Candidate). seen .quality) (candidate-stated number passed here) ∙ rw on
-
-  -- what is usable is selected
-  some-selected : candidate .usable ≡ true
-      → (number : ℕ) × SelectedPasses past number (passedAt number history (timeOf history))
-  some-selected usable = go (decidedBy (past .made) .selection) refl usable
-    where
-      go : (selection : Selection) → decidedBy (past .made) .selection ≡ selection → shown past selection .usable ≡ true
-          → (number : ℕ) × SelectedPasses past number (passedAt number history (timeOf history))
-      go S.Nothing e none = absurd (true≢false (sym none))
-      go (S.At number) e here = (
-        number .0,
-        record { isSelected = e; passes = passedAt-passes history (timeOf history) (number .0) },
-      )
-
-  usable-from : (number : ℕ) (passed : Quality) → SelectedPasses past number passed
-      → (candidate .usable ≡ true) ↔ UsableFrom history number passed
-  usable-from number passed here = (to, from)
-    where
-      seen : Candidate
-      seen = candidateOf place (floorOf number history) passed (record { 0 = 1 }) false (modeOn history)
-
-      exact : (isEligible seen ≡ true) ↔
-          Seen.EligibleCandidate place (floorOf number history) passed (record { 0 = 1 }) false (modeOn history)
-      exact = eligible-exact place (floorOf number history) passed (record { 0 = 1 }) false (modeOn history)
-
-      to : candidate .usable ≡ true → UsableFrom history number passed
-      to usable =
-          let eligible = exact .0 (sym (usable-stated number passed here) ∙ usable) in
-          record {
-            notFailed = λ e. eligible .notFailed (ap (λ (told : Quality). told .0) e);
-            within = eligible .within;
-          }
-
-      from : UsableFrom history number passed → candidate .usable ≡ true
-      from usable =
-          usable-stated number passed here ∙
-          exact .1
-          (record {
-            notOff = λ e. omega arith;
-            notLocked = refl;
-            notFailed = λ e. usable .notFailed (λ j. record { 0 = e j });
-            within = usable .within;
-          })
-
-  -- "nothing usable is selected"
-  nothing-usable : (candidate .usable ≡ false) ↔ NothingUsable past
-  nothing-usable = (to, from)
-    where
-      to : candidate .usable ≡ false → NothingUsable past
-      to none number passed here usable = true≢false (sym (usable-from number passed here .1 usable) ∙ none)
-
-      from : NothingUsable past → candidate .usable ≡ false
-      from nothing =
-          byBool (candidate .usable)
-          (λ usable. let some = some-selected usable in
-          absurd (nothing (some .0) _ (some .1) (usable-from (some .0) _ (some .1) .0 usable)))
-          (λ none. none)
 
   module _ (minimum : Quality) where
     -- what isn't usable squelches
@@ -247,9 +153,9 @@ module _ (past : Past) where
     squelched-off : modeOn history ≡ false → (squelchedBy minimum past ≡ true) ↔ NothingUsable past
     squelched-off off = (
       λ s.
-          nothing-usable .0
+          nothing-usable past .0
           (byBool (candidate .usable) (λ u. absurd (true≢false (sym s ∙ carries-off off u))) (λ u. u)),
-      λ nothing. silent (nothing-usable .1 nothing),
+      λ nothing. silent (nothing-usable past .1 nothing),
     )
 
     squelched-on : modeOn history ≡ true
@@ -258,29 +164,29 @@ module _ (past : Past) where
       where
         worse : candidate .usable ≡ true → squelchedBy minimum past ≡ true → WorseThan minimum past
         worse u s =
-            let some = some-selected u in
+            let some = some-selected past u in
             record {
               number = some .0;
               passed = passedAt (some .0) history (timeOf history);
               isSelected = some .1;
               worse =
                   subst (λ (told : Quality). rankOf place minimum .0 < rankOf place told .0)
-                  (quality-stated (some .0) _ (some .1) on)
+                  (quality-stated past (some .0) _ (some .1) on)
                   (ltb-true _ _ (sym (carries-on on u) ∙ s));
             }
 
         to : squelchedBy minimum past ≡ true → NothingUsable past ⊎ WorseThan minimum past
-        to s = byBool (candidate .usable) (λ u. inr (worse u s)) (λ u. inl (nothing-usable .0 u))
+        to s = byBool (candidate .usable) (λ u. inr (worse u s)) (λ u. inl (nothing-usable past .0 u))
 
         from : NothingUsable past ⊎ WorseThan minimum past → squelchedBy minimum past ≡ true
-        from (inl nothing) = silent (nothing-usable .1 nothing)
+        from (inl nothing) = silent (nothing-usable past .1 nothing)
         from (inr w) =
             byBool (candidate .usable)
             (λ u.
             carries-on on u ∙
             lt-ltb _ _
             (subst (λ (told : Quality). rankOf place minimum .0 < rankOf place told .0)
-            (sym (quality-stated (w .number) (w .passed) (w .isSelected) on))
+            (sym (quality-stated past (w .number) (w .passed) (w .isSelected) on))
             (w .worse)))
             silent
 

@@ -23,9 +23,10 @@ use Rattle.events.specs.Demand2.{Demand2}
 use Rattle.events.specs.Demand3.{Demand3}
 use Rattle.events.specs.Demand4.{Demand4}
 use Rattle.events.specs.Manual.{ManualEligible}
+use Rattle.events.specs.Usable.{NothingUsable}
 use Rattle.unit.specs.declared.Half.{Half}
 use Rattle.unit.specs.declared.Half.the-variants as H
-use Rattle.unit.specs.Unit.{Addressed, UnitSequence, goesToBoth, isFor, timeIn, tickFirst, ownEvents, ownPast, ownNumber, ownTellings, timeNumber, unitTime, NothingUsable, WorseThan, ownOutputs}
+use Rattle.unit.specs.Unit.{Addressed, UnitSequence, goesToBoth, isFor, timeIn, tickFirst, ownEvents, ownPast, ownNumber, ownTellings, timeNumber, unitTime, WorseThan, ownOutputs}
 use Rattle.unit.specs.Kept.{isSquelched, sourceOf}
 use Rattle.unit.specs.Sequence.{unitAfter, halfAfter, halfNumber, tellings, outputs}
 

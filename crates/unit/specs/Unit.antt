@@ -4,7 +4,6 @@
 use Prim.Native.Nat.{ℕ, _<_}
 use mathlib.Core.Bool.{Bool, true, false, not, _&&_, _||_, cond}
 use mathlib.Core.List.{List, [], _∷_}
-use mathlib.Core.Logic.{_≢_}
 use mathlib.Core.Path.{_≡_}
 use lib.Dec.{eqb, leb, ltb}
 use Rattle.numbers.specs.declared.Answer.{Answer}
@@ -15,16 +14,15 @@ use Rattle.numbers.specs.From.{From, started, _following_, profileOf}
 use Rattle.numbers.specs.Inputs.{timeLimit}
 use Rattle.numbers.specs.Kind.{kindSignal, kindFrame, kindLineCode, kindWord, kindInputKind, kindTick}
 use Rattle.numbers.specs.Profile.{limitsOf, placeOf, startNumber}
-use Rattle.numbers.specs.Quality.{failed}
 use Rattle.numbers.specs.Rows.{refusal, firstThatApplies}
 use Rattle.numbers.specs.Refusal.{accepted, timeTooLarge, timeBeforeState, argumentOutOfRange}
-use Rattle.input.specs.Recorded.{History, modeOn, floorOf, timeOf, PassedAt}
-use Rattle.choice.specs.Choice.{selected}
-use Rattle.choice.specs.Rank.{rankOf, Within}
+use Rattle.input.specs.Recorded.{modeOn}
+use Rattle.choice.specs.Rank.{rankOf}
 use Rattle.selector.specs.Clock.{noInput, selectedNumber}
 use Rattle.events.specs.Given.{Given, Sequence, tickAt}
 use Rattle.events.specs.Past.{Past, decidedBy, numberBy, pastOf}
 use Rattle.events.specs.Told.{candidateSelected, answerBy, codesBy, wordsBy}
+use Rattle.events.specs.Usable.{SelectedPasses}
 use Rattle.unit.specs.declared.Half.{Half}
 use Rattle.unit.specs.declared.Half.the-variants as H
 
@@ -135,21 +133,6 @@ unitTime (addressed following earlier) =
     cond (eqb (timeNumber (unitTime earlier) (timeIn addressed)) accepted) (timeIn addressed) (unitTime earlier)
 
 -- ---- the station output, as statements
-
--- the selected input and its passed quality
-pub record SelectedPasses (past : Past) (number : ℕ) (passed : Quality) : Type 0 where
-  pub isSelected : decidedBy (past .made) .selection ≡ selected number
-  pub passes : PassedAt number (past .history) (timeOf (past .history)) passed
-
--- "usable": "1 to 4 with mode on, not 7 with mode off"; L9: to the input's floor; L10: with PROV at its place
-pub record UsableFrom (history : History) (number : ℕ) (passed : Quality) : Type 0 where
-  pub notFailed : passed ≢ failed
-  pub within : modeOn history ≡ true → Within (placeOf (profileOf history)) (floorOf number history) passed
-
--- "nothing usable is selected"
-abbrev pub NothingUsable : Past → Type 0
-NothingUsable past =
-    (number : ℕ) (passed : Quality) → SelectedPasses past number passed → UsableFrom (past .history) number passed → ⊥
 
 -- how a quality ranks, PROV where the profile places it
 abbrev pub rankIn : Past → Quality → ℕ
