@@ -31,6 +31,8 @@ use Rattle.unit.specs.declared.Unit.{Unit}
 use Rattle.unit.specs.Unit.{Addressed, UnitSequence, isReport, goesToBoth, goesTo, isFor, timeIn, tickFirst, ownEvents, ownNumber}
 use Rattle.unit.specs.Kept.{isSquelched, sourceOf}
 use Rattle.unit.specs.Sequence.{Telling, unitAfter, halfAfter, halfNumber, tellingOf, tellings, stationOutput, outputs}
+use Rattle.unit.specs.Claims.{addressedTo, SentAlike}
+use Rattle.unit.proofs.Runs.{goes-alike}
 use Rattle.unit.proofs.Halves.{withOwn, numberWith, own-profile, half-number-with, minimum-after, half-right}
 use Rattle.undertest.specs.UnderTest as Single
 use Rattle.undertest.specs.UnderTest.{ReportOn, Pair, EqualButFor, OffThroughout}
@@ -89,16 +91,19 @@ own-off input half (addressed following earlier) off =
 units-profile : (input : ℕ) (one other : UnitSequence) → UnitsEqualButFor input one other
     → profileOf one ≡ profileOf other
 units-profile input _ _ (begun profile) = refl
-units-profile input _ _ (equal addressed earlier otherEarlier before) =
+units-profile input _ _ (equal given to toOther earlier otherEarlier alike before) =
     units-profile input earlier otherEarlier before
 units-profile input _ _ (paired one other earlier otherEarlier pair before) =
     units-profile input earlier otherEarlier before
 
 -- the same event goes to a selector in both or in neither
-goes-same : (half : Half) (addressed : Addressed) (one other : UnitSequence) → profileOf one ≡ profileOf other
-    → isFor half addressed one ≡ isFor half addressed other
-goes-same half addressed one other profile =
-    ap (λ (start : Profile). goesTo (limitsOf start) (addressed .given .event .kind) (addressed .to) half) profile
+goes-same : (half : Half) (given : Given) (to toOther : Half) (one other : UnitSequence)
+    → SentAlike (profileOf one) given to toOther
+    → profileOf one ≡ profileOf other
+    → isFor half (addressedTo to given) one ≡ isFor half (addressedTo toOther given) other
+goes-same half given to toOther one other alike profile =
+    goes-alike (profileOf one) given to toOther half alike ∙
+    ap (λ (start : Profile). goesTo (limitsOf start) (given .event .kind) toOther half) profile
 
 -- a report goes to both selectors
 report-goes : (limits : Limits) (kind : ℕ) (to half : Half) → isReport limits kind ≡ true
@@ -171,14 +176,14 @@ own-equal : (input : ℕ) (half : Half) (one other : UnitSequence) → UnitsEqua
     → EqualButFor input (ownEvents half one) (ownEvents half other)
 unfolding ownEvents
 own-equal input half _ _ (begun profile) = Single.begun profile
-own-equal input half _ _ (equal addressed earlier otherEarlier before) =
+own-equal input half _ _ (equal given to toOther earlier otherEarlier alike before) =
     subst
     (λ (goes : Bool). EqualButFor input
-    (withOwn (isFor half addressed earlier) (addressed .given) (ownEvents half earlier))
-    (withOwn goes (addressed .given) (ownEvents half otherEarlier)))
-    (goes-same half addressed earlier otherEarlier (units-profile input earlier otherEarlier before))
-    (with-equal input _ _ (own-equal input half earlier otherEarlier before) (isFor half addressed earlier)
-    (addressed .given))
+    (withOwn (isFor half (addressedTo to given) earlier) given (ownEvents half earlier))
+    (withOwn goes given (ownEvents half otherEarlier)))
+    (goes-same half given to toOther earlier otherEarlier alike (units-profile input earlier otherEarlier before))
+    (with-equal input _ _ (own-equal input half earlier otherEarlier before) (isFor half (addressedTo to given) earlier)
+    given)
 own-equal input half _ _ (paired one other earlier otherEarlier pair before) =
     pair-equal input half one earlier other otherEarlier pair (own-equal input half earlier otherEarlier before)
 
@@ -206,14 +211,14 @@ module _ (minimum : Quality) (input : ℕ) (half : Half) where
       → UnitsEqualButFor input (one following earlier) (other following otherEarlier)
       → OffInBoth input earlier
       → halfNumber minimum half one earlier ≡ halfNumber minimum half other otherEarlier
-  half-numbers (equal addressed earlier otherEarlier before) off =
-      half-number-with minimum half addressed earlier ∙
+  half-numbers (equal given to toOther earlier otherEarlier alike before) off =
+      half-number-with minimum half (addressedTo to given) earlier ∙
       numbers-with input _ _ (own-equal input half earlier otherEarlier before) (own-off input half earlier off)
-      (isFor half addressed earlier)
-      (addressed .given) ∙
-      ap (λ (goes : Bool). numberWith goes (addressed .given) (ownEvents half otherEarlier))
-      (goes-same half addressed earlier otherEarlier (units-profile input earlier otherEarlier before)) ∙
-      sym (half-number-with minimum half addressed otherEarlier)
+      (isFor half (addressedTo to given) earlier)
+      given ∙
+      ap (λ (goes : Bool). numberWith goes given (ownEvents half otherEarlier))
+      (goes-same half given to toOther earlier otherEarlier alike (units-profile input earlier otherEarlier before)) ∙
+      sym (half-number-with minimum half (addressedTo toOther given) otherEarlier)
   half-numbers (paired one other earlier otherEarlier pair before) off =
       half-right minimum half earlier .number one ∙
       pair .number half ∙
@@ -299,8 +304,11 @@ module _ (minimum : Quality) (input : ℕ) (half : Half) where
       → tellings minimum half one ≡ tellings minimum half other
   unfolding tellings
   all-told _ _ (begun profile) off = refl
-  all-told _ _ (equal addressed earlier otherEarlier before) off = λ j.
-      head-told addressed addressed earlier otherEarlier (equal addressed earlier otherEarlier before) off j ∷
+  all-told _ _ (equal given to toOther earlier otherEarlier alike before) off = λ j.
+      head-told (addressedTo to given) (addressedTo toOther given) earlier otherEarlier
+      (equal given to toOther earlier otherEarlier alike before)
+      off
+      j ∷
       all-told earlier otherEarlier before (off .1) j
   all-told _ _ (paired one other earlier otherEarlier pair before) off = λ j.
       head-told one other earlier otherEarlier (paired one other earlier otherEarlier pair before) off j ∷
@@ -310,9 +318,10 @@ module _ (minimum : Quality) (input : ℕ) (half : Half) where
       → switches minimum half one ≡ switches minimum half other
   unfolding switches
   all-switched _ _ (begun profile) off = refl
-  all-switched _ _ (equal addressed earlier otherEarlier before) off = λ j.
-      half-switch minimum input half (addressed following earlier) (addressed following otherEarlier)
-      (equal addressed earlier otherEarlier before)
+  all-switched _ _ (equal given to toOther earlier otherEarlier alike before) off = λ j.
+      half-switch minimum input half (addressedTo to given following earlier)
+      (addressedTo toOther given following otherEarlier)
+      (equal given to toOther earlier otherEarlier alike before)
       off
       j ∷ all-switched earlier otherEarlier before (off .1) j
   all-switched _ _ (paired one other earlier otherEarlier pair before) off = λ j.
@@ -326,9 +335,9 @@ all-sent : (minimum : Quality) (input : ℕ) (one other : UnitSequence) → Unit
     → outputs minimum one ≡ outputs minimum other
 unfolding outputs
 all-sent minimum input _ _ (begun profile) off = refl
-all-sent minimum input _ _ (equal addressed earlier otherEarlier before) off = λ j.
-    output-equal minimum input (addressed following earlier) (addressed following otherEarlier)
-    (equal addressed earlier otherEarlier before)
+all-sent minimum input _ _ (equal given to toOther earlier otherEarlier alike before) off = λ j.
+    output-equal minimum input (addressedTo to given following earlier) (addressedTo toOther given following otherEarlier)
+    (equal given to toOther earlier otherEarlier alike before)
     off
     j ∷ all-sent minimum input earlier otherEarlier before (off .1) j
 all-sent minimum input _ _ (paired one other earlier otherEarlier pair before) off = λ j.

@@ -10,9 +10,11 @@ use Rattle.numbers.specs.Profile.{limitsOf}
 use Rattle.numbers.specs.Refusal.{accepted}
 use Rattle.input.specs.Recorded.{priorityOf}
 use Rattle.switch.specs.declared.Switch.{Switch}
+use Rattle.events.specs.Given.{Given}
 use Rattle.unit.specs.declared.Half.{Half}
 use Rattle.unit.specs.Unit.{Addressed, UnitSequence, timeIn, ownPast, ownNumber}
 use Rattle.unit.specs.Sequence.{halfAfter, tellings, outputs}
+use Rattle.unit.specs.Claims.{addressedTo, SentAlike}
 use Rattle.undertest.specs.UnderTest.{ReportOn}
 
 -- two reports on that input, which go to both selectors, each after a sequence of its own: "each pair at the same time
@@ -31,8 +33,10 @@ pub data UnitsEqualButFor (input : ℕ) : UnitSequence → UnitSequence → Type
   -- both start fresh, with one profile
   begun : (profile : Profile) → UnitsEqualButFor input (started profile) (started profile)
   -- the same event follows in both, to the same selector where it is a command
-  equal : (addressed : Addressed) (earlier otherEarlier : UnitSequence) → UnitsEqualButFor input earlier otherEarlier
-      → UnitsEqualButFor input (addressed following earlier) (addressed following otherEarlier)
+  equal : (given : Given) (to other : Half) (earlier otherEarlier : UnitSequence)
+      → SentAlike (profileOf earlier) given to other
+      → UnitsEqualButFor input earlier otherEarlier
+      → UnitsEqualButFor input (addressedTo to given following earlier) (addressedTo other given following otherEarlier)
   -- a pair follows
   paired : (one other : Addressed) (earlier otherEarlier : UnitSequence)
       → UnitPair input one earlier other otherEarlier

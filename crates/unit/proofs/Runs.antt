@@ -8,20 +8,21 @@ use Rattle.numbers.specs.declared.Profile.{Profile}
 use Rattle.numbers.specs.declared.Quality.{Quality}
 use Rattle.numbers.specs.From.{_following_, profileOf}
 use Rattle.numbers.specs.Profile.{limitsOf}
-use Rattle.events.specs.Given.{tickAt}
+use Rattle.numbers.proofs.Truth.{byBool}
+use Rattle.events.specs.Given.{Given, tickAt}
 use Rattle.events.specs.Past.{numberBy, pastOf}
 use Rattle.unit.specs.declared.Half.{Half}
 use Rattle.unit.specs.declared.Half.the-variants as H
 use Rattle.unit.specs.Unit.{Addressed, UnitSequence, goesToBoth, isTo, goesTo, isFor, timeIn, tickFirst, ownEvents, ownPast, ownNumber, tellingBy, ownTellings, outputBy, ownOutputs}
 use Rattle.unit.specs.Sequence.{outputs}
-use Rattle.unit.specs.Claims.{otherHalf, TwoCommands, DifferOnlyIn, begun, same, commands, SameOf}
+use Rattle.unit.specs.Claims.{otherHalf, addressedTo, SentAlike, TwoCommands, DifferOnlyIn, begun, same, commands, SameOf}
 use Rattle.unit.proofs.Halves.{withOwn, told-own}
 use Rattle.unit.proofs.Output.{outputs-own}
 
 -- the runs are of one profile
 same-profile : {half : Half} {one two : UnitSequence} → DifferOnlyIn half one two → profileOf one ≡ profileOf two
 same-profile (begun profile) = refl
-same-profile (same addressed earlier) = same-profile earlier
+same-profile (same given to other alike earlier) = same-profile earlier
 same-profile (commands first second two earlier) = same-profile earlier
 
 -- ---- a command does not go to the other
@@ -50,22 +51,31 @@ module _ (half : Half) (addressed : Addressed) (earlier : UnitSequence)
 
 -- ---- one event more
 
+-- an event goes to a selector in both runs, or in neither
+pub goes-alike : (profile : Profile) (given : Given) (to other half : Half) → SentAlike profile given to other
+    → goesTo (limitsOf profile) (given .event .kind) to half ≡ goesTo (limitsOf profile) (given .event .kind) other half
+unfolding goesTo
+goes-alike profile given to other half alike =
+    byBool (goesToBoth (limitsOf profile) (given .event .kind)) (λ both. rw both) (λ command. rw (alike command))
+
 -- the same event, of which the other's number and events are the same again
-module _ (half : Half) (addressed : Addressed) (one two : UnitSequence) (profile : profileOf one ≡ profileOf two)
+module _ (half : Half) (given : Given) (to other : Half) (one two : UnitSequence)
+    (alike : SentAlike (profileOf one) given to other) (profile : profileOf one ≡ profileOf two)
     (events : ownEvents half one ≡ ownEvents half two) where
-  goes-same : isFor half addressed one ≡ isFor half addressed two
+  goes-same : isFor half (addressedTo to given) one ≡ isFor half (addressedTo other given) two
   goes-same =
-      ap (λ (start : Profile). goesTo (limitsOf start) (addressed .given .event .kind) (addressed .to) half) profile
+      goes-alike (profileOf one) given to other half alike ∙
+      ap (λ (start : Profile). goesTo (limitsOf start) (given .event .kind) other half) profile
 
-  events-same : ownEvents half (addressed following one) ≡ ownEvents half (addressed following two)
+  events-same : ownEvents half (addressedTo to given following one) ≡ ownEvents half (addressedTo other given following two)
   unfolding ownEvents
-  events-same = λ j. withOwn (goes-same j) (addressed .given) (events j)
+  events-same = λ j. withOwn (goes-same j) given (events j)
 
-  number-same : ownNumber half addressed one ≡ ownNumber half addressed two
+  number-same : ownNumber half (addressedTo to given) one ≡ ownNumber half (addressedTo other given) two
   unfolding ownNumber
   number-same = λ j.
-      cond (goes-same j) (numberBy (pastOf (tickFirst addressed (events j))) (addressed .given))
-      (numberBy (pastOf (events j)) (tickAt (timeIn addressed)))
+      cond (goes-same j) (numberBy (pastOf (tickFirst (addressedTo to given) (events j))) given)
+      (numberBy (pastOf (events j)) (tickAt (given .event .time)))
 
 -- two commands to one half, which the other has as one tick
 module _ (half : Half) (first second : Addressed) (one two : UnitSequence) (profile : profileOf one ≡ profileOf two)
@@ -98,8 +108,8 @@ module _ (half : Half) where
   same-events : {one two : UnitSequence} → DifferOnlyIn half one two
       → ownEvents (otherHalf half) one ≡ ownEvents (otherHalf half) two
   same-events (begun profile) = refl
-  same-events (same {one} {two} addressed earlier) =
-      events-same (otherHalf half) addressed one two (same-profile earlier) (same-events earlier)
+  same-events (same {one} {two} given to other alike earlier) =
+      events-same (otherHalf half) given to other one two alike (same-profile earlier) (same-events earlier)
   same-events (commands {one} {two} first second pair earlier) =
       events-commands half first second one two (same-profile earlier) pair (same-events earlier)
 
@@ -107,9 +117,10 @@ module _ (half : Half) where
       → ownTellings (otherHalf half) one ≡ ownTellings (otherHalf half) two
   unfolding ownTellings
   same-tellings (begun profile) = refl
-  same-tellings (same {one} {two} addressed earlier) = λ j.
-      tellingBy (number-same (otherHalf half) addressed one two (same-profile earlier) (same-events earlier) j)
-      (pastOf (same-events (same addressed earlier) j)) ∷
+  same-tellings (same {one} {two} given to other alike earlier) = λ j.
+      tellingBy
+      (number-same (otherHalf half) given to other one two alike (same-profile earlier) (same-events earlier) j)
+      (pastOf (same-events (same given to other alike earlier) j)) ∷
       same-tellings earlier j
   same-tellings (commands {one} {two} first second pair earlier) = λ j.
       tellingBy (number-commands half first second one two (same-profile earlier) pair (same-events earlier) j)
@@ -121,8 +132,9 @@ same-outputs : (minimum : Quality) {one two : UnitSequence} → DifferOnlyIn H.E
     → ownOutputs minimum one ≡ ownOutputs minimum two
 unfolding ownOutputs
 same-outputs minimum (begun profile) = refl
-same-outputs minimum (same addressed earlier) = λ j.
-    outputBy minimum (pastOf (same-events H.Equipment (same addressed earlier) j)) ∷ same-outputs minimum earlier j
+same-outputs minimum (same given to other alike earlier) = λ j.
+    outputBy minimum (pastOf (same-events H.Equipment (same given to other alike earlier) j)) ∷
+    same-outputs minimum earlier j
 same-outputs minimum (commands first second pair earlier) = λ j.
     outputBy minimum (pastOf (same-events H.Equipment (commands first second pair earlier) j)) ∷
     same-outputs minimum earlier j

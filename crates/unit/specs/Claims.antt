@@ -131,11 +131,20 @@ pub record TwoCommands (half : Half) (profile : Profile) (one two : Addressed) :
   pub commandTwo : goesToBoth (limitsOf profile) (two .given .event .kind) ≡ false
   pub times : timeIn one ≡ timeIn two
 
+-- an event with the selector that it is for where it is a command
+abbrev pub addressedTo : Half → Given → Addressed
+addressedTo to given = record { to = to; given = given }
+
+-- one event is sent to one selector in both runs where it is a command; whichever is named where it goes to both
+abbrev pub SentAlike : Profile → Given → Half → Half → Type 0
+SentAlike profile given to other = goesToBoth (limitsOf profile) (given .event .kind) ≡ false → to ≡ other
+
 -- "two runs of equal length and times, differing only in the commands given to one selector"
 pub data DifferOnlyIn (half : Half) : UnitSequence → UnitSequence → Type 0 where
   begun : (profile : Profile) → DifferOnlyIn half (started profile) (started profile)
-  same : {one two : UnitSequence} (addressed : Addressed) → DifferOnlyIn half one two
-      → DifferOnlyIn half (addressed following one) (addressed following two)
+  same : {one two : UnitSequence} (given : Given) (to other : Half) → SentAlike (profileOf one) given to other
+      → DifferOnlyIn half one two
+      → DifferOnlyIn half (addressedTo to given following one) (addressedTo other given following two)
   commands : {one two : UnitSequence} (first second : Addressed) → TwoCommands half (profileOf one) first second
       → DifferOnlyIn half one two
       → DifferOnlyIn half (first following one) (second following two)
