@@ -12,36 +12,66 @@
  *
  *     #include "nurrispane.h"
  *     void clock_follow(uint8_t input);
+ *     void clock_hold(void);
  *     void timer_at(uint64_t ms);
  *     void port_send(uint8_t port, const uint8_t *frame, size_t length);
  *     static struct nurrispane_card card;
  *     static struct nurrispane_senders senders;
+ *     static uint64_t beat;
  *
+ *     static void event(uint8_t kind, uint64_t ms, uint8_t input, uint16_t argument)
+ *     {
+ *         nurrispane_step(&card, kind, ms, input, argument, NURRISPANE_NO_FRAME, 0);
+ *     }
+ *     static void after_event(void)
+ *     {
+ *         uint64_t due = nurrispane_next_due(&card);
+ *         if (card.answer.clock_state == NURRISPANE_LOCKED)
+ *             clock_follow(card.answer.selected);
+ *         else
+ *             clock_hold();
+ *         timer_at(due < beat ? due : beat);
+ *     }
  *     int on_start(void)
  *     {
  *         if (!NURRISPANE_BELONGS() || !nurrispane_self_test())
  *             return 0;
  *         nurrispane_fresh(&card, NURRISPANE_OPTION_1, 0, 0);
  *         nurrispane_fresh_senders(&senders);
- *         nurrispane_step(&card, NURRISPANE_EVENT_PRIORITY, 0, 3, 1, NURRISPANE_NO_FRAME, 0);
+ *         event(NURRISPANE_EVENT_INPUT_KIND, 0, 3, NURRISPANE_INPUT_ETHERNET);
+ *         event(NURRISPANE_EVENT_PRIORITY, 0, 3, 1);
+ *         event(NURRISPANE_EVENT_WAIT, 0, 3, 0);
+ *         event(NURRISPANE_EVENT_SIGNAL, 0, 3, NURRISPANE_SIGNAL_GOOD);
+ *         after_event();
  *         return 1;
+ *     }
+ *     void on_signal(uint64_t ms, uint8_t port, int good)
+ *     {
+ *         event(NURRISPANE_EVENT_SIGNAL, ms, port, good ? NURRISPANE_SIGNAL_GOOD : NURRISPANE_SIGNAL_FAIL);
+ *         after_event();
  *     }
  *     void on_frame(uint64_t ms, uint8_t port, const uint8_t *frame, size_t length)
  *     {
  *         nurrispane_step(&card, NURRISPANE_EVENT_FRAME, ms, port, 0, frame, length);
- *         if (card.answer.number == NURRISPANE_ACCEPTED)
- *             clock_follow(card.answer.selected);
- *         timer_at(nurrispane_next_due(&card));
+ *         after_event();
  *     }
  *     void on_timer(uint64_t ms, const uint8_t source[6])
  *     {
  *         uint8_t frame[NURRISPANE_FRAME_OCTETS];
+ *         beat = ms + 100;
+ *         event(NURRISPANE_EVENT_TICK, ms, 0, 0);
  *         for (uint8_t port = 0; port < NURRISPANE_INPUTS; port++) {
  *             nurrispane_ask(&senders, &card, port, ms, source, 6, frame, sizeof frame);
  *             if (senders.frame != NURRISPANE_HEARTBEAT_NOTHING)
  *                 port_send(port, frame, sizeof frame);
  *         }
+ *         after_event();
  *     }
+ *
+ * A fresh input is a line, off, and its signal failing: an input that is to be followed gets its kind,
+ * its priority and its signal. on_timer() is to be called at the time that timer_at() was last given: what
+ * is next due, or the next look at the senders, which no event puts off.
+ * tests/examples takes the lines above out, compiles them and runs them.
  *
  * What C owes
  *
@@ -51,8 +81,10 @@
  *   with no pointer in it: copy it, keep it, send it to a standby card of the same byte order, go
  *   back to an older copy. A card that was filled in any other way is safe too: every field is a
  *   plain number and every value of it is answered for, but the answers may be wrong. Whatever came
- *   in, `answer.selected` and `answer.switch_input` are 0 to 15 or 255 after a call, `clock_state`
- *   and `switch_kind` 0 to 2: firmware may index by them.
+ *   in, `answer.selected` and `answer.switch_input` are 0 to 15 or NURRISPANE_NO_INPUT, 255, after a
+ *   step, `clock_state` and `switch_kind` 0 to 2: firmware may index by these, and by an input once it
+ *   has tested that it is not NURRISPANE_NO_INPUT. A start that is refused leaves a card of noise as it
+ *   was but for `answer.number` and `served`; a step that is refused leaves answers in range.
  * - The senders. Likewise from nurrispane_fresh_senders() on, each call handing on what the last
  *   one left, unchanged but for `number` and `frame`, which no function reads. They stand beside
  *   the card and hold nothing of it: a question brings the card, and takes its state as it is.
@@ -73,7 +105,8 @@
  *   its input nothing new, or is refused, takes a small part of it.
  * - The machine. libcard.a is for x86-64 with the System V calling convention, its red zone and its
  *   SSE2 registers included; docs/BENCHMARKS.md has its size, and that of those for Arm. It needs
- *   memcpy, memmove and memset: no heap, no floating point, no operating system, and no data that is written.
+ *   memcpy, memmove and memset, those for Cortex-M by the names of Arm's convention (__aeabi_memcpy and its
+ *   kin): no heap, no floating point, no operating system, and no data that is written.
  *   No call waits.
  *
  * Sizes, in octets: a card 680, aligned to 8; an input 40; an answer 6; what is known of an input 24,
@@ -101,7 +134,7 @@ extern "C" {
 #define NURRISPANE_NAME(line) NURRISPANE_PASTED(line)
 #define NURRISPANE_PASTED(line) nurrispane_holds_##line
 #define NURRISPANE_HOLDS(fact) struct NURRISPANE_NAME(__LINE__) { unsigned int holds : (fact) ? 1 : -1; }
-#define NURRISPANE_ALIGNED(type, octets) NURRISPANE_HOLDS(sizeof(type) % octets == 0)
+#define NURRISPANE_ALIGNED(type, octets) NURRISPANE_HOLDS(offsetof(struct { char first; type then; }, then) == octets)
 #endif
 
 /* Raised with each change of a struct, of a number or of what a function answers. */
@@ -153,9 +186,15 @@ enum nurrispane_input_kind {
     NURRISPANE_INPUT_WORDS = 2     /* 1,544 kbit/s words: option II */
 };
 
+/* The argument of a signal event. In a card and in what is known of an input 1 is good, 0 failing. */
+enum nurrispane_signal {
+    NURRISPANE_SIGNAL_GOOD = 0,
+    NURRISPANE_SIGNAL_FAIL = 1
+};
+
 /* The kinds of event, with their arguments; where there are two, of option I and of option II. */
 enum nurrispane_event {
-    NURRISPANE_EVENT_SIGNAL = 0x01,        /* 0 good, 1 fail */
+    NURRISPANE_EVENT_SIGNAL = 0x01,        /* enum nurrispane_signal */
     NURRISPANE_EVENT_FRAME = 0x02,         /* 0; the frame is lent */
     NURRISPANE_EVENT_LINE_CODE = 0x03,     /* 0 to 15 */
     NURRISPANE_EVENT_PRIORITY = 0x04,      /* 1 to 16, 1 best; 0 off */
