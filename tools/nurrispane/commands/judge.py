@@ -11,7 +11,7 @@ import functools
 import re
 import sys
 
-from nurrispane import answers, faults, inputs, logs, profiles, programs, timeline, words
+from nurrispane import answers, faults, inputs, logs, profiles, programs, reach, timeline, words
 from nurrispane.commands import explain
 from nurrispane.files import FINDING, FINE, Trouble, name_of, read, read_text, write
 
@@ -131,10 +131,12 @@ def candidates(data, card, only):
     chosen = [fault for fault in faults.of_answers(profiles.chosen.option) if only in fault.name]
     if not chosen:
         raise Trouble("no known fault has %s in its name" % ascii(only))
-    missing = [fault for fault in chosen if not faults.path_of(fault).exists()]
-    if missing:
-        sys.stderr.write("judge: building %d known faults, half a second each\n" % len(missing))
-    same = [fault.name for fault in chosen if faults.run(faults.build(fault), "replay", data) == card]
+    lines, first = words.split_log(data)[0], next(differing(programs.answers("replay", data), card))
+    able = reach.able(chosen, lines[:first + 1], profiles.start_of("replay"))
+    if len(able) < len(chosen):
+        sys.stderr.write("judge: %d of %d known faults can change an answer up to the first wrong one\n" % (len(able), len(chosen)))
+    faults.prepare(able, "judge")
+    same = [fault.name for fault in able if faults.run(faults.build(fault), "replay", data) == card]
     if same:
         yield "candidates: a card with one of these known faults would give exactly these answers"
         yield from ("  " + name for name in same)
