@@ -19,9 +19,7 @@ SOURCE = slice(6, 12)
 
 def replayed(log, start=None):
     """The proved answers to a log."""
-    profiles.given = ()
-    profiles.take_start(start)
-    return b"".join(line + b"\n" for line in programs.answers("replay", log))
+    return b"".join(line + b"\n" for line in programs.answers("replay", log, profiles.start_of(start)))
 
 
 def replayed_unit(events, *start):
@@ -33,9 +31,7 @@ def replayed_unit(events, *start):
 
 def outgoing(log, start=None):
     """After each line: its time and the sixteen codes that go out."""
-    profiles.given = ()
-    profiles.take_start(start)
-    codes = programs.answers("outgoing", log)
+    codes = programs.answers("outgoing", log, profiles.start_of(start))
     times = [words.event_of(line).time for line in log.splitlines()]
     return list(zip(times, [[int(code, 16) for code in line.decode()] for line in codes]))
 
