@@ -108,10 +108,12 @@
  *   more than 48, which bounds the time that a call takes. Before the card's `due` an event that tells
  *   its input nothing new, or is refused, takes a small part of it.
  * - The machine. libcard.a is for x86-64 with the System V calling convention, its red zone and its
- *   SSE2 registers included; docs/BENCHMARKS.md has its size, and that of those for Arm. It needs
- *   memcpy, memmove and memset, those for Cortex-M by the names of Arm's convention (__aeabi_memcpy and its
- *   kin): no heap, no floating point, no operating system, and no data that is written.
- *   No call waits.
+ *   SSE2 registers included; docs/BENCHMARKS.md has its size, and that of those for Arm. There and on
+ *   aarch64 and armv7 it needs memcpy, memmove and memset. On a Cortex-M it needs these by the names of
+ *   Arm's convention, __aeabi_memcpy, __aeabi_memcpy4, __aeabi_memcpy8, __aeabi_memmove, __aeabi_memclr and
+ *   __aeabi_memclr4, and on a Cortex-M0+ __aeabi_lmul too, which a compiler's own library has. Nothing
+ *   else: no heap, no floating point, no operating system, and no data that is written. No call waits.
+ *   The libraries for Cortex-M have no unaligned access and may run with the trap for it set.
  *
  * Sizes, in octets: a card 680, aligned to 8; an input 40; an answer 6; what is known of an input 24,
  * aligned to 8; the codes 16; the words 32; a frame that was read 9; the senders 1,544, aligned to 8;
