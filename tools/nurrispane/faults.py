@@ -16,7 +16,7 @@ import subprocess
 import sys
 import tempfile
 
-from nurrispane import answers, profiles, programs
+from nurrispane import answers, programs
 from nurrispane.files import ROOT, Trouble, reason
 
 SOURCES = ROOT / "tests" / "independent"
@@ -131,10 +131,10 @@ def build(fault, added=None):
     return program
 
 
-def run(program, mode, data):
+def run(program, mode, data, start=()):
     """What a copy says to a log, line by line; None where it doesn't end or has no such mode."""
     try:
-        said = subprocess.run([str(program), mode, *profiles.start_of(mode)], input=data, capture_output=True, timeout=PATIENCE)
+        said = subprocess.run([str(program), mode, *(start if mode in programs.TAKE_START else ())], input=data, capture_output=True, timeout=PATIENCE)
     except subprocess.TimeoutExpired:
         return None
     return said.stdout.split(b"\n")[:-1] if said.returncode == 0 else None
