@@ -15,7 +15,7 @@ import io
 import re
 import sys
 
-from nurrispane import answered, answers, faults, findings, inputs, logs, profiles, timeline
+from nurrispane import answered, answers, findings, inputs, logs, profiles, timeline
 from nurrispane.files import FINDING, FINE, Trouble, name_of, read_text, write
 
 SUMMARY = "where a card's own answers differ from the right ones, and why"
@@ -73,7 +73,7 @@ def without_effect(options):
 
 def by_answers(log, options):
     """How many lines differ, and then what is said of them."""
-    judged = findings.Judged(log, options.answers)
+    judged = findings.ByAnswers(log, options.answers)
     yield judged.count
     if options.csv:
         yield from in_csv(judged)
@@ -140,7 +140,7 @@ def in_csv(judged):
     found, out = {each.first: each for each in findings.stretches(judged.wrong)}, io.StringIO()
     writer = csv.writer(out, lineterminator="\n")
     writer.writerow(CSV)
-    time = lambda number: logs.event_in_words(judged.log.lines[number - 1], judged.log.profile.option)[0]
+    time = lambda number: logs.event_in_words(judged.log.line(number), judged.log.profile.option)[0]
     for number, said in judged.told(found):
         each = found[number]
         writer.writerow([time(number), time(each.last), number, each.last, ", ".join(findings.sort_of(each.right, each.card)), said.right, said.card,
@@ -152,6 +152,7 @@ def in_csv(judged):
 
 def candidates(judged, only):
     """The known faults that would give exactly these answers."""
+    from nurrispane import faults  # only here, since few ask for it
     log = judged.log
     chosen = [fault for fault in faults.of_answers(log.profile.option) if only in fault.name]
     if not chosen:
@@ -159,8 +160,8 @@ def candidates(judged, only):
     unbuilt = [fault for fault in chosen if not faults.path_of(fault).exists()]
     if unbuilt:
         sys.stderr.write("judge: building %d known faults, half a second each\n" % len(unbuilt))
-    data, card = b"".join(line + b"\n" for line in log.lines), judged.card.flat.split(b"\n")[:-1]
-    same = [fault.name for fault in chosen if alike(faults.run(faults.build(fault), "replay", data, log.profile.start), card)]
+    card = judged.card.flat.split(b"\n")[:-1]
+    same = [fault.name for fault in chosen if alike(faults.run(faults.build(fault), "replay", log.data, log.profile.start), card)]
     if same:
         yield "candidates: a card with one of these known faults would give exactly these answers"
         yield from ("  " + name for name in same)
@@ -183,14 +184,14 @@ def by_times(log, options):
     if not card:
         raise Trouble("%s shows nothing, so there is no verdict" % name_of(options.times))
     # what is right behind the log's end, if no further event comes; refused where the card ends first
-    ticked = timeline.served(log.lines + [timeline.tick(card[-1][0], log.lines)], log.profile.start)
+    ticked = timeline.served(log.lines + [timeline.tick_line(card[-1][0], log.profile.option)], log.profile)
     right = timeline.selections(ticked)
     last = right[-1][0]
     found = [each for each in timeline.differences(right, [(0, None), *card], last) if each.end - each.start > tolerance]
     yield len(found)
     yield "times: 0 to %s ms; selections: %d; wrong for more than %d ms: %d\n" % (format(last, ","), len(card), tolerance, len(found))
     places = {each.start: ticked.line_at(each.start) for each in found[:MOST_SORTS]}
-    facts = inputs.after(ticked.lines, places.values(), log.profile.start)
+    facts = {known.number: known.facts for known in inputs.along(ticked.lines, sorted(set(places.values())), log.profile.start)}
     for each in found[:MOST_SORTS]:
         place = places[each.start]
         yield "\nfrom %s to %s ms: %s is right, the card has %s\n" % (
