@@ -151,6 +151,9 @@ extern "C" {
 /* Raised with each change of a struct, of a number or of what a function answers: CHANGES.md. */
 #define NURRISPANE_VERSION 5U
 
+/* Raised with what firmware need only be linked anew for; 0 with each new version. */
+#define NURRISPANE_MINOR 0U
+
 /* Whether the library that was linked is this header's: to be asked once, at the start. */
 #define NURRISPANE_BELONGS()                                               \
     (nurrispane_version() == NURRISPANE_VERSION &&                         \
