@@ -1,12 +1,15 @@
 """What is wrong with a card, with the reason from what is proved of the inputs and from what was received: the same for `judge`
 and `picture`."""
 
+import bisect
 import collections
 import functools
 
-from nurrispane import answered, answers, inputs, logs, profiles, programs, words
+from nurrispane import answered, answers, inputs, logs, profiles, programs, shown, timeline, verdicts, words
+from nurrispane.files import Trouble
 from nurrispane.programs import ANSWER
 
+COLUMNS = {"s": "selected", "c": "state", "q": "quality", "w": "switch"}
 FIELDS = ["refusal", "selection", "clock state", "clock quality", "switch", "switch"]
 # A stretch of wrong lines, from 1, that are right and wrong alike; and where a stretch stands, its words, and why.
 Lines = collections.namedtuple("Lines", "first last right card")
@@ -83,3 +86,68 @@ class ByAnswers:
         pairs = {number: (right, self.card.odd.get(number - 1, card)) for number, right, card in self.wrong}
         for known in inputs.along(self.log.lines, numbers, self.log.profile.start):
             yield known.number, of_line(self.log, known.number, *pairs[known.number], known.facts, self.received)
+
+
+# ---- by what is shown over time
+
+
+class ByShown:
+    """What a card shows over time beside what is right, and the wrong stretches: the verdict is the proved program's."""
+
+    def __init__(self, log, options):
+        self.log, self.right = log, programs.replayed(log)
+        self.times = verdicts.times_of(log.lines, self.right)
+        self.shown = shown.taken(options, log, self.first_event())
+        self.row_times = [row.time for row in self.shown.rows]
+        self.question = shown.question(self.shown, options, int(self.times[-1], 16))
+        verdict = verdicts.asked(log, self.times, self.shown.tellings(), self.question)
+        if verdict.judged[0] is None:
+            raise Trouble("%s shows nothing, so there is no verdict" % self.shown.name)
+        (self.first, self.milliseconds), self.wrong = verdict.judged[0], verdict.stretches[0]
+        self.count = len(self.wrong)
+        self.received = inputs.Received(log.lines, self.right, log.profile)
+
+    def first_event(self):
+        """The time of the log's first event that is not refused with 1 to 13."""
+        return next((int(time, 16) for at, time in enumerate(self.times) if not verdicts.REFUSED.match(self.right, ANSWER * at)), 0)
+
+    def judged(self):
+        """What was judged and how, in words."""
+        late, early, end = (format(number, ",") for number in self.question[1:])
+        columns = ", ".join(COLUMNS[letter] for letter in self.question.form)
+        return "judged: %s from %s to %s ms, late by up to %s ms, early by up to %s ms" % (columns, format(self.first, ","), end, late, early)
+
+    def summary(self):
+        """In a few words, how right the card is."""
+        if not self.wrong:
+            return "the card is right throughout"
+        return "the card is wrong for %s ms in %s stretch%s" % (format(self.milliseconds, ","), format(self.count, ","), "" if self.count == 1 else "es")
+
+    def told(self, stretches):
+        """What is told of these stretches, each with it."""
+        places = [(verdicts.place_of(self.times, each.start), each.start) for each in stretches]
+        for each, (number, _), known in zip(stretches, places, timeline.at_ticks(self.log.lines, places, self.log.profile.option, self.log.profile.start)):
+            yield each, self.of_stretch(each, number, known.answer, known.facts)
+
+    def of_stretch(self, stretch, number, right, facts):
+        """What is told of a wrong stretch, by what is right as it begins; without facts no reasons."""
+        octets, card = answers.octets_of(right), self.as_answer(stretch)
+        head = "from %s to %s ms (%s ms): %s wrong" % (
+            *(format(each, ",") for each in (stretch.start, stretch.end, stretch.end - stretch.start + 1)), ", ".join(self.columns(octets, card)))
+        said = shown.in_words(bytes.fromhex(stretch.value), self.question.form, self.log.profile)
+        changes = bisect.bisect_right(self.row_times, stretch.end) - bisect.bisect_right(self.row_times, stretch.start)
+        more = "" if not changes else "; it changes %s in this time" % ("once" if changes == 1 else "%s times" % format(changes, ","))
+        meant = answers.meaning(right, self.log.profile).partition("; ")[2]
+        named = named_inputs(octets, card) if facts else []
+        return Told(head, meant, said + more, list(reasons(self.log, number, named, facts, octets, self.received)))
+
+    def as_answer(self, stretch):
+        """What is shown as an answer's six octets, with no input where none is judged."""
+        chosen, state, quality, switch, on = bytes.fromhex(stretch.value)
+        form = self.question.form
+        return 0, chosen if "s" in form else answers.NONE, state, quality, switch, on if "w" in form else answers.NONE
+
+    def columns(self, right, card):
+        """The columns that are wrong."""
+        places = {"s": (1,), "c": (2,), "q": (3,), "w": (4, 5)}
+        return [COLUMNS[letter] for letter in self.question.form if any(right[at] != card[at] for at in places[letter])]

@@ -6,7 +6,7 @@ same are one. What is right changes when it does, also between two lines of the 
 import bisect
 import collections
 
-from nurrispane import answers, findings, inputs, profiles
+from nurrispane import answers, findings, inputs, profiles, shown, verdicts
 from nurrispane.programs import ANSWER
 
 PLAIN, FAILED, WAITING, WRONG, SWITCHED, NOT_TOLD = "plain", "failed", "waiting", "wrong", "switched", "not-told"
@@ -105,9 +105,9 @@ def of_answers(course, judged):
     card, flat, profile = Lane("card under test"), judged.card.flat, judged.log.profile
     before = None
     for place, time in enumerate(course.times):
-        shown = flat[ANSWER * place + 2:ANSWER * place + ANSWER - 1]
-        if shown != before and shown[:1] != b"-":
-            octets, before = answers.octets_of(b"00" + shown), shown
+        said = flat[ANSWER * place + 2:ANSWER * place + ANSWER - 1]
+        if said != before and said[:1] != b"-":
+            octets, before = answers.octets_of(b"00" + said), said
             if octets is None:
                 card.take(time, "no answer", "", FAILED)
             else:
@@ -128,15 +128,47 @@ def wrong_answers(course, judged):
         yield Wrong(time, end, said.head + to, ["right: " + said.right, "card: " + said.card, *said.reasons])
 
 
-def differs(course, wrong):
-    """The lane that says where a card is wrong, and why."""
+# ---- a card by what it shows over time
+
+
+def of_shown(course, judged):
+    """The lane of what a card shows, and where it is wrong."""
+    card, form, profile = Lane("card under test"), judged.question.form, judged.log.profile
+    card.take(0, "nothing shown", "", PLAIN)
+    for row in judged.shown.rows:
+        said = shown.in_words(row.octets, form, profile)
+        unseen = look_of(row.octets[2], profile) if "q" in form else NOT_TOLD
+        card.take(row.time, said.partition(", ")[0], said, FAILED if "s" in form and row.octets[0] == answers.NONE else unseen)
+    return card, list(wrong_stretches(course, judged))
+
+
+def wrong_stretches(course, judged):
+    """The wrong stretches of what is shown; the first ones with the reasons."""
+    facts = Facts(course)
+    for place, each in enumerate(judged.wrong):
+        answer, known = facts.at(each.start)
+        number = verdicts.place_of(judged.times, each.start)
+        said = judged.of_stretch(each, number, answer, known if place < MOST_LISTED else None)
+        yield Wrong(each.start, each.end + 1, said.head, ["right: " + said.right, "card: " + said.card, *said.reasons])
+
+
+# ---- where it is wrong
+
+
+def differs(course, wrong, judged=None):
+    """The lane that says where a card is wrong, and why; from when to when it is judged, where that is not all the time."""
     lane = Lane(DIFFERS)
-    lane.take(0, "right", "", PLAIN)
+    first, last = (judged.first, judged.question.end) if judged else (0, course.end)
+    if first:
+        lane.take(0, "not judged", "", PLAIN)
+    lane.take(first, "right", "", PLAIN)
     for place, each in enumerate(wrong):
         lane.take(each.start, "wrong", "\n".join([each.head, *each.said]), WRONG, same=place)
         ends = each.end <= course.end and (place + 1 == len(wrong) or wrong[place + 1].start > each.end)
         if ends:
             lane.take(each.end, "right", "", PLAIN)
+    if last < course.end:
+        lane.take(last + 1, "not judged", "", PLAIN)
     return lane
 
 

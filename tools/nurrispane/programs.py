@@ -22,7 +22,7 @@ def ready(name):
 
 
 # Those that take START, after their other arguments.
-TAKE_START = ("replay", "outgoing", "counts", "words", "heartbeat", "facts")
+TAKE_START = ("replay", "outgoing", "counts", "words", "heartbeat", "facts", "verdict")
 
 
 def command(name, *arguments, start=()):

@@ -2,27 +2,8 @@
 ends, as often as the proved facts name a further end. Extra ticks change no later answer but those to refused lines (`extra-ticks`)."""
 
 import array
-import bisect
-import collections
 
-from nurrispane import answers, inputs, programs, words
-
-# An end that is served may begin something that ends later: a wait's end nothing, a frame's expiry a hold-off. Each turn
-# below puts in all ends that are known, so that few are needed.
-MOST_TURNS = 8
-
-Difference = collections.namedtuple("Difference", "start end right card")
-
-
-class Ticked:
-    """A log with the ticks that were put in, its answers, and the state's time after each line."""
-
-    def __init__(self, lines, right, times):
-        self.lines, self.answers, self.times = lines, right, times
-
-    def line_at(self, time):
-        """The last line whose time is not later; 0 before any."""
-        return bisect.bisect_right(self.times, time)
+from nurrispane import inputs, words
 
 
 def tick(time, lines):
@@ -47,77 +28,6 @@ def at_ticks(lines, ticks, option, start):
     """What is known at ticks in these lines, which have their LFs, each after a line and at a time, which rise."""
     ticked = with_ticks(lines, [(number, tick_line(time, option)) for number, time in ticks])
     return inputs.along(ticked, [number + place for place, (number, _) in enumerate(ticks, 1)], start)
-
-
-# ---- by selections
-
-
-def moves(right):
-    """Whether a line moved the state's time: it was not refused with 1 to 13."""
-    return right[:2] == b"00" or right[:2] in (b"0e", b"0f", b"10", b"11")
-
-
-def served(lines, profile):
-    """The log with a tick at each moment at which something ends between two of its lines."""
-    for _ in range(MOST_TURNS):
-        added, right, times = [], programs.answers("replay", b"".join(lines), profile.start), []
-        later = next_times(lines, right)
-        for known in inputs.along(lines, range(1, len(lines) + 1), profile.start):
-            times.append(known.time)
-            ends = {end for fact in known.facts for end in (fact.timer, fact.frame)}
-            if moves(known.answer):
-                added += [(known.number, tick_line(end, profile.option)) for end in sorted(ends) if known.time < end < later[known.number - 1]]
-        if not added:
-            return Ticked(lines, right, times)
-        lines = with_ticks(lines, added)
-    return Ticked(lines, right, times)
-
-
-def next_times(lines, right):
-    """After each line the time of the next one that moves the state's; that of the last is its own."""
-    found, next_time = [], 0
-    for line, answer in zip(reversed(lines), reversed(right)):
-        found.append(next_time)
-        if moves(answer):
-            next_time = words.event_of(line[:-1]).time
-    return found[::-1]
-
-
-def selections(ticked):
-    """The times at which what is selected changes, and what is selected from then on: the last of each time."""
-    found = [(0, None)]
-    for answer, time in zip(ticked.answers, ticked.times):
-        selected = answers.octets_of(answer)[1]
-        selected = None if selected == answers.NONE else selected
-        if time == found[-1][0]:
-            found[-1] = time, selected
-        elif selected != found[-1][1]:
-            found.append((time, selected))
-    return found + [(ticked.times[-1], found[-1][1])] if ticked.times else found
-
-
-def differences(right, card, last):
-    """Where two courses of selections differ, longest stretches."""
-    times = sorted({time for time, _ in right + card if time <= last} | {last})
-    starts = [[time for time, _ in course] for course in (right, card)]
-    found = []
-    for start, end in zip(times, times[1:]):
-        one, other = at(right, starts[0], start), at(card, starts[1], start)
-        if one == other:
-            continue
-        if found and found[-1].end == start and found[-1].right == one and found[-1].card == other:
-            found[-1] = found[-1]._replace(end=end)
-        else:
-            found.append(Difference(start, end, one, other))
-    return found
-
-
-def at(course, starts, time):
-    """What is selected at a time: by the last entry not later."""
-    return course[bisect.bisect_right(starts, time) - 1][1]
-
-
-# ---- moment by moment
 
 
 class Moment:

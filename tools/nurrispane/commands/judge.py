@@ -1,27 +1,30 @@
-"""Judges a card: where its own answers to a log differ from the right ones, both in words, with the reason from what is
-proved of the inputs and what they received. Of each sort of difference the first is told, and how many there are; with --all every
-stretch of wrong lines, with --csv the same as rows.
+"""Judges a card: by its own answers to a log, ANSWERS, or by what it shows over time, --shown. What is wrong is told in words beside
+what is right, with the reason from what is proved of the inputs and what they received.
 
 ANSWERS has the card's answer line to each line of the log; CR LF line ends and capital digits are taken, and an answer that was lost
-or doubled is found, named and passed over. A card that logs no answers but a time and a selection is
-judged with --times: lines of "TIME INPUT" in ms, "-" for none, one where its selection changes; differences that last
-longer than --tolerance are told. With --candidates the known faults that would give exactly these answers are named:
-candidates, never a verdict. Exit status 0: all answers are right; 1: some differ, are lost or too many; 2: trouble, also where there
-is nothing to judge."""
+or doubled is found, named and passed over. Of each sort of difference the first is told, and how many there are. With --candidates the
+known faults that would give exactly these answers are named: candidates, never a verdict.
+
+--shown has a table of what the card shows from when on: selected, state, quality, switch, or some of them. It is judged at every
+millisecond, from the first row to --end: what is shown has to have been right at most --tolerance before, or to be right at most --early
+after. The verdict is the proved program's. --times is the same for lines of "TIME INPUT".
+
+--all tells every stretch that is wrong, --csv has them as rows. Exit status 0: all is right; 1: something is wrong, lost or too many;
+2: trouble, also where there is nothing to judge."""
 
 import collections
 import csv
 import io
-import re
 import sys
 
-from nurrispane import answered, answers, findings, inputs, logs, profiles, timeline
-from nurrispane.files import FINDING, FINE, Trouble, name_of, read_text, write
+from nurrispane import answered, findings, logs, profiles, shown, verdicts
+from nurrispane.files import FINDING, FINE, Trouble, name_of, write
 
-SUMMARY = "where a card's own answers differ from the right ones, and why"
+SUMMARY = "where a card is wrong, by its own answers or by what it shows over time, and why"
 EXAMPLES = [
     "./nurrispane judge examples/whole-replay.log examples/whole-replay.answers",
     "./nurrispane judge examples/whole-replay.log --times examples/whole-replay.times --tolerance 50ms",
+    "./nurrispane judge examples/cards/wait.log --shown examples/cards/wait.csv --tolerance 50ms --as 'T0-2=2,T0-3=3,none=-'",
 ]
 PROGRESS = True
 # What is told of sorts at most.
@@ -33,8 +36,7 @@ def arguments(parser):
     parser.add_argument("log", help="an event log; - for standard input")
     profiles.argument(parser)
     parser.add_argument("answers", nargs="?", metavar="ANSWERS", help="the card's answer lines")
-    parser.add_argument("--times", metavar="FILE", help="the card's times and selections instead")
-    parser.add_argument("--tolerance", metavar="MS", help="with --times: how long a difference may last, as 50ms; 0 without it")
+    shown.arguments(parser)
     parser.add_argument("--all", action="store_true", help="every stretch that is wrong, not the first of each sort")
     parser.add_argument("--csv", action="store_true", help="every stretch that is wrong as a row, for other programs")
     parser.add_argument("--candidates", nargs="?", const="", metavar="TEXT",
@@ -43,29 +45,19 @@ def arguments(parser):
 
 
 def run(options):
-    if (options.answers is None) == (options.times is None):
-        raise Trouble("either ANSWERS or --times FILE is needed")
-    without_effect(options)
+    over_time = shown.is_given(options)
+    if over_time == (options.answers is not None):
+        raise Trouble("either ANSWERS or --shown FILE is needed")
+    if over_time and options.candidates is not None:
+        raise Trouble("--candidates has no effect without ANSWERS")
+    if options.csv and (options.all or options.candidates is not None):
+        raise Trouble("--csv has every stretch and nothing else: %s has no effect with it" % ("--all" if options.all else "--candidates"))
     log = logs.taken("judge", options.log, options.start)
     logs.judged_by(log)
-    told = by_times(log, options) if options.times is not None else by_answers(log, options)
+    told = by_shown(log, options) if over_time else by_answers(log, options)
     found = next(told)
     write(options.out, "".join(told).encode())
     return FINDING if found else FINE
-
-
-def without_effect(options):
-    """Trouble where an option would have no effect."""
-    idle = []
-    if options.times is None:
-        idle += [("--tolerance", options.tolerance is not None)]
-    else:
-        idle += [("--candidates", options.candidates is not None), ("--all", options.all), ("--csv", options.csv)]
-    for name, given in idle:
-        if given:
-            raise Trouble("%s has no effect with %s" % (name, "ANSWERS" if options.times is None else "--times"))
-    if options.csv and (options.all or options.candidates is not None):
-        raise Trouble("--csv has every stretch and nothing else: %s has no effect with it" % ("--all" if options.all else "--candidates"))
 
 
 # ---- by answers
@@ -76,7 +68,7 @@ def by_answers(log, options):
     judged = findings.ByAnswers(log, options.answers)
     yield judged.count
     if options.csv:
-        yield from in_csv(judged)
+        yield rows_in_csv(in_csv(judged))
         return
     lost = "; lost: %d" % sum(map(len, judged.card.lost)) if judged.card.lost else ""
     extra = "; too many: %d" % sum(map(len, judged.card.extra)) if judged.card.extra else ""
@@ -137,17 +129,22 @@ def in_words(said):
 
 def in_csv(judged):
     """Every stretch; lines that were lost or are too many have rows too."""
-    found, out = {each.first: each for each in findings.stretches(judged.wrong)}, io.StringIO()
-    writer = csv.writer(out, lineterminator="\n")
-    writer.writerow(CSV)
+    found = {each.first: each for each in findings.stretches(judged.wrong)}
     time = lambda number: logs.event_in_words(judged.log.line(number), judged.log.profile.option)[0]
     for number, said in judged.told(found):
         each = found[number]
-        writer.writerow([time(number), time(each.last), number, each.last, ", ".join(findings.sort_of(each.right, each.card)), said.right, said.card,
-                         " | ".join(said.reasons)])
+        yield [time(number), time(each.last), number, each.last, ", ".join(findings.sort_of(each.right, each.card)), said.right, said.card,
+               " | ".join(said.reasons)]
     for gap, what in [*((gap, "lost") for gap in judged.card.lost), *((gap, "too many") for gap in judged.card.extra)]:
-        writer.writerow(["", "", gap.first + 1, gap.last, what, "", "", gap.told("answer")])
-    yield out.getvalue()
+        yield ["", "", gap.first + 1, gap.last, what, "", "", gap.told("answer")]
+
+
+def rows_in_csv(rows):
+    out = io.StringIO()
+    writer = csv.writer(out, lineterminator="\n")
+    writer.writerow(CSV)
+    writer.writerows(rows)
+    return out.getvalue()
 
 
 def candidates(judged, only):
@@ -176,58 +173,26 @@ def alike(one, card):
     return one is not None and len(one) == len(card) and all(other in (first, answered.LOST) for first, other in zip(one, card))
 
 
-# ---- by times and selections
+# ---- by what is shown over time
 
 
-def by_times(log, options):
-    """How many stretches differ for too long, and then what is said of them."""
-    tolerance = milliseconds(options.tolerance or "0ms")
-    card = read_times(options.times)
-    if not card:
-        raise Trouble("%s shows nothing, so there is no verdict" % name_of(options.times))
-    # what is right behind the log's end, if no further event comes; refused where the card ends first
-    ticked = timeline.served(log.lines + [timeline.tick_line(card[-1][0], log.profile.option)], log.profile)
-    right = timeline.selections(ticked)
-    last = right[-1][0]
-    found = [each for each in timeline.differences(right, [(0, None), *card], last) if each.end - each.start > tolerance]
-    yield len(found)
-    yield "times: 0 to %s ms; selections: %d; wrong for more than %d ms: %d\n" % (format(last, ","), len(card), tolerance, len(found))
-    places = {each.start: ticked.line_at(each.start) for each in found[:MOST_SORTS]}
-    facts = {known.number: known.facts for known in inputs.along(ticked.lines, sorted(set(places.values())), log.profile.start)}
-    for each in found[:MOST_SORTS]:
-        place = places[each.start]
-        yield "\nfrom %s to %s ms: %s is right, the card has %s\n" % (
-            format(each.start, ","), format(each.end, ","), selection(each.right), selection(each.card))
-        shown = [number for number in (each.right, each.card) if number is not None]
-        if place:
-            answer = answers.octets_of(ticked.answers[place - 1])
-            for number in shown:
-                yield "    input %d: %s\n" % (number, inputs.why(facts[place], number, answer, log.profile)[1])
-    if len(found) > MOST_SORTS:
-        yield "\n%d further differences are not told\n" % (len(found) - MOST_SORTS)
+def by_shown(log, options):
+    """How many stretches are wrong, and then what is said of them."""
+    judged = findings.ByShown(log, options)
+    yield judged.count
+    told = judged.wrong if options.all or options.csv else judged.wrong[:MOST_SORTS]
+    if options.csv:
+        yield rows_in_csv(stretch_row(judged, stretch, said) for stretch, said in judged.told(told))
+        return
+    yield "%s\n%s: %s\n" % (judged.judged(), judged.shown.name, judged.summary())
+    yield from (line + "\n" for line in judged.shown.said)
+    for _, said in judged.told(told):
+        yield "\n%s\n    right: %s\n    card:  %s\n" % (said.head, said.right, said.card)
+        yield from ("    %s\n" % reason for reason in said.reasons)
+    if len(judged.wrong) > len(told):
+        yield "\n%d further stretches are not told: --all tells each\n" % (len(judged.wrong) - len(told))
 
 
-def selection(number):
-    return "no input" if number is None else "input %d" % number
-
-
-def milliseconds(text):
-    told = re.fullmatch(r"([0-9]{1,9})(?:ms)?", text)
-    if not told:
-        raise Trouble("--tolerance is a number of ms, as 50ms, not %s" % ascii(text))
-    return int(told.group(1))
-
-
-def read_times(path):
-    """Time and selection of each line, in order."""
-    found = []
-    for place, line in enumerate(read_text(path).splitlines(), 1):
-        told = line.split("#")[0].split()
-        if not told:
-            continue
-        if len(told) != 2 or not re.fullmatch("[0-9]{1,15}", told[0]) or not re.fullmatch("-|[0-9]|1[0-5]", told[1]):
-            raise Trouble("%s:%d: a line is TIME INPUT, in ms and 0 to 15 or -" % (name_of(path), place))
-        if found and int(told[0]) < found[-1][0]:
-            raise Trouble("%s:%d: a time before the one above it" % (name_of(path), place))
-        found.append((int(told[0]), None if told[1] == "-" else int(told[1])))
-    return found
+def stretch_row(judged, stretch, said):
+    lines = (verdicts.place_of(judged.times, time) for time in (stretch.start, stretch.end))
+    return [stretch.start, stretch.end, *lines, said.head.rpartition(": ")[2].removesuffix(" wrong"), said.right, said.card, " | ".join(said.reasons)]

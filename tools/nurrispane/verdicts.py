@@ -1,0 +1,99 @@
+"""The verdict on what a card shows over time, asked of the proved program: one place that makes its stream and reads its stretches.
+
+A lane is something that a card shows: its answer as a whole, or the code of a port. What is shown holds until the next is shown. It is
+right at a millisecond if it was right at most `late` ms before or is right at most `early` ms after.
+
+    times = verdicts.times_of(log.lines, programs.replayed(log))
+    question = verdicts.Question("codes", late=50, early=verdicts.EARLY, end=60_000)
+    verdict = verdicts.asked(log, times, [(time, verdicts.code(port, code)), ..], question)
+    verdict.stretches[port]     the stretches of a lane that are wrong, in order
+    verdict.judged[port]        the first millisecond that is judged and how many are wrong; None where nothing was shown
+
+`times` rise; so do those of what is shown, lane by lane. Of one time they are taken in their order."""
+
+import bisect
+import collections
+import re
+
+from nurrispane import programs, progress, timeline
+from nurrispane.files import Trouble
+from nurrispane.programs import ANSWER
+
+PROGRAM = "verdict"
+# How much too early something may be shown, in ms, unless it is told otherwise: the rounding of two clocks.
+EARLY = 1
+LANES = 16
+# Times are below this.
+TIME_LIMIT = 1 << 48
+# The answer to a line that is refused with 1 to 13, which leaves the state's time.
+REFUSED = re.compile(rb"(?m)^0[1-9a-d]")
+FRESH = b"%012x" % 0
+
+# What is judged, `codes` or letters of `scqw` (selected, clock state, clock quality, switch with its input), the tolerance, and to
+# which millisecond.
+Question = collections.namedtuple("Question", "form late early end")
+# A wrong stretch, both milliseconds included, and the first wrong value in it, in digits.
+Stretch = collections.namedtuple("Stretch", "start end value")
+Verdict = collections.namedtuple("Verdict", "stretches judged")
+
+
+def answer(selected, state, quality, switch, switch_input):
+    """What a card shows of its answer, in digits; what is not judged is 0."""
+    return b"%02x%02x%02x%02x%02x" % (selected, state, quality, switch, switch_input)
+
+
+def code(port, shown):
+    """What a port tells, in digits."""
+    return b"%02x%02x" % (port, shown)
+
+
+def times_of(lines, right):
+    """The state's time after each line, in digits, by the right answers."""
+    times = [line[4:16] for line in lines]
+    for refused in REFUSED.finditer(right):
+        place = refused.start() // ANSWER
+        times[place] = times[place - 1] if place else FRESH
+    return times
+
+
+def place_of(times, time):
+    """How many lines come up to a time."""
+    return bisect.bisect_right(times, b"%012x" % time) if time < TIME_LIMIT else len(times)
+
+
+def stream(log, times, shown, early):
+    """The log with what is shown in it: each after the last line that is not later by more than `early`. A tick at 0 stands in front, so
+    that what is shown before the first line is judged by the log's own option."""
+    yield timeline.tick_line(0, log.profile.option)
+    lines, done = log.lines, 0
+    for time, digits in sorted(shown, key=lambda each: each[0]):
+        place = place_of(times, time + early)
+        while done < place:
+            end = min(done + programs.PART, place)
+            yield b"".join(lines[done:end])
+            done = end
+        yield b"=%012x%s\n" % (time, digits)
+    for done in range(done, len(lines), programs.PART):
+        yield b"".join(lines[done:done + programs.PART])
+
+
+def asked(log, times, shown, question):
+    """The verdict on what is shown beside a log: pairs of a time and digits, which rise in each lane."""
+    progress.doing("asking for the verdict on %s lines" % format(len(log.lines), ","))
+    parts = stream(log, times, shown, question.early)
+    return read(b"".join(programs.pieces(PROGRAM, parts, *question, start=log.profile.start)))
+
+
+def read(told):
+    """The verdict in the program's words."""
+    lines = told.decode("ascii", "replace").split("\n")
+    if lines[-2:] != ["end", ""]:
+        raise Trouble("the program %s says: %s" % (PROGRAM, ascii("\n".join(lines[-3:]).strip()[-80:])))
+    stretches, judged = {}, {}
+    for line in lines[:-2]:
+        lane, *rest = line.removeprefix(". ").split(" ")
+        if not line.startswith(". "):
+            stretches.setdefault(int(lane), []).append(Stretch(int(rest[0]), int(rest[1]), rest[2]))
+        else:
+            judged[int(lane)] = None if rest == ["-"] else (int(rest[0]), int(rest[1]))
+    return Verdict({lane: stretches.get(lane, []) for lane in judged}, judged)
