@@ -44,7 +44,7 @@ def of_option(option):
 
 
 # The programs that take START.
-TAKE_START = ("replay", "outgoing", "counts", "words", "heartbeat", "facts")
+TAKE_START = ("replay", "outgoing", "counts", "words", "heartbeat", "facts", "verdict")
 
 # START as it was given, and the profile of the log that is told of.
 given = ()

@@ -21,8 +21,9 @@ def ready(name):
         raise Trouble("the program %s is not built" % name)
 
 
-def command(name):
-    return [str(ROOT / ".ci" / "program"), name, *profiles.start_of(name)]
+def command(name, *arguments):
+    """The call of a program, its arguments before START."""
+    return [str(ROOT / ".ci" / "program"), name, *map(str, arguments), *profiles.start_of(name)]
 
 
 class LineCount:
@@ -84,13 +85,13 @@ def stream(name, source, sink):
     return front
 
 
-def given(name, data):
+def given(name, data, *arguments):
     """A program run on data, which it reads from a file: handed over by a pipe, a large log would cost more than its replay."""
     ready(name)
     with tempfile.TemporaryFile() as source:
         source.write(data)
         source.seek(0)
-        return subprocess.run(command(name), stdin=source, capture_output=True)
+        return subprocess.run(command(name, *arguments), stdin=source, capture_output=True)
 
 
 def answers(name, data):
