@@ -4,6 +4,9 @@ import collections
 
 from nurrispane import answers, inputs, profiles
 
+# What each rule is of: document 01's demands, or a request of document 02.
+PARTS = {"codes": "demand 2", "silence": "demand 2", "wait": "demand 2", "choice": "demand 3", "equals": "demand 3", "switch": "demand 3",
+         "outgoing": "demand 2", "at once": "L1", "heartbeat": "L1", "ceiling": "L1", "flag": "L1", "frame": "demand 2", "refusals": "demand 1"}
 # The rules that a wire can show, in the order of the report.
 RULES = {
     "codes": "Each code is read and told as written; a code that is none of the five (option II: of the ten) is invalid",
@@ -13,10 +16,10 @@ RULES = {
     "equals": "Of equals the selected one is kept, otherwise the lowest number",
     "switch": "A forced or manual switch stands until it is cleared",
     "outgoing": "The selected port, every port with mode off and one with sending off tell DNU, all others the clock's quality",
-    "at once": "L1: a change is told at once",
-    "heartbeat": "L1: a frame each 1,000 ms and none earlier",
-    "ceiling": "L1: at most ten frames a second",
-    "flag": "L1: the event flag is set exactly where the code changes, never in a fresh port's first frame",
+    "at once": "A change is told at once",
+    "heartbeat": "A frame each 1,000 ms, none of the same code earlier",
+    "ceiling": "At most ten frames a second",
+    "flag": "The event flag is set exactly where the code changes, never in a fresh port's first frame",
     "frame": "The sixty octets of a frame are as written",
     "refusals": "What is refused, and what is not: as far as the card's console tells",
 }
@@ -26,8 +29,17 @@ SLIP_RULES = {"layout": "frame", "flag": "flag", "slow": "heartbeat", "fast": "h
 REASON_RULES = {"wait": "wait", "equal": "equals", "switch": "switch", "failed": "silence", "quality": "choice", "priority": "choice",
                 "off": "choice", "locked": "choice", "floor": "choice", "PROV": "choice", "selected": "codes"}
 DO_NOT_USE = 0b1111
+# Our own clock's quality by option, and the clock state locked.
+OWN_CLOCK, LOCKED = {1: 4, 2: 6}, 2
+FRAME = b"02"
+SECOND = 1_000
 # A frame that is older has been missed once at least.
 MISSED = 1_100
+
+# What no wire shows, whatever is played.
+UNSEEN = ("whether the clock is in holdover or in free run: both tell the same code", "the numbers of refusal",
+          "what is selected among inputs that are not cabled and of one quality", "line codes and words: they need a line analyser",
+          "a time wrong by less than the tolerance")
 
 # A finding: times in ms, both ends included; how often it is found; the ports; a line; and lines with the reasons.
 Finding = collections.namedtuple("Finding", "rule sort ports first last count text reasons")
@@ -69,8 +81,11 @@ def rule_of(told, right, facts, answer):
         return REASON_RULES.get(inputs.why(facts, min(shown - due), answer)[0], "codes")
     rest = [port for port in told if told[port] != right[port] and port not in due]
     if due - shown and not rest:
-        return "outgoing"
-    return dropped_rule(facts, answer, told) if due - shown else quality_rule(facts, answer, [told[port] for port in rest])
+        # an input of our own clock's quality that is not followed looks the same as one that is not told DNU
+        return "codes" if answer[1] < len(facts) and answer[3] == OWN_CLOCK[profiles.chosen.option] else "outgoing"
+    if due - shown:
+        return dropped_rule(facts, answer, told)
+    return "codes" if answer[1] in due and answer[2] == LOCKED else quality_rule(facts, answer, [told[port] for port in rest])
 
 
 def dnu_of(codes):
@@ -118,6 +133,17 @@ def reasons(facts, answer_line):
             yield f"input {number}: raw {inputs.quality(fact.raw)}, passes {inputs.quality(fact.passed)}, priority {fact.priority}: {said}"
 
 
+def touched(facts, answer, line, ports):
+    """The rules that decide something in a state, after a line of the log."""
+    found = {"codes"} if line.startswith(FRAME) else set()
+    for number, fact in enumerate(facts):
+        if fact.priority and number in ports:
+            reason = inputs.why(facts, number, answer)[0]
+            found |= {"silence"} if fact.raw == profiles.chosen.failed != fact.passed else set()
+            found |= {REASON_RULES[reason]} if reason in REASON_RULES and reason not in ("off", "failed", "selected") else set()
+    return found | ({"switch"} if answer[4] else set())
+
+
 # ---- one finding a fault
 
 
@@ -133,11 +159,16 @@ def of_slips(slips):
                       f"{times(max(ms[0], 0), max(ms[1], 0))}: port {first.port}: {first.text}", [])
 
 
+def noticed(one):
+    """When a finding can first be known, ms: a gap once its second is over, frames that come too early with the last of them."""
+    return one.first + SECOND if one.sort == "slow" else one.last if one.sort in ("fast", "rate") else one.first
+
+
 def joined(found):
-    """Findings that say the same are one; the first is told, and how often."""
+    """Findings that say the same are one, and all changes told late; the first is told, and how often."""
     kept = collections.OrderedDict()
-    for one in sorted(found, key=lambda one: (one.first, list(RULES).index(one.rule))):
-        key = one.rule, one.sort, one.text.split(": ", 1)[1]
+    for one in sorted(found, key=lambda one: (noticed(one), list(RULES).index(one.rule))):
+        key = one.rule, one.sort, "" if one.sort == "late" else one.text.split(": ", 1)[1]
         if key in kept:
             first = kept[key]
             kept[key] = first._replace(count=first.count + one.count, ports=sorted({*first.ports, *one.ports}))

@@ -59,27 +59,27 @@ def flag(port, one, before, is_first):
     return [Slip("flag", port, one.at, one.at, said)]
 
 
-def gap(port, early, late, tolerance):
+def gap(part, port, early, late, tolerance):
     """More than 1,000 ms without a frame."""
-    if late - early <= (SECOND + tolerance) * NS_A_MS:
+    if late - early <= (SECOND + tolerance) * NS_A_MS + part.stalls.held(early, late):
         return []
     return [Slip("slow", port, early, late, f"{milliseconds(late - early)} without a frame")]
 
 
-def hurry(port, one, before, tolerance):
+def hurry(part, port, one, before, tolerance):
     """An information frame before its second is over."""
     same = code_of(one.octets) == code_of(before.octets)
-    if not same or before.at < 0 or one.at - before.at >= (SECOND - tolerance) * NS_A_MS:
+    if not same or before.at < 0 or one.at - before.at >= (SECOND - tolerance) * NS_A_MS - part.stalls.held(before.at, one.at):
         return []
     return [Slip("fast", port, before.at, one.at, f"a frame of the same code after {milliseconds(one.at - before.at)}")]
 
 
-def crowd(port, sent, place, tolerance):
+def crowd(part, port, place, tolerance):
     """Eleven frames within a second."""
     if place < CEILING:
         return []
-    first, last = sent[place - CEILING].at, sent[place].at
-    if last - first >= (SECOND - tolerance) * NS_A_MS:
+    first, last = part.sent[port][place - CEILING].at, part.sent[port][place].at
+    if last - first >= (SECOND - tolerance) * NS_A_MS - part.stalls.held(first, last):
         return []
     return [Slip("rate", port, first, last, f"eleven frames in {milliseconds(last - first)}")]
 
@@ -89,21 +89,22 @@ def slips(part, port, tolerance):
     sent, found = part.sent[port], []
     if not sent:
         return [Slip("silent", port, 0, part.end, "no frame at all")]
-    found += gap(port, 0, sent[0].at, tolerance)
+    found += gap(part, port, 0, sent[0].at, tolerance)
     for place, one in enumerate(sent):
         before = sent[place - 1] if place else part.before[port]
         found += layout(port, one) + flag(port, one, before, place == 0)
         if place:
-            found += gap(port, max(before.at, 0), one.at, tolerance) + hurry(port, one, before, tolerance)
-        found += crowd(port, sent, place, tolerance)
-    return found + gap(port, max(sent[-1].at, 0), part.end, tolerance)
+            found += gap(part, port, max(before.at, 0), one.at, tolerance) + hurry(part, port, one, before, tolerance)
+        found += crowd(part, port, place, tolerance)
+    return found + gap(part, port, max(sent[-1].at, 0), part.end, tolerance)
 
 
 def waits(part, port, tolerance):
     """(from, to) in ms, both included: after a frame, while its tenth last is younger than 1,000 ms and the tolerance."""
     sent, found = part.sent[port], []
     for place in range(CEILING - 1, len(sent)):
-        until = sent[place - CEILING + 1].at + (SECOND + tolerance) * NS_A_MS
+        tenth = sent[place - CEILING + 1].at
+        until = tenth + (SECOND + tolerance) * NS_A_MS + part.stalls.held(tenth, tenth + (SECOND + tolerance) * NS_A_MS)
         if until > sent[place].at:
             found.append((sent[place].at // NS_A_MS, until // NS_A_MS))
     return found

@@ -27,6 +27,7 @@ class Judge:
         self.race = courses.race(part, self.course, option, tolerance)
         self.limit = min(part.last(), self.race.limit if self.race else part.last())
         self.shown = [one for port in part.ports for one in self.tellings(port)]
+        self.found = []
 
     def tellings(self, port):
         """What a port shows from when on. What it told before `fresh` was answered stands until it may be late no more."""
@@ -40,7 +41,12 @@ class Judge:
     def stretches(self):
         """Where a port tells a wrong code; a change may wait for the ceiling."""
         wrong = verdicts.codes(self.timed, sorted(self.shown), self.late, ROUNDING, self.limit)
-        return [left for one in wrong if (left := self.without_waits(one))]
+        return [left for one in wrong if (left := self.without_waits(one)) and not self.is_held(left)]
+
+    def is_held(self, stretch):
+        """Whether the bench stood still for as long as a stretch lasts, in it or in the tolerance before it."""
+        first, last = (stretch.first - self.late) * NS_A_MS, stretch.last * NS_A_MS
+        return (stretch.last - stretch.first + 1) * NS_A_MS <= self.part.stalls.held(first, last)
 
     def without_waits(self, stretch):
         """The stretch without the front in which a code that was right when it was told waits for the ceiling."""
@@ -71,12 +77,12 @@ class Judge:
         return found
 
     def is_late(self, one):
-        """Whether a stretch is a change told late: what stood was right just before, and the next frame sets it right."""
+        """Whether a stretch is a change told late: what stood was right just before, and the next frame tells that change."""
         length = one.last - one.first + 1
         if length > heartbeats.SECOND + self.tolerance or one.last >= self.limit:
             return False
         before = self.course.at(one.port, max(one.first - self.late - 2 * ROUNDING, 0))
-        return before == one.code and self.standing(one.port, one.last + 1) == self.course.at(one.port, one.last + 1)
+        return before == one.code and self.standing(one.port, one.last + 1) == self.course.at(one.port, one.last)
 
     def code_findings(self):
         clusters = self.clusters()
@@ -125,11 +131,23 @@ class Judge:
             own.setdefault(line, []).append(answer)
         return [own[line].pop(0) for _, line in self.timed]
 
+    def exercised(self):
+        """The rules that what was played and judged can have shown on the ports that are seen."""
+        found = {"heartbeat", "frame"}
+        ticked = self.course.ticked
+        changes = [ms for port in self.part.ports for ms, _ in self.course.of(port)[1:] if ms <= self.limit]
+        found |= {"flag", "at once", "outgoing"} if changes else set()
+        found |= {"ceiling"} if any(heartbeats.waits(self.part, port, 0) for port in self.part.ports) else set()
+        for number, facts in inputs.along(ticked.lines, range(1, len(ticked.lines) + 1)):
+            if ticked.times[number - 1] <= self.limit:
+                found |= findings.touched(facts, answers.octets_of(ticked.answers[number - 1]), ticked.lines[number - 1], self.part.ports)
+        return found | {"refusals" for one in self.part.played if one.reply == hooks.REFUSED}
+
     def findings(self):
         """All of the part, the first in time first."""
         slips = [slip for port in self.part.ports for slip in heartbeats.slips(self.part, port, self.heartbeat)]
-        found = [*findings.of_slips(slips), *self.code_findings(), *self.refusals()]
-        return findings.joined(found)
+        self.found = findings.joined([*findings.of_slips(slips), *self.code_findings(), *self.refusals()])
+        return self.found
 
 
 # ---- a whole record
@@ -168,6 +186,10 @@ def notes(record):
     for name, said in (("foreign", "are no ESMC"), ("unmapped", "are on interfaces that are no port"), ("unusable", "are cut or have no time")):
         if record.counts[name]:
             yield f"{record.counts[name]} frames {said}"
+    stood = [end - start for part in record.parts for start, end in part.stalls.spans if 0 <= start <= part.end]
+    if stood:
+        yield (f"the bench itself stood still {len(stood)} times, {max(stood) / NS_A_MS:.0f} ms at most: times around that have as much more "
+               "room")
     if len(record.parts) > 1:
         yield f"the record has {len(record.parts)} fresh starts: each is judged from its own zero"
 

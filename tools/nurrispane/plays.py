@@ -2,11 +2,13 @@
 
 import os
 import platform
+import queue
 import re
 import sys
+import threading
 import time
 
-from nurrispane import durations, hooks, profiles, records, wires, words
+from nurrispane import durations, hooks, profiles, records, stalls, wires, words
 from nurrispane.files import ROOT, Trouble, read_text, reason
 
 NS_A_MS = 10**6
@@ -62,6 +64,32 @@ class Progress:
             sys.stderr.flush()
 
 
+class Clerk(threading.Thread):
+    """Gives commands to the card one after the other, beside the frames."""
+
+    def __init__(self, card, commands):
+        super().__init__(daemon=True)
+        self.card, self.commands, self.queue, self.trouble = card, commands, queue.Queue(), None
+
+    def run(self):
+        try:
+            while (said := self.queue.get()) is not None:
+                self.commands.append(self.card.say(said))
+        except Trouble as trouble:
+            self.trouble = trouble
+
+    def give(self, said):
+        self.queue.put(said)
+
+    def end(self):
+        """Waits until all commands are answered."""
+        self.queue.put(None)
+        while self.is_alive():
+            self.join(NAP)
+        if self.trouble:
+            raise self.trouble
+
+
 class Play:
     """One sequence, read from a file in words, and its plan: what is done when."""
 
@@ -75,12 +103,14 @@ class Play:
         if missing:
             raise Trouble(f"{path}: it has frames for inputs that have no interface in --map: {', '.join(map(str, missing))}")
         last = max((event.time for event, _ in self.plan), default=0)
+        self.after = after
         self.length = max(last, max((words.event_of(line.data).time for line in log.lines), default=0)) + after
         self.commands, self.given = [], 0
 
     def to(self, card, out, progress, done=0):
         """Plays it to a card through its hook, and writes the record also where it is stopped."""
         recorder, players = wires.Recorder(self.ports), wires.Players(self.ports)
+        watch = stalls.Watch() if os.sched_getscheduler(0) & ~os.SCHED_RESET_ON_FORK == os.SCHED_FIFO else None
         recorder.start()
         stopped, self.done = None, done
         try:
@@ -93,7 +123,7 @@ class Play:
         recorder.end()
         progress.end()
         players.close()
-        self.write(out, recorder, card, stopped)
+        self.write(out, recorder, card, stopped, watch.end() if watch else [])
         if stopped:
             raise Trouble(f"stopped: {stopped}; {out} can be judged up to there")
 
@@ -104,26 +134,39 @@ class Play:
             time.sleep(0.02)
 
     def perform(self, card, players, progress):
+        """The setup first, at the hook's pace; from the first frame on frames go out at their times, whatever the hook takes."""
         fresh = card.say(hooks.FRESH)
         self.commands.append(fresh)
         if fresh.reply != hooks.OK:
             raise Trouble(f"the hook cannot make the card fresh: {fresh.reply} {fresh.told}".rstrip())
-        for event, said in self.plan:
+        frames = [place for place, (event, _) in enumerate(self.plan) if event.kind == words.FRAME_KIND] or [len(self.plan)]
+        for event, said in self.plan[:frames[0]]:
             self.wait(fresh.last + event.time * NS_A_MS, fresh.last, progress)
+            self.commands.append(card.say(said))
+        rest = self.plan[frames[0]:]
+        zero = max(fresh.last, time.monotonic_ns() - rest[0][0].time * NS_A_MS) if rest else fresh.last
+        clerk = Clerk(card, self.commands)
+        clerk.start()
+        for event, said in rest:
+            self.wait(zero + event.time * NS_A_MS, zero, progress, clerk)
             if event.kind == words.FRAME_KIND:
                 players.play(event.input, event.octets)
                 self.given += 1
             else:
-                self.commands.append(card.say(said))
-        self.wait(fresh.last + self.length * NS_A_MS, fresh.last, progress)
+                clerk.give(said)
+        clerk.end()
+        self.wait(max(zero + self.length * NS_A_MS, self.commands[-1].last + self.after * NS_A_MS), zero, progress, clerk)
 
-    def wait(self, until, zero, progress):
+    def wait(self, until, zero, progress, clerk=None):
         while (left := until - time.monotonic_ns()) > 0:
+            if clerk and clerk.trouble:
+                raise clerk.trouble
             progress.tell(self.done + (time.monotonic_ns() - zero) / NS_A_MS, self.path.stem)
             time.sleep(min(left / 1e9, NAP))
 
-    def write(self, out, recorder, card, stopped):
+    def write(self, out, recorder, card, stopped, stood):
         clock = records.Clock(recorder.offsets)
+        stood = [(clock.real(first), clock.real(last)) for first, last in stood]
         commands = [(clock.real(one.first), clock.real(one.last), one.words, one.reply, one.told) for one in self.commands]
         if recorder.failed:
             stopped = f"the wire cannot be read: {recorder.failed}"
@@ -135,7 +178,7 @@ class Play:
             "ended": records.seconds(clock.real(recorder.offsets[-1][0])), **versions(),
         }
         about |= {"stopped": stopped} if stopped else {}
-        records.write(out, self.ports, recorder.found, recorder.dropped, commands, about)
+        records.write(out, self.ports, recorder.found, recorder.dropped, commands, about, stood)
 
 
 def versions():

@@ -2,7 +2,7 @@
 
 A RECORD is a directory: `wire.pcapng` has every frame of both directions, an interface a port, named `port-04`; `commands.times`
 a line for each command, `FIRST LAST WORDS | REPLY`, when it was given and when answered, in seconds as the capture has them;
-`about.txt` what else is known. A capture that others made is read too, with such a file of commands."""
+`stalls.times` when the bench's own machine stood still, `FIRST LAST`; `about.txt` what else is known. A capture that others made is read too, with such a file of commands."""
 
 import bisect
 import collections
@@ -10,10 +10,10 @@ import pathlib
 import re
 import struct
 
-from nurrispane import captures, hooks, words
+from nurrispane import captures, hooks, stalls, words
 from nurrispane.files import Trouble, name_of, plain, read_text, whole_directory
 
-CAPTURE, COMMANDS, ABOUT = "wire.pcapng", "commands.times", "about.txt"
+CAPTURE, COMMANDS, STALLS, ABOUT = "wire.pcapng", "commands.times", "stalls.times", "about.txt"
 NANO, NS_A_MS = 10**9, 10**6
 OUTBOUND, INBOUND = 2, 1
 
@@ -29,6 +29,7 @@ class Part:
         self.ports, self.given, self.played, self.end = ports, given, [], 0
         self.sent = {port: [] for port in ports}
         self.before = {port: None for port in ports}
+        self.stalls = stalls.Stalls()
 
     def slack(self):
         """W: the longest that a command took, in whole ms."""
@@ -78,12 +79,14 @@ def command_line(first, last, said, reply, told):
     return f"{seconds(first)} {seconds(last)} {said} | {plain(reply + ' ' + told).strip()}\n"
 
 
-def write(path, ports, passed, dropped, commands, about):
-    """Writes a record whole or not at all; commands have the capture's times."""
+def write(path, ports, passed, dropped, commands, about, stood=()):
+    """Writes a record whole or not at all; commands and stalls have the capture's times."""
     with whole_directory(path) as directory:
         (directory / CAPTURE).write_bytes(pcapng(ports, passed, dropped))
         head = "# when given and when answered, in seconds; the command; the hook's reply\n"
         (directory / COMMANDS).write_text(head + "".join(command_line(*one) for one in commands))
+        if stood:
+            (directory / STALLS).write_text("".join(f"{seconds(first)} {seconds(last)}\n" for first, last in stood))
         (directory / ABOUT).write_text("".join(f"{name}: {plain(str(value))}\n" for name, value in about.items()))
 
 
@@ -175,7 +178,17 @@ def read(path, mapped=None, commands=None, bench=()):
     counts = collections.Counter(dropped=capture.dropped)
     played, sent = sorted_out(frames, ports, capture.ways, bench, counts)
     parts = parts_of(sorted(set(ports.values())), given, played, sent, end_of(about, frames, given))
+    stood = stalls.Stalls(read_stalls(path / STALLS))
+    for part, fresh in zip(parts, [one for one in given if one.words == hooks.FRESH]):
+        part.stalls = stood.since(fresh.last)
     return Record(parts, about, counts)
+
+
+def read_stalls(path):
+    """When the bench stood still; nothing where nobody watched."""
+    if not path.exists():
+        return []
+    return [tuple(map(nanoseconds, line.split())) for line in read_text(path).splitlines() if re.fullmatch(r"[0-9.]+ [0-9.]+", line)]
 
 
 def interfaces_in(capture):

@@ -86,4 +86,4 @@ def unseen(ports):
     rest = [port for port in range(16) if port not in ports]
     if rest:
         yield f"the codes of {findings.some(rest, 'port')}"
-    yield "whether the clock is in holdover or in free run, which tell the same; numbers of refusal; what is selected among inputs of one quality off the wire"
+    yield from findings.UNSEEN
