@@ -35,6 +35,8 @@ Question = collections.namedtuple("Question", "form late early end")
 # A wrong stretch, both milliseconds included, and the first wrong value in it, in digits.
 Stretch = collections.namedtuple("Stretch", "start end value")
 Verdict = collections.namedtuple("Verdict", "stretches judged")
+# A code that a port tells from a millisecond on.
+Telling = collections.namedtuple("Telling", "time port code")
 
 
 def answer(selected, state, quality, switch, switch_input):
@@ -75,6 +77,13 @@ def stream(log, times, shown, early):
         yield b"=%012x%s\n" % (time, digits)
     for done in range(done, len(lines), programs.PART):
         yield b"".join(lines[done:done + programs.PART])
+
+
+def of_ports(timed, tellings, question, start):
+    """The verdict on what ports tell, beside lines of a log with their times: of one time the lines stand first."""
+    events = [(time, 0, place, line + b"\n") for place, (time, line) in enumerate(timed)]
+    told = [(one.time + question.early, 1, place, b"=%012x%s\n" % (one.time, code(one.port, one.code))) for place, one in enumerate(tellings)]
+    return read(b"".join(programs.pieces(PROGRAM, [line for *_, line in sorted(events + told)], *question, start=start)))
 
 
 def asked(log, times, shown, question):
