@@ -26,31 +26,35 @@
  *     static void after_event(void)
  *     {
  *         uint64_t due = nurrispane_next_due(&card);
- *         if (card.answer.clock_state == NURRISPANE_LOCKED)
+ *         if (card.answer.clock_state == NURRISPANE_LOCKED) {
  *             clock_follow(card.answer.selected);
- *         else
+ *         } else {
  *             clock_hold();
- *         timer_at(due < beat ? due : beat);
+ *         }
+ *         timer_at((due < beat) ? due : beat);
  *     }
  *     int on_start(void)
  *     {
- *         if (!NURRISPANE_BELONGS() || !nurrispane_self_test())
- *             return 0;
- *         nurrispane_fresh(&card, NURRISPANE_OPTION_1, 0, 0);
- *         nurrispane_fresh_senders(&senders);
- *         event(NURRISPANE_EVENT_INPUT_KIND, 0, 3, NURRISPANE_INPUT_ETHERNET);
- *         event(NURRISPANE_EVENT_PRIORITY, 0, 3, 1);
- *         event(NURRISPANE_EVENT_WAIT, 0, 3, 0);
- *         event(NURRISPANE_EVENT_SIGNAL, 0, 3, NURRISPANE_SIGNAL_GOOD);
- *         after_event();
- *         return 1;
+ *         int works = 0;
+ *         if (NURRISPANE_BELONGS() && (nurrispane_self_test() == 1U)) {
+ *             nurrispane_fresh(&card, NURRISPANE_OPTION_1, 0, 0);
+ *             nurrispane_fresh_senders(&senders);
+ *             event(NURRISPANE_EVENT_INPUT_KIND, 0, 3, NURRISPANE_INPUT_ETHERNET);
+ *             event(NURRISPANE_EVENT_PRIORITY, 0, 3, 1);
+ *             event(NURRISPANE_EVENT_WAIT, 0, 3, 0);
+ *             event(NURRISPANE_EVENT_SIGNAL, 0, 3, NURRISPANE_SIGNAL_GOOD);
+ *             after_event();
+ *             works = 1;
+ *         }
+ *         return works;
  *     }
  *     void on_signal(uint64_t ms, uint8_t port, int good)
  *     {
- *         if (good)
+ *         if (good != 0) {
  *             event(NURRISPANE_EVENT_SIGNAL, ms, port, NURRISPANE_SIGNAL_GOOD);
- *         else
+ *         } else {
  *             event(NURRISPANE_EVENT_SIGNAL, ms, port, NURRISPANE_SIGNAL_FAIL);
+ *         }
  *         after_event();
  *     }
  *     void on_frame(uint64_t ms, uint8_t port, const uint8_t *frame, size_t length)
@@ -61,12 +65,13 @@
  *     void on_timer(uint64_t ms, const uint8_t source[6])
  *     {
  *         uint8_t frame[NURRISPANE_FRAME_OCTETS];
- *         beat = ms + 100;
+ *         beat = ms + 100U;
  *         event(NURRISPANE_EVENT_TICK, ms, 0, 0);
  *         for (uint8_t port = 0; port < NURRISPANE_INPUTS; port++) {
  *             nurrispane_ask(&senders, &card, port, ms, source, 6, frame, sizeof frame);
- *             if (senders.frame != NURRISPANE_HEARTBEAT_NOTHING)
+ *             if (senders.frame != NURRISPANE_HEARTBEAT_NOTHING) {
  *                 port_send(port, frame, sizeof frame);
+ *             }
  *         }
  *         after_event();
  *     }
@@ -130,17 +135,17 @@
 
 #if defined(__cplusplus)
 extern "C" {
-#define NURRISPANE_HOLDS(fact) static_assert(fact, #fact)
-#define NURRISPANE_ALIGNED(type, octets) static_assert(alignof(type) == octets, #type)
+#define NURRISPANE_HOLDS(fact) static_assert((fact), #fact)
+#define NURRISPANE_ALIGNED(type, octets) static_assert(alignof(type) == (octets), #type)
 #elif defined(__STDC_VERSION__) && __STDC_VERSION__ >= 201112L
-#define NURRISPANE_HOLDS(fact) _Static_assert(fact, #fact)
-#define NURRISPANE_ALIGNED(type, octets) _Static_assert(_Alignof(type) == octets, #type)
+#define NURRISPANE_HOLDS(fact) _Static_assert((fact), #fact)
+#define NURRISPANE_ALIGNED(type, octets) _Static_assert(_Alignof(type) == (octets), #type)
 #else
 /* C99 has no word for it: a field of -1 bits is refused. */
 #define NURRISPANE_NAME(line) NURRISPANE_PASTED(line)
 #define NURRISPANE_PASTED(line) nurrispane_holds_##line
 #define NURRISPANE_HOLDS(fact) struct NURRISPANE_NAME(__LINE__) { unsigned int holds : (fact) ? 1 : -1; }
-#define NURRISPANE_ALIGNED(type, octets) NURRISPANE_HOLDS(offsetof(struct { char first; type then; }, then) == octets)
+#define NURRISPANE_ALIGNED(type, octets) NURRISPANE_HOLDS(offsetof(struct { char first; type then; }, then) == (octets))
 #endif
 
 /*
@@ -151,11 +156,14 @@ extern "C" {
 /* Raised with each change of a struct, of a number or of what a function answers: CHANGES.md. */
 #define NURRISPANE_VERSION 5U
 
+/* Raised with what firmware need only be linked anew for; 0 with each new version. */
+#define NURRISPANE_MINOR 0U
+
 /* Whether the library that was linked is this header's: to be asked once, at the start. */
-#define NURRISPANE_BELONGS()                                               \
-    (nurrispane_version() == NURRISPANE_VERSION &&                         \
-     nurrispane_card_octets() == sizeof(struct nurrispane_card) &&         \
-     nurrispane_senders_octets() == sizeof(struct nurrispane_senders))
+#define NURRISPANE_BELONGS()                                         \
+    ((nurrispane_version() == NURRISPANE_VERSION) &&                 \
+     (nurrispane_card_octets() == sizeof(struct nurrispane_card)) && \
+     (nurrispane_senders_octets() == sizeof(struct nurrispane_senders)))
 
 /* Inputs 0 to 15 are also the outgoing ports. */
 #define NURRISPANE_INPUTS 16U
@@ -538,8 +546,8 @@ struct nurrispane_unit {
 
 /* Whether the libraries that were linked are this header's, that of the unit too. */
 #define NURRISPANE_UNIT_BELONGS()                                                  \
-    (NURRISPANE_BELONGS() && nurrispane_unit_version() == NURRISPANE_VERSION &&    \
-     nurrispane_unit_octets() == sizeof(struct nurrispane_unit))
+    (NURRISPANE_BELONGS() && (nurrispane_unit_version() == NURRISPANE_VERSION) &&  \
+     (nurrispane_unit_octets() == sizeof(struct nurrispane_unit)))
 
 /* No call on a unit takes more stack than this. */
 #define NURRISPANE_UNIT_STACK 20480U
@@ -576,89 +584,89 @@ void nurrispane_unit_step(struct nurrispane_unit *unit, uint8_t half, uint8_t ki
                           uint64_t frame_length);
 
 /* The layout that the library was built with. */
-NURRISPANE_HOLDS(sizeof(struct nurrispane_input) == 40);
-NURRISPANE_HOLDS(offsetof(struct nurrispane_input, framed) == 0);
-NURRISPANE_HOLDS(offsetof(struct nurrispane_input, start) == 8);
-NURRISPANE_HOLDS(offsetof(struct nurrispane_input, holdoff) == 16);
-NURRISPANE_HOLDS(offsetof(struct nurrispane_input, wait) == 18);
-NURRISPANE_HOLDS(offsetof(struct nurrispane_input, priority) == 19);
-NURRISPANE_HOLDS(offsetof(struct nurrispane_input, fixed) == 20);
-NURRISPANE_HOLDS(offsetof(struct nurrispane_input, kind) == 21);
-NURRISPANE_HOLDS(offsetof(struct nurrispane_input, locked) == 22);
-NURRISPANE_HOLDS(offsetof(struct nurrispane_input, sending) == 23);
-NURRISPANE_HOLDS(offsetof(struct nurrispane_input, frame) == 24);
-NURRISPANE_HOLDS(offsetof(struct nurrispane_input, line) == 25);
-NURRISPANE_HOLDS(offsetof(struct nurrispane_input, count) == 26);
-NURRISPANE_HOLDS(offsetof(struct nurrispane_input, signal) == 27);
-NURRISPANE_HOLDS(offsetof(struct nurrispane_input, good) == 28);
-NURRISPANE_HOLDS(offsetof(struct nurrispane_input, failed) == 29);
-NURRISPANE_HOLDS(offsetof(struct nurrispane_input, up) == 30);
-NURRISPANE_HOLDS(offsetof(struct nurrispane_input, floor) == 31);
-NURRISPANE_HOLDS(offsetof(struct nurrispane_input, last) == 32);
-NURRISPANE_HOLDS(offsetof(struct nurrispane_input, spare2) == 34);
-NURRISPANE_HOLDS(offsetof(struct nurrispane_input, spare4) == 36);
-NURRISPANE_HOLDS(sizeof(struct nurrispane_answer) == 6);
-NURRISPANE_HOLDS(offsetof(struct nurrispane_answer, number) == 0);
-NURRISPANE_HOLDS(offsetof(struct nurrispane_answer, selected) == 1);
-NURRISPANE_HOLDS(offsetof(struct nurrispane_answer, clock_state) == 2);
-NURRISPANE_HOLDS(offsetof(struct nurrispane_answer, clock_quality) == 3);
-NURRISPANE_HOLDS(offsetof(struct nurrispane_answer, switch_kind) == 4);
-NURRISPANE_HOLDS(offsetof(struct nurrispane_answer, switch_input) == 5);
-NURRISPANE_HOLDS(sizeof(struct nurrispane_card) == 680);
-NURRISPANE_HOLDS(offsetof(struct nurrispane_card, inputs) == 0);
-NURRISPANE_HOLDS(offsetof(struct nurrispane_card, time) == 640);
-NURRISPANE_HOLDS(offsetof(struct nurrispane_card, due) == 648);
-NURRISPANE_HOLDS(offsetof(struct nurrispane_card, mode) == 656);
-NURRISPANE_HOLDS(offsetof(struct nurrispane_card, held) == 657);
-NURRISPANE_HOLDS(offsetof(struct nurrispane_card, switch_kind) == 658);
-NURRISPANE_HOLDS(offsetof(struct nurrispane_card, switch_input) == 659);
-NURRISPANE_HOLDS(offsetof(struct nurrispane_card, selection) == 660);
-NURRISPANE_HOLDS(offsetof(struct nurrispane_card, selected) == 661);
-NURRISPANE_HOLDS(offsetof(struct nurrispane_card, answer) == 662);
-NURRISPANE_HOLDS(offsetof(struct nurrispane_card, served) == 668);
-NURRISPANE_HOLDS(offsetof(struct nurrispane_card, option) == 672);
-NURRISPANE_HOLDS(offsetof(struct nurrispane_card, place) == 673);
-NURRISPANE_HOLDS(offsetof(struct nurrispane_card, marks) == 674);
-NURRISPANE_HOLDS(offsetof(struct nurrispane_card, spare) == 676);
-NURRISPANE_ALIGNED(struct nurrispane_card, 8);
-NURRISPANE_HOLDS(sizeof(struct nurrispane_status) == 24);
-NURRISPANE_HOLDS(offsetof(struct nurrispane_status, timer) == 0);
-NURRISPANE_HOLDS(offsetof(struct nurrispane_status, frame) == 8);
-NURRISPANE_HOLDS(offsetof(struct nurrispane_status, number) == 16);
-NURRISPANE_HOLDS(offsetof(struct nurrispane_status, raw) == 17);
-NURRISPANE_HOLDS(offsetof(struct nurrispane_status, passed) == 18);
-NURRISPANE_HOLDS(offsetof(struct nurrispane_status, eligible) == 19);
-NURRISPANE_HOLDS(offsetof(struct nurrispane_status, signal) == 20);
-NURRISPANE_HOLDS(offsetof(struct nurrispane_status, priority) == 21);
-NURRISPANE_HOLDS(offsetof(struct nurrispane_status, locked) == 22);
-NURRISPANE_HOLDS(offsetof(struct nurrispane_status, floor) == 23);
-NURRISPANE_ALIGNED(struct nurrispane_status, 8);
-NURRISPANE_HOLDS(sizeof(struct nurrispane_codes) == 16);
-NURRISPANE_HOLDS(sizeof(struct nurrispane_words) == 32);
-NURRISPANE_HOLDS(sizeof(struct nurrispane_frame) == 9);
-NURRISPANE_HOLDS(offsetof(struct nurrispane_frame, number) == 0);
-NURRISPANE_HOLDS(offsetof(struct nurrispane_frame, code) == 1);
-NURRISPANE_HOLDS(offsetof(struct nurrispane_frame, event) == 2);
-NURRISPANE_HOLDS(offsetof(struct nurrispane_frame, source) == 3);
-NURRISPANE_HOLDS(sizeof(struct nurrispane_sender) == 96);
-NURRISPANE_HOLDS(offsetof(struct nurrispane_sender, times) == 0);
-NURRISPANE_HOLDS(offsetof(struct nurrispane_sender, asked) == 80);
-NURRISPANE_HOLDS(offsetof(struct nurrispane_sender, code) == 88);
-NURRISPANE_HOLDS(offsetof(struct nurrispane_sender, sent) == 92);
-NURRISPANE_HOLDS(sizeof(struct nurrispane_senders) == 1544);
-NURRISPANE_HOLDS(offsetof(struct nurrispane_senders, ports) == 0);
-NURRISPANE_HOLDS(offsetof(struct nurrispane_senders, number) == 1536);
-NURRISPANE_HOLDS(offsetof(struct nurrispane_senders, frame) == 1540);
-NURRISPANE_ALIGNED(struct nurrispane_senders, 8);
-NURRISPANE_HOLDS(sizeof(struct nurrispane_unit) == 1368);
-NURRISPANE_HOLDS(offsetof(struct nurrispane_unit, equipment) == 0);
-NURRISPANE_HOLDS(offsetof(struct nurrispane_unit, station) == 680);
-NURRISPANE_HOLDS(offsetof(struct nurrispane_unit, minimum) == 1360);
-NURRISPANE_HOLDS(offsetof(struct nurrispane_unit, squelched) == 1361);
-NURRISPANE_HOLDS(offsetof(struct nurrispane_unit, source) == 1362);
-NURRISPANE_HOLDS(offsetof(struct nurrispane_unit, spare) == 1363);
-NURRISPANE_HOLDS(offsetof(struct nurrispane_unit, spare4) == 1364);
-NURRISPANE_ALIGNED(struct nurrispane_unit, 8);
+NURRISPANE_HOLDS(sizeof(struct nurrispane_input) == 40U);
+NURRISPANE_HOLDS(offsetof(struct nurrispane_input, framed) == 0U);
+NURRISPANE_HOLDS(offsetof(struct nurrispane_input, start) == 8U);
+NURRISPANE_HOLDS(offsetof(struct nurrispane_input, holdoff) == 16U);
+NURRISPANE_HOLDS(offsetof(struct nurrispane_input, wait) == 18U);
+NURRISPANE_HOLDS(offsetof(struct nurrispane_input, priority) == 19U);
+NURRISPANE_HOLDS(offsetof(struct nurrispane_input, fixed) == 20U);
+NURRISPANE_HOLDS(offsetof(struct nurrispane_input, kind) == 21U);
+NURRISPANE_HOLDS(offsetof(struct nurrispane_input, locked) == 22U);
+NURRISPANE_HOLDS(offsetof(struct nurrispane_input, sending) == 23U);
+NURRISPANE_HOLDS(offsetof(struct nurrispane_input, frame) == 24U);
+NURRISPANE_HOLDS(offsetof(struct nurrispane_input, line) == 25U);
+NURRISPANE_HOLDS(offsetof(struct nurrispane_input, count) == 26U);
+NURRISPANE_HOLDS(offsetof(struct nurrispane_input, signal) == 27U);
+NURRISPANE_HOLDS(offsetof(struct nurrispane_input, good) == 28U);
+NURRISPANE_HOLDS(offsetof(struct nurrispane_input, failed) == 29U);
+NURRISPANE_HOLDS(offsetof(struct nurrispane_input, up) == 30U);
+NURRISPANE_HOLDS(offsetof(struct nurrispane_input, floor) == 31U);
+NURRISPANE_HOLDS(offsetof(struct nurrispane_input, last) == 32U);
+NURRISPANE_HOLDS(offsetof(struct nurrispane_input, spare2) == 34U);
+NURRISPANE_HOLDS(offsetof(struct nurrispane_input, spare4) == 36U);
+NURRISPANE_HOLDS(sizeof(struct nurrispane_answer) == 6U);
+NURRISPANE_HOLDS(offsetof(struct nurrispane_answer, number) == 0U);
+NURRISPANE_HOLDS(offsetof(struct nurrispane_answer, selected) == 1U);
+NURRISPANE_HOLDS(offsetof(struct nurrispane_answer, clock_state) == 2U);
+NURRISPANE_HOLDS(offsetof(struct nurrispane_answer, clock_quality) == 3U);
+NURRISPANE_HOLDS(offsetof(struct nurrispane_answer, switch_kind) == 4U);
+NURRISPANE_HOLDS(offsetof(struct nurrispane_answer, switch_input) == 5U);
+NURRISPANE_HOLDS(sizeof(struct nurrispane_card) == 680U);
+NURRISPANE_HOLDS(offsetof(struct nurrispane_card, inputs) == 0U);
+NURRISPANE_HOLDS(offsetof(struct nurrispane_card, time) == 640U);
+NURRISPANE_HOLDS(offsetof(struct nurrispane_card, due) == 648U);
+NURRISPANE_HOLDS(offsetof(struct nurrispane_card, mode) == 656U);
+NURRISPANE_HOLDS(offsetof(struct nurrispane_card, held) == 657U);
+NURRISPANE_HOLDS(offsetof(struct nurrispane_card, switch_kind) == 658U);
+NURRISPANE_HOLDS(offsetof(struct nurrispane_card, switch_input) == 659U);
+NURRISPANE_HOLDS(offsetof(struct nurrispane_card, selection) == 660U);
+NURRISPANE_HOLDS(offsetof(struct nurrispane_card, selected) == 661U);
+NURRISPANE_HOLDS(offsetof(struct nurrispane_card, answer) == 662U);
+NURRISPANE_HOLDS(offsetof(struct nurrispane_card, served) == 668U);
+NURRISPANE_HOLDS(offsetof(struct nurrispane_card, option) == 672U);
+NURRISPANE_HOLDS(offsetof(struct nurrispane_card, place) == 673U);
+NURRISPANE_HOLDS(offsetof(struct nurrispane_card, marks) == 674U);
+NURRISPANE_HOLDS(offsetof(struct nurrispane_card, spare) == 676U);
+NURRISPANE_ALIGNED(struct nurrispane_card, 8U);
+NURRISPANE_HOLDS(sizeof(struct nurrispane_status) == 24U);
+NURRISPANE_HOLDS(offsetof(struct nurrispane_status, timer) == 0U);
+NURRISPANE_HOLDS(offsetof(struct nurrispane_status, frame) == 8U);
+NURRISPANE_HOLDS(offsetof(struct nurrispane_status, number) == 16U);
+NURRISPANE_HOLDS(offsetof(struct nurrispane_status, raw) == 17U);
+NURRISPANE_HOLDS(offsetof(struct nurrispane_status, passed) == 18U);
+NURRISPANE_HOLDS(offsetof(struct nurrispane_status, eligible) == 19U);
+NURRISPANE_HOLDS(offsetof(struct nurrispane_status, signal) == 20U);
+NURRISPANE_HOLDS(offsetof(struct nurrispane_status, priority) == 21U);
+NURRISPANE_HOLDS(offsetof(struct nurrispane_status, locked) == 22U);
+NURRISPANE_HOLDS(offsetof(struct nurrispane_status, floor) == 23U);
+NURRISPANE_ALIGNED(struct nurrispane_status, 8U);
+NURRISPANE_HOLDS(sizeof(struct nurrispane_codes) == 16U);
+NURRISPANE_HOLDS(sizeof(struct nurrispane_words) == 32U);
+NURRISPANE_HOLDS(sizeof(struct nurrispane_frame) == 9U);
+NURRISPANE_HOLDS(offsetof(struct nurrispane_frame, number) == 0U);
+NURRISPANE_HOLDS(offsetof(struct nurrispane_frame, code) == 1U);
+NURRISPANE_HOLDS(offsetof(struct nurrispane_frame, event) == 2U);
+NURRISPANE_HOLDS(offsetof(struct nurrispane_frame, source) == 3U);
+NURRISPANE_HOLDS(sizeof(struct nurrispane_sender) == 96U);
+NURRISPANE_HOLDS(offsetof(struct nurrispane_sender, times) == 0U);
+NURRISPANE_HOLDS(offsetof(struct nurrispane_sender, asked) == 80U);
+NURRISPANE_HOLDS(offsetof(struct nurrispane_sender, code) == 88U);
+NURRISPANE_HOLDS(offsetof(struct nurrispane_sender, sent) == 92U);
+NURRISPANE_HOLDS(sizeof(struct nurrispane_senders) == 1544U);
+NURRISPANE_HOLDS(offsetof(struct nurrispane_senders, ports) == 0U);
+NURRISPANE_HOLDS(offsetof(struct nurrispane_senders, number) == 1536U);
+NURRISPANE_HOLDS(offsetof(struct nurrispane_senders, frame) == 1540U);
+NURRISPANE_ALIGNED(struct nurrispane_senders, 8U);
+NURRISPANE_HOLDS(sizeof(struct nurrispane_unit) == 1368U);
+NURRISPANE_HOLDS(offsetof(struct nurrispane_unit, equipment) == 0U);
+NURRISPANE_HOLDS(offsetof(struct nurrispane_unit, station) == 680U);
+NURRISPANE_HOLDS(offsetof(struct nurrispane_unit, minimum) == 1360U);
+NURRISPANE_HOLDS(offsetof(struct nurrispane_unit, squelched) == 1361U);
+NURRISPANE_HOLDS(offsetof(struct nurrispane_unit, source) == 1362U);
+NURRISPANE_HOLDS(offsetof(struct nurrispane_unit, spare) == 1363U);
+NURRISPANE_HOLDS(offsetof(struct nurrispane_unit, spare4) == 1364U);
+NURRISPANE_ALIGNED(struct nurrispane_unit, 8U);
 
 #undef NURRISPANE_HOLDS
 #undef NURRISPANE_ALIGNED

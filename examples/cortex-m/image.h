@@ -10,4 +10,6 @@ uint32_t octets_of(void (*call)(void));
 int replay(const char *list);
 /* Tells the deepest stack and the most instructions of each call, as found in so many rounds: 0, or 1 where a call is not answered rightly. */
 int measure(uint32_t rounds);
+/* Sends a station clock unit so many events: 0, or 1 where it answers otherwise than a card by itself does. */
+int run_unit(uint32_t rounds);
 #endif

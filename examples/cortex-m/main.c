@@ -3,6 +3,7 @@
  *
  *   replay LIST      answers the logs that a list names: replay.c
  *   measure ROUNDS   the deepest stack and the most instructions of each call: measure.c
+ *   unit ROUNDS      a station clock unit beside a card: unit.c
  *   overflow         takes more stack than the header promises, which has to fault
  *
  * Status: 0 done, 1 the library is not the header's or answers wrongly, 2 trouble, 3 a fault.
@@ -62,11 +63,13 @@ int main(void)
         return replay(rest);
     if (begins("measure", &rest))
         return measure(number_of(rest));
+    if (begins("unit", &rest))
+        return run_unit(number_of(rest));
     if (begins("overflow", &rest)) {
         on_stack(take_more);
         say("the stack has no guard\n");
         return 1;
     }
-    say("replay LIST | measure ROUNDS | overflow\n");
+    say("replay LIST | measure ROUNDS | unit ROUNDS | overflow\n");
     return 2;
 }

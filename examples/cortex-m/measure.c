@@ -295,9 +295,31 @@ static void tell_quick(uint32_t per_thousand)
     say("\n");
 }
 
+/* All that is due of the busy card, a moment a call: the dearest of these. */
+static void tell_moment(uint32_t per_thousand)
+{
+    uint32_t most = 0, moments = 0;
+
+    card = busy;
+    for (uint64_t due = nurrispane_next_due(&card); due <= 900000; due = nurrispane_next_due(&card), moments++) {
+        uint32_t took;
+
+        set_event(NURRISPANE_EVENT_TICK, due, 0, 0);
+        took = ticks_of(call_step);
+        if (took > most)
+            most = took;
+    }
+    say("a step with one due moment, of ");
+    say_number(moments);
+    say(": instructions ");
+    say_number((uint32_t)((uint64_t)most * per_thousand / 1000));
+    say("\n");
+}
+
 static void tell(uint32_t per_thousand)
 {
     tell_quick(per_thousand);
+    tell_moment(per_thousand);
     for (uint32_t i = 0; i < CALLS; i++) {
         say(calls[i].name);
         say(": stack ");

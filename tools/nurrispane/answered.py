@@ -10,34 +10,45 @@ from nurrispane.files import Trouble, name_of, read
 # An answer line with its LF; what stands for a line that is none, and for one that was lost.
 WIDTH = 13
 NO_ANSWER, LOST = b"?" * (WIDTH - 1), b"-" * (WIDTH - 1)
+CAPITALS = (b"A", b"B", b"C", b"D", b"E", b"F")
 IN_CAPITALS = re.compile(rb"(?m)^[0-9a-f]*[A-F][0-9A-Fa-f]*$")
 ANSWER = re.compile(rb"[0-9a-f]{12}")
+# So many bytes of answers are compared at once.
+BLOCK = 64 * WIDTH
 # Answers are matched to lines by a table of at most so many cells.
 MOST_CELLS = 8_000_000
 
 
 class Answered:
-    """The card's answers to the lines of a log, a line each: `flat` has WIDTH bytes for each line of the log. `odd` has the lines that
-    are no answers, by their places; `forms` what was taken as it is meant; `lost` and `extra` what has no partner, as in
-    `Missing`."""
+    """The card's answers to the lines of a log: `flat` has WIDTH bytes for each line, `differing` says where these differ from the right
+    ones. `odd` has the lines that are no answers, by their places; `forms` what was taken as it is meant; `lost` and `extra` what has no
+    partner, as in `Missing`, and `unmatched` how many are too many, or too few, where that can't be said."""
 
     def __init__(self, path, right):
         given, self.forms = as_meant(read(path))
-        count = len(right) // WIDTH
-        lines = None if is_flat(given, count) else words.split_log(given)[0]
-        if not given or (lines and not any(map(ANSWER.fullmatch, lines))):
-            raise Trouble("%s has no answer line, so there is no verdict: an answer is twelve hexadecimal digits" % name_of(path))
-        self.path, self.count = path, count if lines is None else len(lines)
-        self.lost, self.extra, self.unmatched = [], [], 0
-        self.flat, self.odd = (given, {}) if lines is None else self.matched(lines, right, count)
+        self.path, self.lost, self.extra, self.unmatched = path, [], [], 0
+        self.flat, self.count = given, len(right) // WIDTH
+        flat = len(given) == len(right) and given[WIDTH - 1::WIDTH] == b"\n" * self.count
+        if not flat or not self.has_answers(right):
+            self.match(words.split_log(given)[0], right)
 
-    def matched(self, lines, right, count):
-        """The answers by the lines of the log, and those that are none."""
-        if len(lines) != count:
-            lines = self.paired(lines, [right[place:place + WIDTH - 1] for place in range(0, len(right), WIDTH)])
-        odd = {place: line for place, line in enumerate(lines) if line is not LOST and not ANSWER.fullmatch(line)}
-        flat = (b"\n".join(NO_ANSWER if place in odd else line for place, line in enumerate(lines)) + b"\n") if odd else b"\n".join(lines) + b"\n"
-        return flat, odd
+    def has_answers(self, right):
+        """Whether each WIDTH bytes are a line; finds what differs, and what is no answer: what is right is one."""
+        self.differing = list(differing(right, self.flat))
+        lines = {at // WIDTH: self.flat[at:at + WIDTH - 1] for at in self.differing}
+        self.odd = {place: line for place, line in lines.items() if not ANSWER.fullmatch(line)}
+        return not self.odd
+
+    def match(self, given, right):
+        """The same of lines of any length and number."""
+        if not any(map(ANSWER.fullmatch, given)):
+            raise Trouble("%s has no answer line, so there is no verdict: an answer is twelve hexadecimal digits" % name_of(self.path))
+        lines, self.count = given, len(given)
+        if len(given) != len(right) // WIDTH:
+            lines = self.paired(given, [right[place:place + WIDTH - 1] for place in range(0, len(right), WIDTH)])
+        self.odd = {place: line for place, line in enumerate(lines) if line is not LOST and not ANSWER.fullmatch(line)}
+        self.flat = b"".join((NO_ANSWER if place in self.odd else line) + b"\n" for place, line in enumerate(lines))
+        self.differing = list(differing(right, self.flat))
 
     def paired(self, given, right):
         """The answers with LOST where one is missing, and without those that are too many."""
@@ -66,16 +77,19 @@ def as_meant(given):
         meant = given.replace(b"\r\n", b"\n")
         given = meant[:-1] if meant.endswith(b"\r") else meant
         forms.append("CR LF line ends")
-    if IN_CAPITALS.search(given):
+    if any(letter in given for letter in CAPITALS) and IN_CAPITALS.search(given):
         given = IN_CAPITALS.sub(lambda line: line.group().lower(), given)
         forms.append("capital digits")
     return given, forms
 
 
-def is_flat(given, count):
-    """Whether these are so many answers and nothing else."""
-    return len(given) == WIDTH * count and given[WIDTH - 1::WIDTH] == b"\n" * count and not re.search(rb"[^0-9a-f\n]", given) \
-        and given.count(b"\n") == count
+def differing(right, card):
+    """Where answers differ, lost ones apart, in bytes; what is alike is passed over many at a time."""
+    for start in range(0, len(right), BLOCK):
+        one, other = right[start:start + BLOCK], card[start:start + BLOCK]
+        if one != other:
+            yield from (start + at for at in range(0, len(one), WIDTH)
+                        if one[at:at + WIDTH] != other[at:at + WIDTH] and not other.startswith(LOST, at))
 
 
 # ---- which are missing

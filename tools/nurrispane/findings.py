@@ -8,27 +8,9 @@ from nurrispane import answered, answers, inputs, logs, profiles, programs, word
 from nurrispane.programs import ANSWER
 
 FIELDS = ["refusal", "selection", "clock state", "clock quality", "switch", "switch"]
-# So many bytes of answers are compared at once.
-BLOCK = 256 * ANSWER
-
 # A stretch of wrong lines, from 1, that are right and wrong alike; and where a stretch stands, its words, and why.
 Lines = collections.namedtuple("Lines", "first last right card")
 Told = collections.namedtuple("Told", "head right card reasons")
-
-
-def differing(right, card):
-    """The places at which answers differ, lost ones apart; what is alike is passed over many at a time."""
-    for start in range(0, len(right), BLOCK):
-        one, other = right[start:start + BLOCK], card[start:start + BLOCK]
-        if one != other:
-            yield from (start + at for at in range(0, len(one), ANSWER)
-                        if one[at:at + ANSWER] != other[at:at + ANSWER] and other[at:at + 1] != b"-")
-
-
-def wrong_lines(right, card):
-    """The numbers of the lines that are answered wrongly, each with both answers."""
-    for at in differing(right, card):
-        yield at // ANSWER + 1, right[at:at + ANSWER - 1], card[at:at + ANSWER - 1]
 
 
 def stretches(wrong):
@@ -54,8 +36,8 @@ def sort_of(right, wrong):
 
 def of_line(log, number, right, card, facts, received):
     """What is told of a wrong line; without facts no reasons."""
-    time, event = logs.event_in_words(log.lines[number - 1], log.profile.option)
-    named = named_inputs(answers.octets_of(right), answers.octets_of(card), words.event_of(log.lines[number - 1], log.profile.option))
+    time, event = logs.event_in_words(log.line(number), log.profile.option)
+    named = named_inputs(answers.octets_of(right), answers.octets_of(card), words.event_of(log.line(number), log.profile.option))
     return Told("line %d  %s  %s" % (number, logs.seconds(time), event), answers.meaning(right, log.profile), answers.meaning(card, log.profile),
                 list(reasons(log, number, named, facts, answers.octets_of(right), received)) if facts else [])
 
@@ -77,13 +59,14 @@ def reasons(log, number, named, facts, right, received):
             inputs.why(facts, each, right, log.profile)[1], received.told(each, number))
 
 
-class Judged:
+class ByAnswers:
     """A card's answers to a log beside the right ones, and the wrong lines."""
 
     def __init__(self, log, path):
-        self.log, self.right = log, programs.replayed(log.lines, log.profile.start)
+        self.log, self.right = log, programs.replayed(log)
         self.card = answered.Answered(path, self.right)
-        self.wrong = list(wrong_lines(self.right, self.card.flat))
+        # number, right and wrong answer of each
+        self.wrong = [(at // ANSWER + 1, self.right[at:at + ANSWER - 1], self.card.flat[at:at + ANSWER - 1]) for at in self.card.differing]
         self.count = len(self.wrong) + sum(map(len, self.card.lost + self.card.extra)) + abs(self.card.unmatched)
         self.received = inputs.Received(log.lines, self.right, log.profile)
 

@@ -26,12 +26,12 @@ REPORTS = ("code", "frame", "word")
 
 
 def marked(lines, numbers):
-    """The log up to the last of these lines, a mark after each of them."""
+    """The log up to the last of these lines, which have their LFs, a mark after each of them."""
     done = 0
     for number in numbers:
         while done < number:
             end = min(done + programs.PART, number)
-            yield b"\n".join(lines[done:end]).replace(MARK, UNMARKED) + b"\n"
+            yield b"".join(lines[done:end]).replace(MARK, UNMARKED)
             done = end
         yield MARK
 
@@ -76,10 +76,13 @@ class Output:
 
     def answers(self, count):
         """So many answer lines."""
-        while len(self.held) - self.place < count * ANSWER:
+        told, wanted = [], count * ANSWER
+        while len(self.held) - self.place < wanted:
+            told.append(self.held[self.place:])
+            wanted, self.place = wanted - len(told[-1]), len(self.held)
             self.more()
-        start, self.place = self.place, self.place + count * ANSWER
-        return self.held[start:self.place]
+        start, self.place = self.place, self.place + wanted
+        return b"".join([*told, self.held[start:self.place]])
 
     def rows(self):
         """The rows of the sixteen inputs."""
@@ -101,7 +104,8 @@ class Output:
 
 
 def along(lines, numbers, start=()):
-    """Each of these lines, which rise from 0, before any, with what is known after it; the log is gone through once."""
+    """Each of these lines, which have their LFs, by numbers that rise from 0, before any, with what is known after it; the log is gone
+    through once."""
     output, done = Output(programs.pieces("facts", marked(lines, numbers), start=start)), 0
     progress.doing("asking what is known of the inputs")
     for number in numbers:
@@ -114,8 +118,8 @@ def along(lines, numbers, start=()):
 
 
 def after(lines, numbers, start=()):
-    """The facts by the lines' numbers."""
-    return {known.number: known.facts for known in along(lines, sorted(set(numbers)), start)}
+    """The facts by the numbers of lines without their LFs."""
+    return {known.number: known.facts for known in along([line + b"\n" for line in lines], sorted(set(numbers)), start)}
 
 
 # ---- in words
@@ -266,7 +270,7 @@ class Received:
     def told(self, number, last):
         """The same in words, as "code 0100 (SSU-A), line 12 at 1,000 ms"."""
         place = self.place_of(number, last)
-        report = REPORT.fullmatch(self.lines[place]) if place is not None else None
+        report = REPORT.fullmatch(self.lines[place][:-1]) if place is not None else None
         if not report:
             return "nothing received"
         kind, said = report.group(1), int(report.group(5) or report.group(4), 16)

@@ -1,5 +1,8 @@
 """A log in hand, and small words on logs: their form, an event, times, numbers in a row."""
 
+import functools
+import gc
+import io
 import re
 import shlex
 import sys
@@ -12,12 +15,22 @@ FRONT, LINES = 65_536, 100
 
 
 class Log:
-    """A log in hand: its lines, its profile and what it is called."""
+    """A log in hand: its bytes, its lines with their LFs, its profile and what it is called."""
 
     def __init__(self, path, data, start=()):
-        self.name, self.lines = name_of(path), words.split_log(data)[0]
-        self.option = words.option_of(self.lines)
+        self.name, self.data = name_of(path), data
+        # a third of what `split` takes, which looks at each byte by itself
+        self.lines = io.BytesIO(data).readlines()
+        if self.lines and not data.endswith(b"\n"):
+            self.lines[-1] += b"\n"
+        # a million lines are not looked through for rubbish again and again
+        gc.freeze()
+        self.option = words.option_in(data)
         self.profile = profiles.of_log(self.option, start)
+
+    def line(self, number):
+        """A line by its number, from 1, without its LF."""
+        return self.lines[number - 1][:-1]
 
 
 def taken(command, path, start):
@@ -66,8 +79,10 @@ def is_old(data):
     return not any(map(words.event_of, lines)) and any(map(words.OLD_EVENT.fullmatch, lines))
 
 
-# A line of a log in words: an event, or what says something of a log.
-IN_WORDS = re.compile(r"[0-9]+ (?:%s)(?: .*)?|(?:log|shows|bytes|raw) .*|option [12]" % "|".join([*words.BY_WORD, "frame", "event"]))
+@functools.cache
+def in_words():
+    """A line of a log in words: an event, or what says something of a log."""
+    return re.compile(r"[0-9]+ (?:%s)(?: .*)?|(?:log|shows|bytes|raw) .*|option [12]" % "|".join([*words.BY_WORD, "frame", "event"]))
 
 
 def is_utf_16(data):
@@ -77,7 +92,7 @@ def is_utf_16(data):
 
 
 def is_in_words(lines):
-    return any(IN_WORDS.fullmatch(line.decode("latin-1").split("#")[0].strip()) for line in lines)
+    return any(in_words().fullmatch(line.decode("latin-1").split("#")[0].strip()) for line in lines)
 
 
 def form_of(data, name):

@@ -214,14 +214,13 @@ def vcd(picture):
     changes = collections.defaultdict(dict)
     for name, stretches in picture.lanes:
         for step, value in steps(stretches):
-            changes[step][name] = value
+            changes[step][name] = "%d" % (value == "wrong") if name == DIFFERS else "s%s " % value.replace(" ", "_")
     before = {}
     for step in sorted(changes):
         new = {name: value for name, value in changes[step].items() if before.get(name) != value}
         before.update(new)
         made += ["#%d" % step] * bool(new)
-        made += ["%d%s" % (value == "wrong", signs[name]) if name == DIFFERS else "s%s %s" % (value.replace(" ", "_"), signs[name])
-                 for name, value in new.items()]
+        made += [value + signs[name] for name, value in new.items()]
     return "\n".join([*made, "#%d" % (STEPS * (picture.end + 1))]) + "\n"
 
 

@@ -119,13 +119,13 @@ def pieces(name, parts, *arguments, start=()):
 ANSWER, PART = 13, 10_000
 
 
-def replayed(lines, start=()):
-    """The right answers to these lines, ANSWER bytes each."""
-    parts = (b"\n".join(lines[place:place + PART]) + b"\n" for place in range(0, len(lines), PART))
-    progress.doing("replaying %s lines" % format(len(lines), ","))
-    told = b"".join(pieces("replay", parts, start=start))
-    if len(told) != ANSWER * len(lines) or told[ANSWER - 1::ANSWER] != b"\n" * len(lines):
-        raise Trouble("the program replay answered %d of %d lines" % (told.count(b"\n"), len(lines)))
+def replayed(log):
+    """The right answers to a log in hand, ANSWER bytes for each of its lines."""
+    count = len(log.lines)
+    progress.doing("replaying %s lines" % format(count, ","))
+    told = b"".join(pieces("replay", [log.data], start=log.profile.start))
+    if len(told) != ANSWER * count or told[ANSWER - 1::ANSWER] != b"\n" * count:
+        raise Trouble("the program replay answered %d of %d lines" % (told.count(b"\n"), count))
     return told
 
 

@@ -26,8 +26,30 @@ class Ticked:
 
 
 def tick(time, lines):
-    """A tick for a log of these lines, of its option."""
-    return words.event_line(words.BY_WORD["tick"].number, time, 0, 0, option=words.option_of(lines) or 1)
+    """A tick for a log of these lines, of its option; without its LF."""
+    return tick_line(time, words.option_of(lines) or 1)[:-1]
+
+
+def tick_line(time, option):
+    return words.event_line(words.BY_WORD["tick"].number, time, 0, 0, option=option) + b"\n"
+
+
+def with_ticks(lines, added):
+    """The lines with others put in, each after so many of them."""
+    made, done = [], 0
+    for number, line in added:
+        made += lines[done:number] + [line]
+        done = number
+    return made + lines[done:]
+
+
+def at_ticks(lines, ticks, option, start):
+    """What is known at ticks in these lines, which have their LFs, each after a line and at a time, which rise."""
+    ticked = with_ticks(lines, [(number, tick_line(time, option)) for number, time in ticks])
+    return inputs.along(ticked, [number + place for place, (number, _) in enumerate(ticks, 1)], start)
+
+
+# ---- by selections
 
 
 def moves(right):
@@ -35,16 +57,16 @@ def moves(right):
     return right[:2] == b"00" or right[:2] in (b"0e", b"0f", b"10", b"11")
 
 
-def served(lines, start=()):
+def served(lines, profile):
     """The log with a tick at each moment at which something ends between two of its lines."""
     for _ in range(MOST_TURNS):
-        added, right, times = [], programs.answers("replay", b"".join(line + b"\n" for line in lines), start), []
+        added, right, times = [], programs.answers("replay", b"".join(lines), profile.start), []
         later = next_times(lines, right)
-        for known in inputs.along(lines, range(1, len(lines) + 1), start):
+        for known in inputs.along(lines, range(1, len(lines) + 1), profile.start):
             times.append(known.time)
             ends = {end for fact in known.facts for end in (fact.timer, fact.frame)}
             if moves(known.answer):
-                added += [(known.number, tick(end, lines)) for end in sorted(ends) if known.time < end < later[known.number - 1]]
+                added += [(known.number, tick_line(end, profile.option)) for end in sorted(ends) if known.time < end < later[known.number - 1]]
         if not added:
             return Ticked(lines, right, times)
         lines = with_ticks(lines, added)
@@ -57,16 +79,8 @@ def next_times(lines, right):
     for line, answer in zip(reversed(lines), reversed(right)):
         found.append(next_time)
         if moves(answer):
-            next_time = words.event_of(line).time
+            next_time = words.event_of(line[:-1]).time
     return found[::-1]
-
-
-def with_ticks(lines, added):
-    made, done = [], 0
-    for number, line in added:
-        made += lines[done:number] + [line]
-        done = number
-    return made + lines[done:]
 
 
 def selections(ticked):
@@ -141,19 +155,19 @@ def changed_inputs(before, known):
 
 
 class Course:
-    """The moments of a log from the time 0 to an end: after a line, or between two where something ends there."""
+    """The moments of a log from the time 0 to its last line or to a later end: after a line, or between two where something ends
+    there."""
 
     def __init__(self, log, end=None):
-        self.start = log.profile.start
+        self.option, self.start = log.profile.option, log.profile.start
         # a tick at 0 in front, so that what is known before the first line is of the log's option
-        self.lines = [tick(0, log.lines), *log.lines]
+        self.lines = with_ticks(log.lines, [(0, tick_line(0, self.option))])
         # the state's time after each line of the log
         self.times = array.array("Q")
         self.found, self.gaps = [], {}
         self.last = self.at_lines()
-        self.end = self.last if end is None else end
-        if self.found:
-            self.gap_after(self.final, self.end + 1)
+        self.end = max(self.last, end or 0)
+        self.gap_after(self.final, self.end + 1)
         self.between()
 
     def at_lines(self):
@@ -191,14 +205,8 @@ class Course:
             if not pending:
                 break
             asked.update(pending)
-            for (number, _), known in zip(pending, at_ticks(self.lines, pending, self.start)):
+            for (number, _), known in zip(pending, at_ticks(self.lines, pending, self.option, self.start)):
                 limit, times = self.gaps[number]
                 times.update(end for rest in known.rests for end in ends_of(rest) if known.time < end < limit)
                 self.found.append(Moment(number - 1, known))
         self.found.sort(key=lambda moment: (moment.number, moment.time))
-
-
-def at_ticks(lines, ticks, start):
-    """What is known at ticks, each after a line and at a time, which rise."""
-    ticked = with_ticks(lines, [(number, tick(time, lines)) for number, time in ticks])
-    return inputs.along(ticked, [number + place for place, (number, _) in enumerate(ticks, 1)], start)

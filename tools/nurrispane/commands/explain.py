@@ -37,19 +37,19 @@ def run(options):
     if options.line is not None and not 1 <= options.line <= len(log.lines):
         raise Trouble("there is no line %d: the log has %d" % (options.line, len(log.lines)))
     told = in_csv if options.csv else in_words
-    write(options.out, "".join(told(log.lines, options, log.profile)).encode())
+    write(options.out, "".join(told(log, options)).encode())
     return FINE
 
 
-def explained(lines, options, profile):
+def explained(log, options):
     """Number, event, answer line, facts and reports of each line asked for."""
-    asked = [options.line] if options.line else range(1, len(lines) + 1)
-    reports, done = inputs.Reports(profile), 0
-    for known in inputs.along(lines, asked, profile.start):
+    asked = [options.line] if options.line else range(1, len(log.lines) + 1)
+    reports, done = inputs.Reports(log.profile), 0
+    for known in inputs.along(log.lines, asked, log.profile.start):
         for place in range(done, known.number):
-            reports.take(lines[place], known.said[inputs.ANSWER * (place - done):inputs.ANSWER * (place - done) + 2])
+            reports.take(log.lines[place][:-1], known.said[inputs.ANSWER * (place - done):inputs.ANSWER * (place - done) + 2])
         done = known.number
-        yield done, lines[done - 1], known.answer, known.facts, reports
+        yield done, log.line(done), known.answer, known.facts, reports
 
 
 def asked_inputs(options, facts, answer):
@@ -67,8 +67,9 @@ def cells(number, facts, answer, reports, profile):
             profiles.quality(fact.passed, profile), inputs.why(facts, number, answer, profile, equal=reports.equal(number))[1]]
 
 
-def in_words(lines, options, profile):
-    for number, line, answer, facts, reports in explained(lines, options, profile):
+def in_words(log, options):
+    profile = log.profile
+    for number, line, answer, facts, reports in explained(log, options):
         octets = answers.octets_of(answer)
         time, event = logs.event_in_words(line, profile.option)
         taken, *rest = answers.meaning(answer, profile).split("; ")
@@ -90,11 +91,12 @@ def table(rows):
         yield (first + "".join("  " + cell.ljust(width) for cell, width in zip(row[1:], widths[1:]))).rstrip() + "\n"
 
 
-def in_csv(lines, options, profile):
+def in_csv(log, options):
+    profile = log.profile
     out = io.StringIO()
     writer = csv.writer(out, lineterminator="\n")
     writer.writerow(CSV)
-    for number, line, answer, facts, reports in explained(lines, options, profile):
+    for number, line, answer, facts, reports in explained(log, options):
         octets = answers.octets_of(answer)
         time, event = logs.event_in_words(line, profile.option)
         for each in range(inputs.INPUTS) if options.input is None else [options.input]:

@@ -15,7 +15,7 @@ import io
 import re
 import sys
 
-from nurrispane import answered, answers, faults, findings, inputs, logs, profiles, reach, timeline
+from nurrispane import answered, answers, findings, inputs, logs, profiles, timeline
 from nurrispane.files import FINDING, FINE, Trouble, name_of, read_text, write
 
 SUMMARY = "where a card's own answers differ from the right ones, and why"
@@ -73,7 +73,7 @@ def without_effect(options):
 
 def by_answers(log, options):
     """How many lines differ, and then what is said of them."""
-    judged = findings.Judged(log, options.answers)
+    judged = findings.ByAnswers(log, options.answers)
     yield judged.count
     if options.csv:
         yield from in_csv(judged)
@@ -140,7 +140,7 @@ def in_csv(judged):
     found, out = {each.first: each for each in findings.stretches(judged.wrong)}, io.StringIO()
     writer = csv.writer(out, lineterminator="\n")
     writer.writerow(CSV)
-    time = lambda number: logs.event_in_words(judged.log.lines[number - 1], judged.log.profile.option)[0]
+    time = lambda number: logs.event_in_words(judged.log.line(number), judged.log.profile.option)[0]
     for number, said in judged.told(found):
         each = found[number]
         writer.writerow([time(number), time(each.last), number, each.last, ", ".join(findings.sort_of(each.right, each.card)), said.right, said.card,
@@ -152,16 +152,18 @@ def in_csv(judged):
 
 def candidates(judged, only):
     """The known faults that would give exactly these answers."""
+    from nurrispane import faults, reach  # only here, since few ask for it
     log = judged.log
     chosen = [fault for fault in faults.of_answers(log.profile.option) if only in fault.name]
     if not chosen:
         raise Trouble("no known fault has %s in its name" % ascii(only))
-    able = reach.able(chosen, log.lines[:judged.wrong[0][0] if judged.wrong else None], log.profile.start)
+    before = [line[:-1] for line in log.lines[:judged.wrong[0][0] if judged.wrong else None]]
+    able = reach.able(chosen, before, log.profile.start)
     if len(able) < len(chosen):
         sys.stderr.write("judge: %d of %d known faults can change an answer up to the first wrong one\n" % (len(able), len(chosen)))
     faults.prepare(able, "judge")
-    data, card = b"".join(line + b"\n" for line in log.lines), judged.card.flat.split(b"\n")[:-1]
-    same = [fault.name for fault in able if alike(faults.run(faults.build(fault), "replay", data, log.profile.start), card)]
+    card = judged.card.flat.split(b"\n")[:-1]
+    same = [fault.name for fault in able if alike(faults.run(faults.build(fault), "replay", log.data, log.profile.start), card)]
     if same:
         yield "candidates: a card with one of these known faults would give exactly these answers"
         yield from ("  " + name for name in same)
@@ -184,14 +186,14 @@ def by_times(log, options):
     if not card:
         raise Trouble("%s shows nothing, so there is no verdict" % name_of(options.times))
     # what is right behind the log's end, if no further event comes; refused where the card ends first
-    ticked = timeline.served(log.lines + [timeline.tick(card[-1][0], log.lines)], log.profile.start)
+    ticked = timeline.served(log.lines + [timeline.tick_line(card[-1][0], log.profile.option)], log.profile)
     right = timeline.selections(ticked)
     last = right[-1][0]
     found = [each for each in timeline.differences(right, [(0, None), *card], last) if each.end - each.start > tolerance]
     yield len(found)
     yield "times: 0 to %s ms; selections: %d; wrong for more than %d ms: %d\n" % (format(last, ","), len(card), tolerance, len(found))
     places = {each.start: ticked.line_at(each.start) for each in found[:MOST_SORTS]}
-    facts = inputs.after(ticked.lines, places.values(), log.profile.start)
+    facts = {known.number: known.facts for known in inputs.along(ticked.lines, sorted(set(places.values())), log.profile.start)}
     for each in found[:MOST_SORTS]:
         place = places[each.start]
         yield "\nfrom %s to %s ms: %s is right, the card has %s\n" % (

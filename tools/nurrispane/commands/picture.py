@@ -45,7 +45,7 @@ def drawn(log, options):
     judged = None
     if options.answers is not None:
         logs.judged_by(log)
-        judged, title = findings.Judged(log, options.answers), "%s and %s" % (log.name, name_of(options.answers))
+        judged, title = findings.ByAnswers(log, options.answers), "%s and %s" % (log.name, name_of(options.answers))
         found = judged.count
         summary += "; " + judged.summary()
     course = timeline.Course(log)
