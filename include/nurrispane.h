@@ -124,8 +124,9 @@
  * aligned to 8; the codes 16; the words 32; a frame that was read 9; the senders 1,544, aligned to 8;
  * one sender 96; a unit 1,368, aligned to 8. There is no padding in any of them, so cards and senders can be compared by memcmp() and summed by a checksum.
  *
- * No call takes more stack than NURRISPANE_STACK; docs/BENCHMARKS.md has what each takes, and
- * tests/card measures it anew.
+ * No call takes more stack than NURRISPANE_STACK, whatever it is lent: no function calls itself or one by a
+ * pointer, and tests/stack-bounds derives the most from the machine code. docs/BENCHMARKS.md has what each
+ * takes, and tests/card measures it anew.
  */
 #ifndef NURRISPANE_H
 #define NURRISPANE_H
@@ -560,8 +561,8 @@ uint32_t nurrispane_unit_octets(void);
  * Starts a unit with a profile, as nurrispane_fresh() does a card, and a minimum of the station output:
  * 1 to 4, in option II 1 to 8. Both cards are fresh then, whatever they held, and the output squelches.
  * Another minimum, another option than 1 or 2, or option II with a place above 8, is refused and nothing
- * starts: the unit stays as it was, but for `answer.number` of both cards, which is NURRISPANE_REFUSED_ARGUMENT_OUT_OF_RANGE, and
- * their `served`, 0.
+ * starts: the unit stays as it was, but for `answer.number` of both cards, which is
+ * NURRISPANE_REFUSED_ARGUMENT_OUT_OF_RANGE, and their `served`, 0.
  */
 void nurrispane_unit_fresh(struct nurrispane_unit *unit, uint8_t option, uint8_t place,
                            uint16_t marks, uint8_t minimum);

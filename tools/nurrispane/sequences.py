@@ -151,16 +151,17 @@ def in_words(shows, lines):
 FRESH_CARD, NEED = 10_000, 60_000
 
 
-def chosen(finds, costs, wanted):
-    """Names of sequences that together find all that is wanted: the cheapest a fault first, then none too many."""
-    names, left = [], set(wanted)
+def chosen(finds, costs, wanted, kept=()):
+    """Names of sequences that together find all that is wanted, the kept ones first: the cheapest a fault first, then none too
+    many."""
+    names, left = list(kept), set(wanted).difference(*(finds[name] for name in kept))
     while left:
         name = min(finds, key=lambda name: (costs[name] / max(len(finds[name] & left), 1e-9), name))
         names.append(name)
         left -= finds[name]
     for name in sorted(names, key=lambda name: -costs[name]):
         others = set().union(*(finds[other] for other in names if other != name))
-        if wanted <= others:
+        if wanted <= others and name not in kept:
             names.remove(name)
     return names
 

@@ -207,7 +207,7 @@ module _ (minimum : Quality) (half : Half) (sequence : UnitSequence) where
   own = stateAfter (ownEvents half sequence)
 
   -- the card of a half is that of its selector after its own events
-  half-card : cardIn half (unitCardAfter minimum sequence) ≡ halfCard (halfLatestNumber minimum half sequence) own
+  pub half-card : cardIn half (unitCardAfter minimum sequence) ≡ halfCard (halfLatestNumber minimum half sequence) own
   unfolding unitCardOf
   half-card =
       ap (λ (flat : UnitCard). cardIn half flat) (after-whole minimum sequence) ∙
@@ -268,11 +268,11 @@ half-card-right minimum half sequence =
 -- ---- the station output
 
 module _ (minimum : Quality) (sequence : UnitSequence) where
-  squelched-of : unitCardAfter minimum sequence .squelched ≡ flag (isSquelched (unitAfter minimum sequence))
+  pub squelched-of : unitCardAfter minimum sequence .squelched ≡ flag (isSquelched (unitAfter minimum sequence))
   unfolding unitCardOf
   squelched-of = ap (λ (flat : UnitCard). flat .squelched) (after-whole minimum sequence)
 
-  source-of : unitCardAfter minimum sequence .source ≡ sourceOf (unitAfter minimum sequence)
+  pub source-of : unitCardAfter minimum sequence .source ≡ sourceOf (unitAfter minimum sequence)
   unfolding unitCardOf
   source-of = ap (λ (flat : UnitCard). flat .source) (after-whole minimum sequence)
 

@@ -22,6 +22,8 @@ EXAMPLES = [
     "./nurrispane bench /tmp/ports --ethernet --jitter 200ms",
 ]
 
+# How a signal is made to fail.
+SIGNAL_OFF, LINK_DOWN = "a line: take its signal off", "Ethernet: take its link down"
 # Fewer octets have no Ethernet header: no port can be sent such a frame.
 ETHERNET_HEADER = 14
 CAUSES = ["code misread", "wait cut short", "forced forgotten", "equals traded"]
@@ -179,14 +181,26 @@ def needed(it):
         by_word["signal fail" if word == "signal" and event.argument == 1 else "signal good" if word == "signal" else word].append(event)
     told = lambda word: "%d on input %s" % (len(by_word[word]), logs.ranges(sorted({event.input for event in by_word[word]})))
     commands = sorted(by_word.keys() - {"signal fail", "signal good", "code", "frame", "tick", "word"})
-    yield "needs a console: %s" % (", ".join("%s %d" % (word, len(by_word[word])) for word in commands) or "no commands")
+    commands = ", ".join("%s %d" % (word, len(by_word[word])) for word in commands)
+    yield "needs settings: %s" % commands if on_ethernet(it) else "needs a console: %s" % (commands or "no commands")
     yield "needs line codes: %s" % (told("code") if "code" in by_word else "none")
-    failing = "%s; fails: %s" % (told("signal good") if "signal good" in by_word else "none", told("signal fail") if "signal fail" in by_word else "never")
-    yield "needs signals: good: " + failing
+    yield "needs signals: good: %s; fails: %s" % (told("signal good") if "signal good" in by_word else "none", ", ".join(failures(it)) or "never")
     yield "needs looks: %d (tick: read the state)" % len(by_word["tick"])
     lacking = sequences.needs(it.sequence.data, it.answers)
     if lacking:
         yield "needs besides: " + ", ".join(lacking)
+
+
+def failures(it):
+    """How each signal that fails is made to fail, by the kind that its input has then."""
+    kind, ways = words.BY_WORD["kind"], collections.Counter()
+    ethernet = set()
+    for event in it.events:
+        if event.kind == kind.number:
+            (ethernet.add if event.argument == kind.names["ethernet"] else ethernet.discard)(event.input)
+        elif word_of(event) == "signal" and event.argument == 1:
+            ways[event.input, LINK_DOWN if event.input in ethernet else SIGNAL_OFF] += 1
+    return ["%d on input %d (%s)" % (count, number, way) for (number, way), count in sorted(ways.items())]
 
 
 def what_ethernet_plays(it):
@@ -267,11 +281,12 @@ def findings(its, table, amount, ethernet):
     known = len(faults_of(table))
     yield "# What these logs find"
     yield ""
-    yield "%d known faults: %d found by these logs, %d by other logs of the set, %d that %s can find." % (
+    yield "%d known faults: %d found by these logs, %d by other logs of the set, %d %s." % (
         known + len(table.out_of_reach), len(found), known - len(found), len(table.out_of_reach),
-        "no bench of Ethernet ports alone" if ethernet else "no bench")
+        "by no log for Ethernet ports alone" if ethernet else "that no bench can find")
     yield "With a jitter of %d ms %d of them are found with every one of %d seeds." % (
         amount, sum(1 for most in best.values() if most >= amount), jitter.SEEDS)
+    yield from ["\"outgoing\": the codes that the Ethernet ports send, in the order of their numbers."] if ethernet else []
     yield ""
     yield from logs_in_turn(by_name, table)
     groups = [("Last year's cause: " + cause, lambda name, cause=cause: name.startswith(cause)) for cause in CAUSES]
@@ -284,7 +299,7 @@ def findings(its, table, amount, ethernet):
             if belongs(fault) and fault in found:
                 yield "| %s |" % " | ".join(cells_of(shown_by(fault, table, by_name), by_name))
     yield from smaller(table, by_name, amount)
-    yield from ["", "## What no bench of Ethernet ports alone can find" if ethernet else "## What no bench can find", ""]
+    yield from ["", "## What Ethernet ports alone do not find" if ethernet else "## What no bench can find", ""]
     yield from ("* %s: %s" % named for named in table.out_of_reach.items())
 
 
