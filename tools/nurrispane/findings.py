@@ -18,14 +18,20 @@ Told = collections.namedtuple("Told", "head right card reasons")
 
 def stretches(wrong):
     """Wrong lines in a row, right and wrong alike, as one."""
-    found = []
+    found, before = [], None
     for number, right, card in wrong:
-        last = found[-1] if found else None
-        if last and last.last == number - 1 and last.right == right and last.card == card:
-            found[-1] = last._replace(last=number)
+        same = difference(right, card)
+        if same == before and found[-1].last == number - 1:
+            found[-1] = found[-1]._replace(last=number)
         else:
             found.append(Lines(number, number, right, card))
+        before = same
     return found
+
+
+def difference(right, card):
+    """Two answers without the number of refusal where that is right."""
+    return (right[2:], card[2:]) if right[:2] == card[:2] else (right, card)
 
 
 @functools.lru_cache(maxsize=None)

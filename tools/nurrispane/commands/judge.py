@@ -87,7 +87,8 @@ def on_the_file(card):
         yield "%s has %s, which are taken as they are meant" % (name, " and ".join(card.forms))
     if card.odd:
         places = logs.ranges([place + 1 for place in sorted(card.odd)][:MOST_SORTS])
-        yield "%d lines of %s are no answers: to line %s%s" % (len(card.odd), name, places, " .." if len(card.odd) > MOST_SORTS else "")
+        more = " .." if len(card.odd) > MOST_SORTS else ""
+        yield "lines of %s that are no answers: %d, to line %s%s" % (name, len(card.odd), places, more)
     for gap in card.lost:
         yield "%s has lost the answer%s to %s" % (name, "" if len(gap) == 1 else "s", gap.told("line"))
     for gap in card.extra:
