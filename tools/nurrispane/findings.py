@@ -102,8 +102,8 @@ class ByShown:
 
     def __init__(self, log, options):
         self.log, self.right = log, programs.replayed(log)
-        self.times = verdicts.times_of(log.lines, self.right)
-        self.shown = shown.taken(options, log, self.first_event())
+        self.times = verdicts.Times(log.lines, self.right)
+        self.shown = shown.taken(options, log, self.times.first_event())
         self.row_times = [row.time for row in self.shown.rows]
         self.question = shown.question(self.shown, options, int(self.times[-1], 16))
         verdict = verdicts.asked(log, self.times, self.shown.tellings(), self.question)
@@ -112,10 +112,6 @@ class ByShown:
         (self.first, self.milliseconds), self.wrong = verdict.judged[0], verdict.stretches[0]
         self.count = len(self.wrong)
         self.received = inputs.Received(log.lines, self.right, log.profile)
-
-    def first_event(self):
-        """The time of the log's first event that is not refused with 1 to 13."""
-        return next((int(time, 16) for at, time in enumerate(self.times) if not verdicts.REFUSED.match(self.right, ANSWER * at)), 0)
 
     def judged(self):
         """What was judged and how, in words."""
