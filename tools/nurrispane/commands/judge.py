@@ -136,8 +136,8 @@ def in_csv(judged):
         each = found[number]
         yield [time(number), time(each.last), number, each.last, ", ".join(findings.sort_of(each.right, each.card)), said.right, said.card,
                " | ".join(said.reasons)]
-    for gap, what in [*((gap, "lost") for gap in judged.card.lost), *((gap, "too many") for gap in judged.card.extra)]:
-        yield ["", "", gap.first + 1, gap.last, what, "", "", gap.told("answer")]
+    for gaps, what, noun in ((judged.card.lost, "lost", "line"), (judged.card.extra, "too many", "answer")):
+        yield from (["", "", gap.first + 1, gap.last, what, "", "", gap.told(noun)] for gap in gaps)
 
 
 def rows_in_csv(rows):
