@@ -28,7 +28,8 @@ class Answered:
         given, self.forms = as_meant(read(path))
         self.path, self.lost, self.extra, self.unmatched = path, [], [], 0
         self.flat, self.count = given, len(right) // WIDTH
-        flat = len(given) == len(right) and given[WIDTH - 1::WIDTH] == b"\n" * self.count
+        # what stands for a lost answer here is none where it is given
+        flat = len(given) == len(right) and given[WIDTH - 1::WIDTH] == b"\n" * self.count and LOST not in given
         if not flat or not self.has_answers(right):
             self.match(words.split_log(given)[0], right)
 

@@ -18,14 +18,20 @@ Told = collections.namedtuple("Told", "head right card reasons")
 
 def stretches(wrong):
     """Wrong lines in a row, right and wrong alike, as one."""
-    found = []
+    found, before = [], None
     for number, right, card in wrong:
-        last = found[-1] if found else None
-        if last and last.last == number - 1 and last.right == right and last.card == card:
-            found[-1] = last._replace(last=number)
+        same = difference(right, card)
+        if same == before and found[-1].last == number - 1:
+            found[-1] = found[-1]._replace(last=number)
         else:
             found.append(Lines(number, number, right, card))
+        before = same
     return found
+
+
+def difference(right, card):
+    """Two answers without the number of refusal where that is right."""
+    return (right[2:], card[2:]) if right[:2] == card[:2] else (right, card)
 
 
 @functools.lru_cache(maxsize=None)
@@ -96,8 +102,8 @@ class ByShown:
 
     def __init__(self, log, options):
         self.log, self.right = log, programs.replayed(log)
-        self.times = verdicts.times_of(log.lines, self.right)
-        self.shown = shown.taken(options, log, self.first_event())
+        self.times = verdicts.Times(log.lines, self.right)
+        self.shown = shown.taken(options, log, self.times.first_event())
         self.row_times = [row.time for row in self.shown.rows]
         self.question = shown.question(self.shown, options, int(self.times[-1], 16))
         verdict = verdicts.asked(log, self.times, self.shown.tellings(), self.question)
@@ -106,10 +112,6 @@ class ByShown:
         (self.first, self.milliseconds), self.wrong = verdict.judged[0], verdict.stretches[0]
         self.count = len(self.wrong)
         self.received = inputs.Received(log.lines, self.right, log.profile)
-
-    def first_event(self):
-        """The time of the log's first event that is not refused with 1 to 13."""
-        return next((int(time, 16) for at, time in enumerate(self.times) if not verdicts.REFUSED.match(self.right, ANSWER * at)), 0)
 
     def judged(self):
         """What was judged and how, in words."""

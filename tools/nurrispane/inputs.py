@@ -275,7 +275,7 @@ class Received:
             return "nothing received"
         kind, said = report.group(1), int(report.group(5) or report.group(4), 16)
         digits = "%04x" % said if kind == WORD else format(said, "04b")
-        return "received %s %s (%s), line %d at %s ms" % (
+        return "last received %s %s (%s), line %d at %s ms" % (
             REPORTED[kind], digits, meant(kind, said, self.names), place + 1, format(int(report.group(2), 16), ","))
 
 

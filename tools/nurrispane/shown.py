@@ -270,8 +270,8 @@ def value(name, place, letter, cell, meant, profile):
     word = meant.get(cell, cell)
     read = READERS[letter](word, profile)
     if read is None:
-        what = {"s": "an input is 0 to 15, or - for none", "c": "a clock state is free, hold or lock", "q": "a quality is %s" % ", ".join(profile.qualities.values()),
-                "w": "a switch is forced N, manual N, or - for none"}[letter]
+        what = {"s": "an input is 0 to 15, or - for none", "c": "a clock state is free, hold or lock",
+                "q": "a quality is %s" % ", ".join(profile.qualities.values()), "w": "a switch is forced N, manual N, or - for none"}[letter]
         raise Trouble("%s:%d: %s, not %s: --as '%s=..' says what it means" % (name, place, what, ascii(word), cell))
     return read
 

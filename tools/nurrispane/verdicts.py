@@ -3,7 +3,7 @@
 A lane is something that a card shows: its answer as a whole, or the code of a port. What is shown holds until the next is shown. It is
 right at a millisecond if it was right at most `late` ms before or is right at most `early` ms after.
 
-    times = verdicts.times_of(log.lines, programs.replayed(log))
+    times = verdicts.Times(log.lines, programs.replayed(log))
     question = verdicts.Question("codes", late=50, early=verdicts.EARLY, end=60_000)
     verdict = verdicts.asked(log, times, [(time, verdicts.code(port, code)), ..], question)
     verdict.stretches[port]     the stretches of a lane that are wrong, in order
@@ -13,7 +13,6 @@ right at a millisecond if it was right at most `late` ms before or is right at m
 
 import bisect
 import collections
-import re
 
 from nurrispane import programs, progress, timeline
 from nurrispane.files import Trouble
@@ -25,9 +24,10 @@ EARLY = 1
 LANES = 16
 # Times are below this.
 TIME_LIMIT = 1 << 48
-# The answer to a line that is refused with 1 to 13, which leaves the state's time.
-REFUSED = re.compile(rb"(?m)^0[1-9a-d]")
-FRESH = b"%012x" % 0
+# An answer's number is 01 to 0d, which leaves the state's time: of its two digits, whether the first and the second may be of these.
+FIRST = bytes(int(digit == b"0"[0]) for digit in range(256))
+SECOND = bytes(int(digit in b"123456789abcd") for digit in range(256))
+TAKEN, FRESH = b"\0", b"%012x" % 0
 
 # What is judged, `codes` or letters of `scqw` (selected, clock state, clock quality, switch with its input), the tolerance, and to
 # which millisecond.
@@ -49,13 +49,26 @@ def code(port, shown):
     return b"%02x%02x" % (port, shown)
 
 
-def times_of(lines, right):
-    """The state's time after each line, in digits, by the right answers."""
-    times = [line[4:16] for line in lines]
-    for refused in REFUSED.finditer(right):
-        place = refused.start() // ANSWER
-        times[place] = times[place - 1] if place else FRESH
-    return times
+class Times:
+    """The state's time after each line of a log, in digits, by the right answers; made where it is asked for."""
+
+    def __init__(self, lines, right):
+        self.lines = lines
+        # whether each line was refused with 1 to 13, by the two digits of its answer
+        first, second = right[0::ANSWER].translate(FIRST), right[1::ANSWER].translate(SECOND)
+        self.refused = (int.from_bytes(first, "big") & int.from_bytes(second, "big")).to_bytes(len(lines), "big")
+
+    def __len__(self):
+        return len(self.lines)
+
+    def __getitem__(self, place):
+        taken = self.refused.rfind(TAKEN, 0, range(len(self.lines))[place] + 1)
+        return FRESH if taken < 0 else self.lines[taken][4:16]
+
+    def first_event(self):
+        """The time of the first line that is not refused with 1 to 13, in ms; 0 where there is none."""
+        taken = self.refused.find(TAKEN)
+        return 0 if taken < 0 else int(self.lines[taken][4:16], 16)
 
 
 def place_of(times, time):

@@ -87,7 +87,8 @@ def on_the_file(card):
         yield "%s has %s, which are taken as they are meant" % (name, " and ".join(card.forms))
     if card.odd:
         places = logs.ranges([place + 1 for place in sorted(card.odd)][:MOST_SORTS])
-        yield "%d lines of %s are no answers: to line %s%s" % (len(card.odd), name, places, " .." if len(card.odd) > MOST_SORTS else "")
+        more = " .." if len(card.odd) > MOST_SORTS else ""
+        yield "lines of %s that are no answers: %d, to line %s%s" % (name, len(card.odd), places, more)
     for gap in card.lost:
         yield "%s has lost the answer%s to %s" % (name, "" if len(gap) == 1 else "s", gap.told("line"))
     for gap in card.extra:
@@ -135,8 +136,8 @@ def in_csv(judged):
         each = found[number]
         yield [time(number), time(each.last), number, each.last, ", ".join(findings.sort_of(each.right, each.card)), said.right, said.card,
                " | ".join(said.reasons)]
-    for gap, what in [*((gap, "lost") for gap in judged.card.lost), *((gap, "too many") for gap in judged.card.extra)]:
-        yield ["", "", gap.first + 1, gap.last, what, "", "", gap.told("answer")]
+    for gaps, what, noun in ((judged.card.lost, "lost", "line"), (judged.card.extra, "too many", "answer")):
+        yield from (["", "", gap.first + 1, gap.last, what, "", "", gap.told(noun)] for gap in gaps)
 
 
 def rows_in_csv(rows):
