@@ -8,7 +8,7 @@ import sys
 import threading
 import time
 
-from nurrispane import durations, hooks, records, stalls, wires, words
+from nurrispane import captures, durations, hooks, records, stalls, wires, words
 from nurrispane.files import ROOT, Trouble, read_text, reason
 
 NS_A_MS = 10**6
@@ -151,7 +151,8 @@ class Play:
             self.wait(zero + event.time * NS_A_MS, zero, progress, clerk)
             if event.kind == words.FRAME_KIND:
                 players.play(event.input, event.octets)
-                self.given += 1
+                # what is no ESMC is no event for anyone, and is not counted on the wire either
+                self.given += captures.is_esmc(event.octets)
             else:
                 clerk.give(said)
         clerk.end()
