@@ -23,7 +23,8 @@ class Ticked:
         ended = timeline.with_ticks(log.lines, ticks)
         self.lines = [line[:-1] for line in ended]
         self.answers = programs.answers("replay", b"".join(ended), profile.start)
-        self.times = [int(time, 16) for time in verdicts.times_of(ended, b"".join(answer + b"\n" for answer in self.answers))]
+        right = verdicts.Times(ended, b"".join(answer + b"\n" for answer in self.answers))
+        self.times = [int(time, 16) for time in right]
 
     def line_at(self, time):
         """The last line whose time is not later; 0 before any."""
