@@ -68,7 +68,8 @@ own-most (P.OptionTwo place marks) = omega arith
 -- what is placed is PROV, and in option I nothing is
 placed-prov : (place : ℕ) (told : Quality) → isPlaced place told ≡ true → told .0 ≡ prov .0
 unfolding isPlaced
-placed-prov place told placed = eqb-true (told .0) (prov .0) (both-first (eqb (told .0) (prov .0)) (not (eqb place 0)) placed)
+placed-prov place told placed =
+    eqb-true (told .0) (prov .0) (both-first (eqb (told .0) (prov .0)) (not (eqb place 0)) placed)
 
 placed-most : (profile : Profile) (told : Quality) → isPlaced (placeOf profile) told ≡ true
     → told .0 ≤ lastClockQuality profile
@@ -99,7 +100,8 @@ module _ (sequence : Sequence) where
       → (1 ≤ candidateSelected past .quality .0) × (candidateSelected past .quality .0 ≤ lastClockQuality profile)
   usable-within on usable =
       let some = something-usable past .0 usable in
-      let told = ap (λ (one : Quality). one .0) (quality-stated past (some .number) (some .passed) (some .isSelected) on) in
+      let told =
+      ap (λ (one : Quality). one .0) (quality-stated past (some .number) (some .passed) (some .isSelected) on) in
       let within : Within (placeOf profile) (floorOf (some .number) (past .history)) (some .passed) =
       subst (λ (one : Profile). Within (placeOf one) (floorOf (some .number) (past .history)) (some .passed)) same
       (some .usable .within on) in
@@ -179,16 +181,43 @@ saidBy-ranged profile (one ∷ rows) sign all =
 
 code-ranged : (profile : Profile) (code : ℕ) → Ranged profile (qualityOfCode profile code)
 unfolding qualityOfCode paperNumber numberInOne lastQuality
-code-ranged P.OptionOne code = saidBy-ranged P.OptionOne (codesOf P.OptionOne) code (omega arith, (omega arith, (omega arith, (omega arith, (omega arith, tt)))))
+code-ranged P.OptionOne code =
+    saidBy-ranged P.OptionOne (codesOf P.OptionOne) code
+    (omega arith, (omega arith, (omega arith, (omega arith, (omega arith, tt)))))
 code-ranged (P.OptionTwo place marks) code =
-    saidBy-ranged (P.OptionTwo place marks) (codesOf (P.OptionTwo place marks)) code
-    (omega arith, (omega arith, (omega arith, (omega arith, (omega arith, (omega arith, (omega arith, (omega arith, (omega arith, tt)))))))))
+    saidBy-ranged (P.OptionTwo place marks) (codesOf (P.OptionTwo place marks)) code (
+      omega arith,
+      (
+        omega arith,
+        (
+          omega arith,
+          (
+            omega arith,
+            (omega arith, (omega arith, (omega arith, (omega arith, (omega arith, tt))))),
+          ),
+        ),
+      ),
+    )
 
 word-ranged : (place marks word : ℕ) → Ranged (P.OptionTwo place marks) (qualityOfWord word)
 unfolding qualityOfWord paperNumber lastQuality
 word-ranged place marks word =
-    saidBy-ranged (P.OptionTwo place marks) words word
-    (omega arith, (omega arith, (omega arith, (omega arith, (omega arith, (omega arith, (omega arith, (omega arith, (omega arith, (omega arith, tt))))))))))
+    saidBy-ranged (P.OptionTwo place marks) words word (
+      omega arith,
+      (
+        omega arith,
+        (
+          omega arith,
+          (
+            omega arith,
+            (
+              omega arith,
+              (omega arith, (omega arith, (omega arith, (omega arith, (omega arith, tt))))),
+            ),
+          ),
+        ),
+      ),
+    )
 
 -- option I knows no word
 words-ranged : (profile : Profile) (kind argument : ℕ) → rowOf (limitsOf profile) kind .known ≡ true → kind ≡ kindWord
@@ -204,7 +233,8 @@ unfolding saidIn
 said-ranged profile kind argument known =
     byBool (eqb kind kindLineCode || eqb kind kindFrame) (λ code. rw code (code-ranged profile argument))
     (λ other.
-    byBool (eqb kind kindWord) (λ word. rw (other, word) (words-ranged profile kind argument known (eqb-true kind kindWord word)))
+    byBool (eqb kind kindWord)
+    (λ word. rw (other, word) (words-ranged profile kind argument known (eqb-true kind kindWord word)))
     (λ none. rw (other, none) (untold-ranged profile)))
 
 -- what has been recorded says qualities in range, and fixes one in range for an input
@@ -231,7 +261,8 @@ known-kind past given none =
 abbrev pastWith : Past → Given → Bool → Bool → Past
 pastWith past given early late =
     cond (not early) past
-    (cond (not late) (withTick past (given .event .time)) (withEvent past (asRecorded (profileOf (past .history)) given)))
+    (cond (not late) (withTick past (given .event .time))
+    (withEvent past (asRecorded (profileOf (past .history)) given)))
 
 sequence-ranged : (sequence : Sequence) (input : ℕ) → HistoryRanged (profileOf sequence) input (recorded sequence)
 unfolding pastOf
@@ -294,9 +325,11 @@ module _ (profile : Profile) (input : ℕ) where
   unfolding frameQuality
   frame-ranged [] time all = failed-ranged profile
   frame-ranged (report ∷ earlier) time all =
-      byBool (ltb time (report .time + frameLife)) (λ lives. rw lives (all .0)) (λ gone. rw gone (failed-ranged profile))
+      byBool (ltb time (report .time + frameLife)) (λ lives. rw lives (all .0))
+      (λ gone. rw gone (failed-ranged profile))
 
-  fixed-within : (history : History) → HistoryRanged profile input history → fixedOf input history ≤ limitsOf profile .fixed
+  fixed-within : (history : History) → HistoryRanged profile input history
+      → fixedOf input history ≤ limitsOf profile .fixed
   unfolding lastArgument
   fixed-within (started own) ranged = omega arith
   fixed-within (event following earlier) ranged = ranged .1

@@ -1,5 +1,5 @@
--- L14 of what C holds. Cites `nothing-shows` and `unit-line-under-test`; of the cards `card-right`, `half-card-right` and
--- `output-card-right`. Assumes nothing.
+-- L14 of what C holds. Cites `nothing-shows` and `unit-line-under-test`; of the cards `card-right` and
+-- `half-card-right`. Assumes nothing.
 use Prim.Native.Nat.{ℕ}
 use mathlib.Core.List.{List, [], _∷_}
 use mathlib.Core.Path.{_≡_, refl, sym, ap, _∙_}
@@ -111,7 +111,8 @@ module _ (minimum : Quality) (one other : Addressed) (earlier otherEarlier : Uni
   shows-in-halves half =
       let none : Telling = tellingOf accepted (halfAfter minimum half earlier) in
       let same : lastTold none (tellings minimum half (one following earlier))
-      ≡ lastTold none (tellings minimum half (other following otherEarlier)) = ap (lastTold none) (nothing .told half) in
+      ≡ lastTold none (tellings minimum half (other following otherEarlier)) =
+      ap (lastTold none) (nothing .told half) in
       let codes =
       card-codes minimum half none one earlier ∙ ap (λ (told : Telling). told .codes) same
       ∙ sym (card-codes minimum half none other otherEarlier) in

@@ -53,7 +53,8 @@ module _ (minimum : Quality) (half : Half) (sequence : UnitSequence) where
   known input within =
       cardStatus-within card input within
       ∙ ap (λ (one : Selector). flatStatus (one .profile) (inputStatus one input)) state
-      ∙ ap (λ (profile : Profile). flatStatus profile (inputStatus (stateAfter own) input)) (sequence-agrees own .profile)
+      ∙ ap (λ (profile : Profile). flatStatus profile (inputStatus (stateAfter own) input))
+      (sequence-agrees own .profile)
       ∙ ap (flatStatus (profileOf (recorded own))) (status-right own .each input (omega arith))
 
 -- THE CALLS THAT ONLY READ A CARD, made on either card of a unit, after every sequence of the unit's events.
@@ -62,7 +63,8 @@ half-card-read minimum half sequence =
     record {
       status = known minimum half sequence;
       frame = λ port event source before answer after write accepts.
-          let written = port-written (cardOfHalf minimum half sequence) port event source before answer after write accepts in
+          let card = cardOfHalf minimum half sequence in
+          let written = port-written card port event source before answer after write accepts in
           written .1
           ∙ ap (λ (code : ℕ). frameOctets source event code ++ drop writtenLength before)
           (port-code minimum half sequence port (written .0));

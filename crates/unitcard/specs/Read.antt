@@ -1,5 +1,5 @@
--- The calls on a card that only read it, made on either card of a unit: what is known of an input, a frame for a port, a
--- question to the senders. Each is by what has happened to that half. Not cited by the code. Assumes nothing.
+-- The calls on a card that only read it, made on either card of a unit: what is known of an input, a frame for a port,
+-- a question to the senders. Each is by what has happened to that half. Not cited by the code. Assumes nothing.
 use Prim.Native.Nat.{ℕ, _≤_}
 use mathlib.Core.Bool.{Bool}
 use mathlib.Core.List.{List, _++_}
@@ -33,7 +33,8 @@ pub record HalfCardRead (minimum : Quality) (half : Half) (sequence : UnitSequen
   -- what is known of an input
   pub status : (input : ℕ) → input ≤ lastInput
       → cardStatus (cardOfHalf minimum half sequence) input
-      ≡ flatStatus (profileOf (recorded (ownEvents half sequence))) (statusBy (recorded (ownEvents half sequence)) input)
+      ≡ flatStatus (profileOf (recorded (ownEvents half sequence)))
+      (statusBy (recorded (ownEvents half sequence)) input)
   -- a frame that is written for a port carries its code, and "octets after 60 are kept"
   pub frame : (port : ℕ) (event : Bool) (source before : List ℕ) (answer : ℕ) (after : List ℕ)
       → WritePort (cardOfHalf minimum half sequence) port event source before answer after → answer ≡ accepted
