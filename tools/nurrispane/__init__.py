@@ -7,8 +7,9 @@ all), `programs` (the proved ones), `words` and `answers` (the language of docs/
 why it isn't selected), `timeline` (what is right and known at any time), `answered` (a card's
 answer lines), `shown` (a table of what a card shows over time), `verdicts` (the verdict on it),
 `findings` (what is wrong with a card, and why), `lanes` and `pictures` (lanes over time, and pages
-of them), `progress` (what a terminal is told), `faults` (the known faults), `sequences` (the
-bench's set), `meetings` (which rules meet in a log).
+of them), `progress` (what a terminal is told), `faults` (the known faults), `reach` (which of them a
+log can show at all), `jitter` (how late a bench is), `sequences` (the bench's set), `meetings` (which
+rules meet in a log).
 
 No rule of the selector stands here: what a line is answered with is asked of the proved
 programs, and what a fault does of the wrong copies of the independent program.

@@ -150,16 +150,18 @@ def rows_in_csv(rows):
 
 def candidates(judged, only):
     """The known faults that would give exactly these answers."""
-    from nurrispane import faults  # only here, since few ask for it
+    from nurrispane import faults, reach  # only here, since few ask for it
     log = judged.log
     chosen = [fault for fault in faults.of_answers(log.profile.option) if only in fault.name]
     if not chosen:
         raise Trouble("no known fault has %s in its name" % ascii(only))
-    unbuilt = [fault for fault in chosen if not faults.path_of(fault).exists()]
-    if unbuilt:
-        sys.stderr.write("judge: building %d known faults, half a second each\n" % len(unbuilt))
+    before = [line[:-1] for line in log.lines[:judged.wrong[0][0] if judged.wrong else None]]
+    able = reach.able(chosen, before, log.profile.start)
+    if len(able) < len(chosen):
+        sys.stderr.write("judge: %d of %d known faults can change an answer up to the first wrong one\n" % (len(able), len(chosen)))
+    faults.prepare(able, "judge")
     card = judged.card.flat.split(b"\n")[:-1]
-    same = [fault.name for fault in chosen if alike(faults.run(faults.build(fault), "replay", log.data, log.profile.start), card)]
+    same = [fault.name for fault in able if alike(faults.run(faults.build(fault), "replay", log.data, log.profile.start), card)]
     if same:
         yield "candidates: a card with one of these known faults would give exactly these answers"
         yield from ("  " + name for name in same)

@@ -1,0 +1,2 @@
+-- Laws of what the code answers, one for each way through.
+pub mod Laws

@@ -1,0 +1,35 @@
+-- `lanes::value_of` meets its contract: each way is a law.
+-- Assumes nothing.
+use borrow.Author.Needs.{needs}
+use Rattle.lanes.proofs.Laws.{lanes-laws}
+use Rattle.lanes.proofs.value_of.Statement.{statement}
+use Rattle.lanes.proofs.value_of.Tie as tie
+
+outgoing-codes-requires : tie.Need-outgoing-codes-requires
+outgoing-codes-requires c κs = search needs
+
+code-value-requires : tie.Need-code-value-requires
+code-value-requires c κs = search needs
+
+returns : tie.Need-returns
+returns c = search lanes-laws
+
+answer-requires : tie.Need-answer-requires
+answer-requires c κs = search needs
+
+answer-value-requires : tie.Need-answer-value-requires
+answer-value-requires c κs = search needs
+
+returns-2 : tie.Need-returns-2
+returns-2 c = search lanes-laws
+
+pub value-of-spec : {M : Type 1} → statement M
+value-of-spec =
+    tie.close
+    (tie.spec
+    outgoing-codes-requires
+    code-value-requires
+    returns
+    answer-requires
+    answer-value-requires
+    returns-2)

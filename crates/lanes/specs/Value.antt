@@ -1,0 +1,87 @@
+-- What is judged of an answer or of a port, as a number, and the place of a number among those that can be right. Cited
+-- by `src/lib.rt`. Assumes nothing.
+use Prim.Native.Nat.{ℕ, _+_, _-_, _*_, _/_, _%_, _≤_}
+use mathlib.Core.Bool.{Bool, _&&_, _||_, cond}
+use mathlib.Core.List.{List}
+use mathlib.Core.Path.{_≡_}
+use lib.Dec.{eqb, leb, ltb}
+use lib.ListN.{getD}
+use Rattle.numbers.specs.declared.Answer.{Answer}
+use Rattle.selector.specs.declared.Selector.{Selector}
+use Rattle.selector.specs.Answer.{answerOf, outgoingCodes}
+use Rattle.lanes.specs.declared.View.{View}
+
+-- an octet if it is judged, otherwise 0
+abbrev pub judgedOctet : Bool → ℕ → ℕ
+judgedOctet test octet = cond test octet 0
+
+-- such an octet is one
+pub record Judging (test : Bool) (octet answer : ℕ) : Type 0 where
+  pub value : answer ≡ judgedOctet test octet
+  pub most : answer ≤ 255
+
+-- what is judged of the five octets of an answer, as one number
+abbrev pub answerValue : View → Answer → ℕ
+answerValue view answer =
+    (((judgedOctet (view .selected) (answer .selected) * 256 + judgedOctet (view .state) (answer .state)) * 256
+    + judgedOctet (view .quality) (answer .quality))
+    * 256
+    + judgedOctet (view .switch) (answer .switch))
+    * 256
+    + judgedOctet (view .switch) (answer .on)
+
+-- the code of a port
+unfoldable pub codeValue : List ℕ → ℕ → ℕ
+codeValue codes lane = cond (ltb lane 16) (getD codes lane 0) 0
+
+-- what a state shows in a lane: the code of a port, or what is judged of the answer
+unfoldable pub valueOf : View → Selector → ℕ → ℕ
+valueOf view state lane = cond (view .codes) (codeValue (outgoingCodes state) lane) (answerValue view (answerOf 0 state))
+
+-- how many numbers have a place
+abbrev pub placeCount : ℕ
+placeCount = 36992
+
+-- the place of a selected input among seventeen, 17 for any other number
+unfoldable pub inputPlace : ℕ → ℕ
+inputPlace number = cond (eqb number 255) 16 (cond (ltb number 16) number 17)
+
+-- the place of no switch, and of one that is not judged
+unfoldable pub noSwitchPlace : ℕ → ℕ
+noSwitchPlace on = cond (eqb on 255) 33 (cond (eqb on 0) 0 34)
+
+-- the place of a switch with its input among 34, 34 for any other numbers
+unfoldable pub switchPlace : ℕ → ℕ → ℕ
+switchPlace switch on =
+    cond (eqb switch 0) (noSwitchPlace on)
+    (cond (ltb 2 switch) 34
+    (cond (ltb on 16) (1 + (switch - 1) * 16 + on)
+    34))
+
+-- the place of four of them, the count for what is never right
+unfoldable pub fourPlace : ℕ → ℕ → ℕ → ℕ → ℕ
+fourPlace selected state quality switch =
+    cond (ltb 16 selected) placeCount
+    (cond (ltb 3 state) placeCount
+    (cond (ltb 15 quality) placeCount
+    (cond (ltb 33 switch) placeCount
+    (((selected * 4 + state) * 16 + quality) * 34 + switch))))
+
+-- the place of what is judged of an answer
+unfoldable pub answerPlace : ℕ → ℕ
+answerPlace value =
+    fourPlace (inputPlace (value / 4294967296 % 256)) (value / 16777216 % 256) (value / 65536 % 256)
+    (switchPlace (value / 256 % 256) (value % 256))
+
+-- the place of a port's code
+unfoldable pub codePlace : ℕ → ℕ → ℕ
+codePlace lane value = cond (ltb 15 value) placeCount (cond (ltb 15 lane) placeCount (lane * 16 + value))
+
+-- the place of a value of a lane
+unfoldable pub placeOf : View → ℕ → ℕ → ℕ
+placeOf view lane value = cond (view .codes) (codePlace lane value) (answerPlace value)
+
+-- a number and its bound
+pub record Placed (is most answer : ℕ) : Type 0 where
+  pub value : answer ≡ is
+  pub bound : answer ≤ most
