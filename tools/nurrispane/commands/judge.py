@@ -75,9 +75,9 @@ def by_answers(log, options):
     yield "lines: %d; answers: %d; wrong: %d%s%s\n" % (len(log.lines), judged.card.count, len(judged.wrong), lost, extra)
     yield from (line + "\n" for line in on_the_file(judged.card))
     yield from every_stretch(judged) if options.all else each_sort(judged)
-    if options.candidates is not None and judged.count:
+    if options.candidates is not None:
         yield "\n"
-        yield from (line + "\n" for line in candidates(judged, options.candidates))
+        yield from (line + "\n" for line in (candidates(judged, options.candidates) if judged.wrong else ["no candidates: no answer is wrong"]))
 
 
 def on_the_file(card):
