@@ -9,7 +9,7 @@ import threading
 import time
 
 from nurrispane import captures, durations, hooks, profiles, records, stalls, wires, words
-from nurrispane.files import ROOT, Trouble, read_text, reason
+from nurrispane.files import ROOT, Trouble, plain, read_text, reason
 
 NS_A_MS = 10**6
 # How long the card is heard before `fresh`, so that it is known what it told before, ms: a heartbeat and a little.
@@ -19,6 +19,8 @@ AFTER = 1_500
 # A wait is cut into pieces, seconds: for the line of progress.
 NAP = 0.5
 LARGEST_PORT = 15
+# A line of progress: what clears it, and its width.
+CLEAR, WIDTH = "\r\x1b[K", 78
 
 
 def ports_of(mapped):
@@ -50,18 +52,21 @@ class Progress:
     """A line on standard error that says how far it is: at a terminal, or not at all."""
 
     def __init__(self, whole, quiet=False):
-        self.whole, self.shown = whole, sys.stderr.isatty() and not quiet
+        # the system's own stream: what is written elsewhere has its controls taken out
+        self.whole, self.stream = whole, sys.__stderr__
+        self.shown = self.stream is not None and self.stream.isatty() and not quiet
 
     def tell(self, done, what):
-        if self.shown:
-            left = durations.in_words(max(self.whole - done, 0))
-            sys.stderr.write(f"\r\x1b[K{durations.in_words(done)} of {durations.in_words(self.whole)}, {left} left: {what}"[:110])
-            sys.stderr.flush()
+        left = durations.in_words(max(self.whole - done, 0))
+        self.show(f"{durations.in_words(done)} of {durations.in_words(self.whole)}, {left} left: {plain(what)}"[:WIDTH])
 
     def end(self):
+        self.show("")
+
+    def show(self, text):
         if self.shown:
-            sys.stderr.write("\r\x1b[K")
-            sys.stderr.flush()
+            self.stream.write(CLEAR + text)
+            self.stream.flush()
 
 
 class Clerk(threading.Thread):
