@@ -48,6 +48,11 @@ def take_real_time():
         raise Trouble(f"no real-time priority: {reason(error)} (CAP_SYS_NICE is missing)") from error
 
 
+def has_real_time():
+    """Whether this thread has it; those that it starts have not."""
+    return os.sched_getscheduler(0) & ~os.SCHED_RESET_ON_FORK == os.SCHED_FIFO
+
+
 class Progress:
     """A line on standard error that says how far it is: at a terminal, or not at all."""
 
@@ -75,9 +80,12 @@ class Clerk(threading.Thread):
     def __init__(self, card, commands):
         super().__init__(daemon=True)
         self.card, self.commands, self.queue, self.trouble = card, commands, queue.Queue(), None
+        self.real_time = has_real_time()
 
     def run(self):
         try:
+            if self.real_time:
+                take_real_time()
             while (said := self.queue.get()) is not None:
                 self.commands.append(self.card.say(said))
         except Trouble as trouble:
@@ -115,7 +123,7 @@ class Play:
     def to(self, card, out, progress, done=0):
         """Plays it to a card through its hook, and writes the record also where it is stopped."""
         recorder, players = wires.Recorder(self.ports), wires.Players(self.ports)
-        watch = stalls.Watch() if os.sched_getscheduler(0) & ~os.SCHED_RESET_ON_FORK == os.SCHED_FIFO else None
+        watch = stalls.Watch() if has_real_time() else None
         recorder.start()
         stopped, self.done = None, done
         try:
