@@ -9,7 +9,7 @@ import threading
 import time
 
 from nurrispane import captures, durations, hooks, records, stalls, wires, words
-from nurrispane.files import ROOT, Trouble, read_text, reason
+from nurrispane.files import ROOT, Trouble, plain, read_text, reason
 
 NS_A_MS = 10**6
 # How long the card is heard before `fresh`, so that it is known what it told before, ms: a heartbeat and a little.
@@ -19,6 +19,8 @@ AFTER = 1_500
 # A wait is cut into pieces, seconds: for the line of progress.
 NAP = 0.5
 LARGEST_PORT = 15
+# A line of progress: what clears it, and its width.
+CLEAR, WIDTH = "\r\x1b[K", 78
 
 
 def ports_of(mapped):
@@ -46,22 +48,30 @@ def take_real_time():
         raise Trouble(f"no real-time priority: {reason(error)} (CAP_SYS_NICE is missing)") from error
 
 
+def has_real_time():
+    """Whether this thread has it; those that it starts have not."""
+    return os.sched_getscheduler(0) & ~os.SCHED_RESET_ON_FORK == os.SCHED_FIFO
+
+
 class Progress:
     """A line on standard error that says how far it is: at a terminal, or not at all."""
 
     def __init__(self, whole, quiet=False):
-        self.whole, self.shown = whole, sys.stderr.isatty() and not quiet
+        # the system's own stream: what is written elsewhere has its controls taken out
+        self.whole, self.stream = whole, sys.__stderr__
+        self.shown = self.stream is not None and self.stream.isatty() and not quiet
 
     def tell(self, done, what):
-        if self.shown:
-            left = durations.in_words(max(self.whole - done, 0))
-            sys.stderr.write(f"\r\x1b[K{durations.in_words(done)} of {durations.in_words(self.whole)}, {left} left: {what}"[:110])
-            sys.stderr.flush()
+        left = durations.in_words(max(self.whole - done, 0))
+        self.show(f"{durations.in_words(done)} of {durations.in_words(self.whole)}, {left} left: {plain(what)}"[:WIDTH])
 
     def end(self):
+        self.show("")
+
+    def show(self, text):
         if self.shown:
-            sys.stderr.write("\r\x1b[K")
-            sys.stderr.flush()
+            self.stream.write(CLEAR + text)
+            self.stream.flush()
 
 
 class Clerk(threading.Thread):
@@ -70,9 +80,12 @@ class Clerk(threading.Thread):
     def __init__(self, card, commands):
         super().__init__(daemon=True)
         self.card, self.commands, self.queue, self.trouble = card, commands, queue.Queue(), None
+        self.real_time = has_real_time()
 
     def run(self):
         try:
+            if self.real_time:
+                take_real_time()
             while (said := self.queue.get()) is not None:
                 self.commands.append(self.card.say(said))
         except Trouble as trouble:
@@ -110,7 +123,7 @@ class Play:
     def to(self, card, out, progress, done=0):
         """Plays it to a card through its hook, and writes the record also where it is stopped."""
         recorder, players = wires.Recorder(self.ports), wires.Players(self.ports)
-        watch = stalls.Watch() if os.sched_getscheduler(0) & ~os.SCHED_RESET_ON_FORK == os.SCHED_FIFO else None
+        watch = stalls.Watch() if has_real_time() else None
         recorder.start()
         stopped, self.done = None, done
         try:

@@ -32,7 +32,7 @@ def verdict_of(played):
         return "wrong", f"The card is wrong: {found} finding{'s' * (found > 1)}"
     if troubles or not played:
         return "none", f"No verdict: {len(troubles)} of {len(played)} sequences could not be judged to the end"
-    return "right", f"Nothing is wrong in {len(played)} sequences, as far as this bench sees"
+    return "right", f"Nothing is wrong in {len(played)} sequence{'s' * (len(played) > 1)}, as far as this bench sees"
 
 
 def rules_of(played):

@@ -80,7 +80,7 @@ def run(options):
         raise Trouble("no sequence is chosen")
     folder = prepared(options.out, options.resume)
     whole = sum(one.length + BESIDE for one in todo if not (options.resume and is_whole(folder / one.path.stem)))
-    say(f"{len(todo)} sequences, about {durations.in_words(whole)}")
+    say(f"{len(todo)} sequence{'s' * (len(todo) > 1)}, about {durations.in_words(whole)}")
     done = all_played(options, todo, folder, whole)
     data = reports.data_of(done, about(options, ports))
     for name, text in (("report.json", reports.in_json(data)), ("report.xml", reports.in_junit(data)), ("report.html", reports.in_html(data, done))):
