@@ -16,7 +16,7 @@ use Rattle.lane.specs.declared.Judged.{Judged}
 use Rattle.lane.specs.Shown.{Telling, Tellings, ToldAt, ToldLast, NothingTold, Stands, Rightness, Good, Wrong}
 use Rattle.lane.specs.Lane.{largest, capped, none, badFrom, wrongFrom, wrongUntil, goesOn, longer, withStretch, wrongCount, marked, firstAfter, toldLane, shownNext, knownLane, overAt, rightNext}
 use Rattle.lane.specs.History.{Happening, isRight, isShown, Happenings, RightIn, tellings, lastRight, judgedNext, laneAfter, endedAfter, stretchesAfter, reachedBy, afterBy, farthest, Orderly, Near}
-use Rattle.lane.specs.Exact.{In, InAny, OverBefore, Apart, lengths, FirstAt, Exact}
+use Rattle.lane.specs.Exact.{In, InAny, OverBefore, Apart, lengths, FirstAt, WrongShown, Valued, Exact}
 
 cons-not-nil : {telling : Telling} {told : Tellings} → telling ∷ told ≡ [] → ⊥
 cons-not-nil {telling} {told} e = let z : _≡_ {A = ℕ} 0 1 = cc in omega arith
@@ -250,6 +250,32 @@ unfolding shownNext
 shown-tidy tolerance lane last when shown limit e l b t =
     tidy-mark (toldLane lane when (capped when 1) shown) _ _ shown limit e l (omega arith)
     (tidy-same lane (toldLane lane when (capped when 1) shown) refl refl t)
+
+-- what the stretches tell after marking
+valued-mark : (Has : ℕ → ℕ → Type 0) (lane : Lane) (from until value : ℕ) (rest : List Stretch)
+    → (lane .stretch .from < lane .stretch .until → Has (lane .stretch .from) (lane .stretch .value))
+    → Valued Has rest
+    → (Between from until from → Has from value)
+    → Valued Has (marked lane from until value .lane .stretch ∷ marked lane from until value .ended ∷ rest)
+unfolding marked
+valued-mark Has lane from until value rest old v new =
+    byBool (leb until from)
+    (λ t. rw t (old, (λ n. absurd (omega arith), v)))
+    (λ t. let some = leb-false until from t in
+    byBool (goesOn (lane .stretch) from)
+    (λ g. rw (t, g) (λ n. old (goes-joined (lane .stretch) from g .0), (λ n. absurd (omega arith), v)))
+    (λ g. rw (t, g) (λ n. new (omega arith, omega arith), (old, v))))
+
+shown-valued : (Has : ℕ → ℕ → Type 0) (tolerance : Tolerance) (lane : Lane) (last when shown : ℕ) (rest : List Stretch)
+    → (lane .stretch .from < lane .stretch .until → Has (lane .stretch .from) (lane .stretch .value))
+    → Valued Has rest
+    → (Between (wrongFrom tolerance last when) (wrongUntil tolerance (capped when 1)) (wrongFrom tolerance last when)
+    → Has (wrongFrom tolerance last when) shown)
+    → Valued Has
+    (shownNext tolerance lane last when shown .lane .stretch ∷ shownNext tolerance lane last when shown .ended ∷ rest)
+unfolding shownNext
+shown-valued Has tolerance lane last when shown rest old v new =
+    valued-mark Has (toldLane lane when (capped when 1) shown) _ _ shown rest old v new
 
 module _ (tolerance : Tolerance) (lane : Lane) (last from to value : ℕ) where
   rightNext-kept : {A : Type 0} (part : Lane → A)
@@ -634,10 +660,10 @@ module _ (tolerance : Tolerance) (near : Near tolerance) where
           e (near .end)
 
       -- and what is marked now is wrong
-      marked-wrong : (time : ℕ) → 0 < afterBy earlier → Between begin over time
-          → WrongIn tolerance (isRight from to right ∷ earlier) time
+      marked-shown : (time : ℕ) → 0 < afterBy earlier → Between begin over time
+          → WrongShown tolerance (isRight from to right ∷ earlier) time (lastShown earlier)
       unfolding overAt
-      marked-wrong time told b =
+      marked-shown time told b =
           let is =
           between-out (max (lane .after) (lane .reached - tolerance .early)) (badFrom (tolerance .late) last)
           (overAt (lane .value) from to right - tolerance .early) (tolerance .end) time b in
@@ -646,7 +672,6 @@ module _ (tolerance : Tolerance) (near : Near tolerance) where
           let stands = last-stands tolerance earlier time (o .4) (rw (← after) (start .0)) told in
           let bad : badFrom (tolerance .late) last ≤ time = is .past in
           let limit : time < overAt (lane .value) from to right - tolerance .early = is .before in (
-            lastShown earlier,
             stands,
             λ g. ⊎-elim
                 (λ r. let q : eqb (lane .value) right ≡ true = eq-eqb (lane .value) right (value ∙ sym (r .0)) in
@@ -657,6 +682,10 @@ module _ (tolerance : Tolerance) (near : Near tolerance) where
                 bad-good tolerance near last time last-near bad (rw kept (k .0)) (rw kept (k .1)))
                 (good-cases time (lastShown earlier) g),
           )
+
+      marked-wrong : (time : ℕ) → 0 < afterBy earlier → Between begin over time
+          → WrongIn tolerance (isRight from to right ∷ earlier) time
+      marked-wrong time told b = let w = marked-shown time told b in (lastShown earlier, w .0, w .1)
 
   -- where nothing is shown nothing is judged
   right-silent : (lane : Lane) (last from to right : ℕ) → lane .after ≡ 0
@@ -765,6 +794,17 @@ module _ (tolerance : Tolerance) (near : Near tolerance) where
 
     when-most : when ≤ farthest
     when-most = let reached = o .0 in let most = reached-most tolerance earlier (o .1) in omega arith
+
+    shown-now : (value : ℕ) → when < nextBy tolerance earlier → WrongShown tolerance earlier when value
+        → WrongShown tolerance (isShown when shown ∷ earlier) when value
+    shown-now value n w =
+        let reached = o .0 in
+        let most = after-now in (
+          ⊎-elim (λ s. inl (inr s))
+              (λ s. let there = told-there tolerance earlier when (omega arith) in absurd (s .0 (there .0) (there .1)))
+              (w .0),
+          w .1,
+        )
 
     module _ (last : ℕ) (kept : last ≡ lastRight earlier shown) where
       bad-now : (Good tolerance (RightIn earlier) when shown → ⊥) → badFrom (tolerance .late) last ≤ when
@@ -922,6 +962,75 @@ module _ (tolerance : Tolerance) (near : Near tolerance) where
       (omega arith)
       (tidy earlier (o .1))
 
+  -- ---- what a stretch tells
+
+  -- what was wrong as far as it was judged stays so
+  shown-still : (happening : Happening) (earlier : Happenings) → Orderly tolerance (happening ∷ earlier)
+      → (time value : ℕ) → time < nextBy tolerance earlier
+      → WrongShown tolerance earlier time value
+      → WrongShown tolerance (happening ∷ earlier) time value
+  shown-still (isRight from to right) earlier o time value n w =
+      (w .0, λ g. w .1 (good-before earlier from to right o time value n g))
+  shown-still (isShown when shown) earlier o time value n w =
+      byLess time when
+      (λ l. (stands-still earlier when shown o time value l (w .0), w .1))
+      (λ l. let next = next-now earlier when shown o in
+      let same : when ≡ time = (let k : time < suc when = lt-more n next in omega arith) in
+      subst (λ m. WrongShown tolerance (isShown when shown ∷ earlier) m value) same
+      (shown-now earlier when shown o value (rw same n)
+      (subst (λ m. WrongShown tolerance earlier m value) (sym same) w)))
+
+  valued-more : (happening : Happening) (earlier : Happenings) → Orderly tolerance (happening ∷ earlier)
+      → (list : List Stretch) → ((time : ℕ) → InAny list time → time < nextBy tolerance earlier)
+      → Valued (WrongShown tolerance earlier) list
+      → Valued (WrongShown tolerance (happening ∷ earlier)) list
+  valued-more happening earlier o [] within v = tt
+  valued-more happening earlier o (stretch ∷ rest) within v = (
+    λ n. shown-still happening earlier o (stretch .from) (stretch .value)
+        (within (stretch .from) (inl (omega arith, n))) (v .0 n),
+    valued-more happening earlier o rest (λ time i. within time (inr i)) (v .1),
+  )
+
+  valued : (happenings : Happenings) → Orderly tolerance happenings
+      → Valued (WrongShown tolerance happenings) (stretchesAfter tolerance happenings)
+  unfolding laneAfter endedAfter
+  valued [] o = (λ n. absurd (omega arith), tt)
+  valued (isRight from to right ∷ earlier) o =
+      let lane = laneAfter tolerance earlier in
+      let last = lastRight earlier (lane .value) in
+      let value : lane .value ≡ lastShown earlier = kept-value tolerance earlier in
+      let after = kept-after tolerance earlier (o .4) in
+      let more =
+      valued-more (isRight from to right) earlier o (stretchesAfter tolerance earlier)
+      (λ time i. agrees earlier (o .4) .within time i .0)
+      (valued earlier (o .4)) in
+      bySame (lane .after) 0
+      (λ e. subst (λ (j : Judged). Valued (WrongShown tolerance (isRight from to right ∷ earlier))
+      (j .lane .stretch ∷ j .ended ∷ endedAfter tolerance earlier))
+      (sym (right-silent lane last from to right e)) (more .0, (λ n. absurd (omega arith), more .1)))
+      (λ n. subst (λ (j : Judged). Valued (WrongShown tolerance (isRight from to right ∷ earlier))
+      (j .lane .stretch ∷ j .ended ∷ endedAfter tolerance earlier))
+      (sym (right-judged lane last from to right n))
+      (valued-mark (WrongShown tolerance (isRight from to right ∷ earlier)) (knownLane lane to) _ _ (lane .value)
+      (endedAfter tolerance earlier) (more .0) (more .1)
+      (λ b. subst (λ v. WrongShown tolerance (isRight from to right ∷ earlier)
+      (wrongFrom tolerance last (max (lane .after) (lane .reached - tolerance .early))) v) (sym value)
+      (marked-shown earlier from to right o lane last after (kept-reached tolerance earlier) value
+      (ap (lastRight earlier) value) (wrongFrom tolerance last (max (lane .after) (lane .reached - tolerance .early)))
+      (let m : afterBy earlier ≡ 0 → ⊥ = λ e. n (after ∙ e) in omega arith) b))))
+  valued (isShown when shown ∷ earlier) o =
+      let lane = laneAfter tolerance earlier in
+      let last = lastRight earlier shown in
+      let more =
+      valued-more (isShown when shown) earlier o (stretchesAfter tolerance earlier)
+      (λ time i. agrees earlier (o .1) .within time i .0)
+      (valued earlier (o .1)) in
+      shown-valued (WrongShown tolerance (isShown when shown ∷ earlier)) tolerance lane last when shown
+      (endedAfter tolerance earlier) (more .0) (more .1)
+      (λ b. let k = now-only earlier when shown o last refl _ b in
+      subst (λ m. WrongShown tolerance (isShown when shown ∷ earlier) m shown) (k .0)
+      (inl (inl (refl, refl)), now-bad earlier when shown o last refl (k .1)))
+
   -- ---- what was shown first
 
   silent-empty : (happenings : Happenings) → afterBy happenings ≡ 0 → tellings happenings ≡ []
@@ -974,6 +1083,7 @@ module _ (tolerance : Tolerance) (near : Near tolerance) where
         apart = (λ n. t .over, t .apart);
         count = tidy-count (laneAfter tolerance happenings) (endedAfter tolerance happenings) _ (a .ends)
             (omega arith) t;
+        value = valued happenings o;
         silent = (
           λ e. silent-empty happenings (sym (kept-after tolerance happenings o) ∙ e),
           λ e. kept-after tolerance happenings o ∙ empty-silent happenings e,

@@ -6,7 +6,7 @@ use mathlib.Core.Logic.{_⊎_, _↔_}
 use mathlib.Core.Path.{_≡_}
 use Rattle.lane.specs.declared.Tolerance.{Tolerance}
 use Rattle.lane.specs.declared.Stretch.{Stretch}
-use Rattle.lane.specs.Shown.{Tellings, Wrong}
+use Rattle.lane.specs.Shown.{Tellings, Stands, Good, Wrong}
 use Rattle.lane.specs.Lane.{wrongCount}
 use Rattle.lane.specs.History.{Happenings, RightIn, tellings, laneAfter, stretchesAfter, reachedBy, Orderly, Near}
 
@@ -40,6 +40,16 @@ FirstAt [] time = ⊥
 FirstAt (telling ∷ []) time = telling .time ≡ time
 FirstAt (telling ∷ other ∷ earlier) time = FirstAt (other ∷ earlier) time
 
+-- a value stands at a millisecond and is not good
+abbrev pub WrongShown : Tolerance → Happenings → ℕ → ℕ → Type 0
+WrongShown tolerance happenings time value =
+    Stands (tellings happenings) time value × (Good tolerance (RightIn happenings) time value → ⊥)
+
+-- each stretch has something of its first millisecond
+abbrev pub Valued : (ℕ → ℕ → Type 0) → List Stretch → Type 0
+Valued Has [] = Unit {0}
+Valued Has (stretch ∷ rest) = (stretch .from < stretch .until → Has (stretch .from) (stretch .value)) × Valued Has rest
+
 -- once it is known what is right to beyond EARLY behind the end
 pub record Exact (tolerance : Tolerance) (happenings : Happenings) : Type 0 where
   -- the wrong milliseconds up to the end are exactly those of the stretches
@@ -50,6 +60,8 @@ pub record Exact (tolerance : Tolerance) (happenings : Happenings) : Type 0 wher
   pub apart : Apart (stretchesAfter tolerance happenings)
   -- and which are counted
   pub count : wrongCount (laneAfter tolerance happenings) ≡ lengths (stretchesAfter tolerance happenings)
+  -- what a stretch tells stood in its first millisecond and was not good
+  pub value : Valued (WrongShown tolerance happenings) (stretchesAfter tolerance happenings)
   -- nothing shown is no verdict
   pub silent : (laneAfter tolerance happenings .after ≡ 0) ↔ (tellings happenings ≡ [])
   -- otherwise it is judged from the first thing shown
