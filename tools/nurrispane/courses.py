@@ -3,10 +3,14 @@ and no bench can know it."""
 
 import bisect
 import collections
+import copy
 
 from nurrispane import hooks, inputs, logs, programs, records, timeline, verdicts, words
 
 TICK = words.BY_WORD["tick"].number
+
+# What began with the fresh start ends so early, ms: in the same order for every card.
+FRESH_ENDS = 300
 
 Race = collections.namedtuple("Race", "limit words")
 
@@ -45,6 +49,17 @@ class Course:
         own = [number for number, line in enumerate(self.ticked.lines[:-1]) if words.event_of(line).kind != TICK]
         facts = inputs.after(self.ticked.lines, own, self.profile.start)
         return [sorted({end for fact in facts[number] for end in (fact.timer, fact.frame) if end}) for number in own]
+
+    def served(self):
+        """(ms, input) of each end of an input that is on, by which a due moment was served; what ends from the fresh start is left out."""
+        found, before = [], []
+        facts_after = inputs.after(self.ticked.lines, range(1, len(self.ticked.lines) + 1), self.profile.start)
+        for number, line in enumerate(self.ticked.lines, 1):
+            facts, time = facts_after[number], words.event_of(line).time
+            if time > FRESH_ENDS:
+                found += [(time, each) for each, fact in enumerate(before) if fact.priority and time in (fact.timer, fact.frame)]
+            before = facts
+        return sorted(found)
 
     def of(self, port):
         """When a port starts to tell what: (ms, code)."""
@@ -117,7 +132,39 @@ def moves(part, place, margin):
     return sorted({max(one.first - margin, least), min(one.last + margin, most)} - {one.first})
 
 
+def close_ends(course, margin):
+    """Pairs of ends of two inputs, each (ms, input), that come within a margin of one another, ms."""
+    ends = course.served()
+    return [(one, other) for place, one in enumerate(ends) for other in ends[place + 1:]
+            if other[0] - one[0] <= margin and other[1] != one[1]]
+
+
+def concerns(one, number):
+    """Whether something played is of an input."""
+    return one.port == number if one.words is None else one.words.split()[1:2] == [str(number)]
+
+
+def race_of_ends(part, course, tolerance):
+    """The first two ends whose order decides what is right: all that was played of one input is moved by the tolerance."""
+    for one, other in close_ends(course, tolerance + 1):
+        for number in (one[1], other[1]):
+            for shift in (-tolerance, tolerance):
+                moved = copy.copy(part)
+                moved.played = [each._replace(first=max(each.first + shift * records.NS_A_MS, 0)) if concerns(each, number) else each
+                                for each in part.played]
+                other_course = Course(records.log_of(moved, course.profile.option), course.end, course.profile)
+                if not agree(course, other_course, part.ports, course.end, tolerance + part.slack() + 1):
+                    return Race(max(one[0] - tolerance, 0), f"of inputs {one[1]} and {other[1]} something ends at {one[0]:,} and at {other[0]:,} ms")
+    return None
+
+
 def race(part, course, tolerance):
+    """The first race; None where there is none."""
+    found = [each for each in (race_of_stimuli(part, course, tolerance), race_of_ends(part, course, tolerance)) if each]
+    return min(found, default=None)
+
+
+def race_of_stimuli(part, course, tolerance):
     """The first thing whose order among others decides what is right; None where there is none."""
     margin, slack = tolerance * records.NS_A_MS, part.slack()
     taken = [place for place, one in enumerate(part.played) if one.reply != hooks.CANNOT]

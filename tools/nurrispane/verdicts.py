@@ -92,9 +92,10 @@ def stream(log, times, shown, early):
         yield b"".join(lines[done:done + programs.PART])
 
 
-def of_ports(timed, tellings, question, start):
-    """The verdict on what ports tell, beside lines of a log with their times: of one time the lines stand first."""
-    events = [(time, 0, place, line + b"\n") for place, (time, line) in enumerate(timed)]
+def of_ports(timed, tellings, question, option, start):
+    """The verdict on what ports tell, beside lines of a log of an option with their times: of one time the lines stand first, and a tick
+    at 0 before all."""
+    events = [(-1, 0, 0, timeline.tick_line(0, option)), *((time, 0, place, line + b"\n") for place, (time, line) in enumerate(timed))]
     told = [(one.time + question.early, 1, place, b"=%012x%s\n" % (one.time, code(one.port, one.code))) for place, one in enumerate(tellings)]
     return read(b"".join(programs.pieces(PROGRAM, [line for *_, line in sorted(events + told)], *question, start=start)))
 

@@ -140,6 +140,8 @@ def roomy(events, option=1):
         course = course_of(events, option)
         shifts = shifts_of(events, course, beats=turn < MOST_TURNS // 2)
         if not any(shifts):
+            if courses.close_ends(course, MARGIN):
+                raise NotForTheWire("two ends at once")
             return events
         moved, late = [], 0
         for one, shift in zip(events, shifts):
