@@ -20,7 +20,7 @@ FACTS = (
     ("what a callee asks is not met", r"`search`: no proof of `\S*\.Reads\.Asked\b"),
     ("a number or an order does not follow", r"`omega`: the goal does not follow"),
     ("two things are not the same", r"the two (?:types|values|terms|sides) (?:first )?differ|expected type .* but this has type"
-     r"|the two types are `[^`]*(?:[≡≤<↔⊎→]|\bPath\b)"),
+     r"|the two types are `[^`]*(?:[≡≤<↔⊎→]|\bPath\b)|the two indices are `"),
     ("an equation is left to prove", r"give a proof of that as the last argument|`(?:rw|simp)` .*leaves|`cc`: "),
     ("no proof of a law", r"`search`: no proof of|no proof of `"),
     ("a goal is left", r"does not follow|does not hold|is not shown|no longer|the goal"),

@@ -26,28 +26,35 @@
  *     static void after_event(void)
  *     {
  *         uint64_t due = nurrispane_next_due(&card);
- *         if (card.answer.clock_state == NURRISPANE_LOCKED)
+ *         if (card.answer.clock_state == NURRISPANE_LOCKED) {
  *             clock_follow(card.answer.selected);
- *         else
+ *         } else {
  *             clock_hold();
- *         timer_at(due < beat ? due : beat);
+ *         }
+ *         timer_at((due < beat) ? due : beat);
  *     }
  *     int on_start(void)
  *     {
- *         if (!NURRISPANE_BELONGS() || !nurrispane_self_test())
- *             return 0;
- *         nurrispane_fresh(&card, NURRISPANE_OPTION_1, 0, 0);
- *         nurrispane_fresh_senders(&senders);
- *         event(NURRISPANE_EVENT_INPUT_KIND, 0, 3, NURRISPANE_INPUT_ETHERNET);
- *         event(NURRISPANE_EVENT_PRIORITY, 0, 3, 1);
- *         event(NURRISPANE_EVENT_WAIT, 0, 3, 0);
- *         event(NURRISPANE_EVENT_SIGNAL, 0, 3, NURRISPANE_SIGNAL_GOOD);
- *         after_event();
- *         return 1;
+ *         int works = 0;
+ *         if (NURRISPANE_BELONGS() && (nurrispane_self_test() == 1U)) {
+ *             nurrispane_fresh(&card, NURRISPANE_OPTION_1, 0, 0);
+ *             nurrispane_fresh_senders(&senders);
+ *             event(NURRISPANE_EVENT_INPUT_KIND, 0, 3, NURRISPANE_INPUT_ETHERNET);
+ *             event(NURRISPANE_EVENT_PRIORITY, 0, 3, 1);
+ *             event(NURRISPANE_EVENT_WAIT, 0, 3, 0);
+ *             event(NURRISPANE_EVENT_SIGNAL, 0, 3, NURRISPANE_SIGNAL_GOOD);
+ *             after_event();
+ *             works = 1;
+ *         }
+ *         return works;
  *     }
  *     void on_signal(uint64_t ms, uint8_t port, int good)
  *     {
- *         event(NURRISPANE_EVENT_SIGNAL, ms, port, good ? NURRISPANE_SIGNAL_GOOD : NURRISPANE_SIGNAL_FAIL);
+ *         if (good != 0) {
+ *             event(NURRISPANE_EVENT_SIGNAL, ms, port, NURRISPANE_SIGNAL_GOOD);
+ *         } else {
+ *             event(NURRISPANE_EVENT_SIGNAL, ms, port, NURRISPANE_SIGNAL_FAIL);
+ *         }
  *         after_event();
  *     }
  *     void on_frame(uint64_t ms, uint8_t port, const uint8_t *frame, size_t length)
@@ -58,12 +65,13 @@
  *     void on_timer(uint64_t ms, const uint8_t source[6])
  *     {
  *         uint8_t frame[NURRISPANE_FRAME_OCTETS];
- *         beat = ms + 100;
+ *         beat = ms + 100U;
  *         event(NURRISPANE_EVENT_TICK, ms, 0, 0);
  *         for (uint8_t port = 0; port < NURRISPANE_INPUTS; port++) {
  *             nurrispane_ask(&senders, &card, port, ms, source, 6, frame, sizeof frame);
- *             if (senders.frame != NURRISPANE_HEARTBEAT_NOTHING)
+ *             if (senders.frame != NURRISPANE_HEARTBEAT_NOTHING) {
  *                 port_send(port, frame, sizeof frame);
+ *             }
  *         }
  *         after_event();
  *     }
@@ -88,9 +96,10 @@
  * - The senders. Likewise from nurrispane_fresh_senders() on, each call handing on what the last
  *   one left, unchanged but for `number` and `frame`, which no function reads. They stand beside
  *   the card and hold nothing of it: a question brings the card, and takes its state as it is.
- * - Pointers. None may be NULL, also where its length is 0 (NURRISPANE_NO_FRAME is there for that).
- *   Each must be good for as many octets as the length says, and one to a struct for the struct; a
- *   frame for a frame event alone, as no other looks at it. Structs are aligned to 8, as C aligns
+ * - Pointers. One to a struct may not be NULL. One to octets may where its length is 0, and
+ *   NURRISPANE_NO_FRAME is there for those who want none. Each must be good for as many octets as the
+ *   length says, and one to a struct for the struct; a frame for a frame event alone, as no other
+ *   looks at it. Structs are aligned to 8, as C aligns
  *   them by itself; octets need no alignment. A length is 64 bits wide on every machine.
  * - Ownership. Nothing is kept after a call returns: no pointer, no static data. What is lent for
  *   writing (no pointer to const) is nobody else's during the call and overlaps nothing else that is
@@ -104,17 +113,20 @@
  *   more than 48, which bounds the time that a call takes. Before the card's `due` an event that tells
  *   its input nothing new, or is refused, takes a small part of it.
  * - The machine. libcard.a is for x86-64 with the System V calling convention, its red zone and its
- *   SSE2 registers included; docs/BENCHMARKS.md has its size, and that of those for Arm. It needs
- *   memcpy, memmove and memset, those for Cortex-M by the names of Arm's convention (__aeabi_memcpy and its
- *   kin): no heap, no floating point, no operating system, and no data that is written.
- *   No call waits.
+ *   SSE2 registers included; docs/BENCHMARKS.md has its size, and that of those for Arm. There and on
+ *   aarch64 and armv7 it needs memcpy, memmove and memset. On a Cortex-M it needs these by the names of
+ *   Arm's convention, __aeabi_memcpy, __aeabi_memcpy4, __aeabi_memcpy8, __aeabi_memmove, __aeabi_memclr and
+ *   __aeabi_memclr4, and on a Cortex-M0+ __aeabi_lmul too, which a compiler's own library has. Nothing
+ *   else: no heap, no floating point, no operating system, and no data that is written. No call waits.
+ *   The libraries for Cortex-M have no unaligned access and may run with the trap for it set.
  *
  * Sizes, in octets: a card 680, aligned to 8; an input 40; an answer 6; what is known of an input 24,
  * aligned to 8; the codes 16; the words 32; a frame that was read 9; the senders 1,544, aligned to 8;
  * one sender 96; a unit 1,368, aligned to 8. There is no padding in any of them, so cards and senders can be compared by memcmp() and summed by a checksum.
  *
- * No call takes more stack than NURRISPANE_STACK; docs/BENCHMARKS.md has what each takes, and
- * tests/card measures it anew.
+ * No call takes more stack than NURRISPANE_STACK, whatever it is lent: no function calls itself or one by a
+ * pointer, and tests/stack-bounds derives the most from the machine code. docs/BENCHMARKS.md has what each
+ * takes, and tests/card measures it anew.
  */
 #ifndef NURRISPANE_H
 #define NURRISPANE_H
@@ -124,37 +136,45 @@
 
 #if defined(__cplusplus)
 extern "C" {
-#define NURRISPANE_HOLDS(fact) static_assert(fact, #fact)
-#define NURRISPANE_ALIGNED(type, octets) static_assert(alignof(type) == octets, #type)
+#define NURRISPANE_HOLDS(fact) static_assert((fact), #fact)
+#define NURRISPANE_ALIGNED(type, octets) static_assert(alignof(type) == (octets), #type)
 #elif defined(__STDC_VERSION__) && __STDC_VERSION__ >= 201112L
-#define NURRISPANE_HOLDS(fact) _Static_assert(fact, #fact)
-#define NURRISPANE_ALIGNED(type, octets) _Static_assert(_Alignof(type) == octets, #type)
+#define NURRISPANE_HOLDS(fact) _Static_assert((fact), #fact)
+#define NURRISPANE_ALIGNED(type, octets) _Static_assert(_Alignof(type) == (octets), #type)
 #else
 /* C99 has no word for it: a field of -1 bits is refused. */
 #define NURRISPANE_NAME(line) NURRISPANE_PASTED(line)
 #define NURRISPANE_PASTED(line) nurrispane_holds_##line
 #define NURRISPANE_HOLDS(fact) struct NURRISPANE_NAME(__LINE__) { unsigned int holds : (fact) ? 1 : -1; }
-#define NURRISPANE_ALIGNED(type, octets) NURRISPANE_HOLDS(offsetof(struct { char first; type then; }, then) == octets)
+#define NURRISPANE_ALIGNED(type, octets) NURRISPANE_HOLDS(offsetof(struct { char first; type then; }, then) == (octets))
 #endif
 
-/* Raised with each change of a struct, of a number or of what a function answers. */
-#define NURRISPANE_VERSION 4
+/*
+ * The constants are unsigned, so that they meet the fields and parameters that they stand for as MISRA C
+ * wants it (10.3, 10.4); there is no enum.
+ */
+
+/* Raised with each change of a struct, of a number or of what a function answers: CHANGES.md. */
+#define NURRISPANE_VERSION 5U
+
+/* Raised with what firmware need only be linked anew for; 0 with each new version. */
+#define NURRISPANE_MINOR 0U
 
 /* Whether the library that was linked is this header's: to be asked once, at the start. */
-#define NURRISPANE_BELONGS()                                               \
-    (nurrispane_version() == NURRISPANE_VERSION &&                         \
-     nurrispane_card_octets() == sizeof(struct nurrispane_card) &&         \
-     nurrispane_senders_octets() == sizeof(struct nurrispane_senders))
+#define NURRISPANE_BELONGS()                                         \
+    ((nurrispane_version() == NURRISPANE_VERSION) &&                 \
+     (nurrispane_card_octets() == sizeof(struct nurrispane_card)) && \
+     (nurrispane_senders_octets() == sizeof(struct nurrispane_senders)))
 
 /* Inputs 0 to 15 are also the outgoing ports. */
-#define NURRISPANE_INPUTS 16
+#define NURRISPANE_INPUTS 16U
 
 /* Stands for no input in an answer. */
-#define NURRISPANE_NO_INPUT 255
+#define NURRISPANE_NO_INPUT 255U
 
 /* "We write 60 octets from a lent six-octet source address" */
-#define NURRISPANE_FRAME_OCTETS 60
-#define NURRISPANE_SOURCE_OCTETS 6
+#define NURRISPANE_FRAME_OCTETS 60U
+#define NURRISPANE_SOURCE_OCTETS 6U
 
 /* The frame of an event that has none, with length 0. */
 #ifdef __cplusplus
@@ -167,52 +187,44 @@ extern "C" {
 #define NURRISPANE_NEVER UINT64_MAX
 
 /* No call takes more stack than this. */
-#define NURRISPANE_STACK 22528
+#define NURRISPANE_STACK 22528U
 
 /*
  * The profile, chosen once, with nurrispane_fresh(). Of option II the place of PROV, 0 for none and
  * 1 to 8 for just below that quality, and the marks of the first-generation ports, bit i for port i,
  * are given with it; option I has neither.
  */
-enum nurrispane_option {
-    NURRISPANE_OPTION_1 = 1,
-    NURRISPANE_OPTION_2 = 2
-};
+#define NURRISPANE_OPTION_1 1U
+#define NURRISPANE_OPTION_2 2U
 
 /* The kinds of input. */
-enum nurrispane_input_kind {
-    NURRISPANE_INPUT_LINE = 0,     /* codes */
-    NURRISPANE_INPUT_ETHERNET = 1, /* frames */
-    NURRISPANE_INPUT_WORDS = 2     /* 1,544 kbit/s words: option II */
-};
+#define NURRISPANE_INPUT_LINE     0U /* codes */
+#define NURRISPANE_INPUT_ETHERNET 1U /* frames */
+#define NURRISPANE_INPUT_WORDS    2U /* 1,544 kbit/s words: option II */
 
 /* The argument of a signal event. In a card and in what is known of an input 1 is good, 0 failing. */
-enum nurrispane_signal {
-    NURRISPANE_SIGNAL_GOOD = 0,
-    NURRISPANE_SIGNAL_FAIL = 1
-};
+#define NURRISPANE_SIGNAL_GOOD 0U
+#define NURRISPANE_SIGNAL_FAIL 1U
 
 /* The kinds of event, with their arguments; where there are two, of option I and of option II. */
-enum nurrispane_event {
-    NURRISPANE_EVENT_SIGNAL = 0x01,        /* enum nurrispane_signal */
-    NURRISPANE_EVENT_FRAME = 0x02,         /* 0; the frame is lent */
-    NURRISPANE_EVENT_LINE_CODE = 0x03,     /* 0 to 15 */
-    NURRISPANE_EVENT_PRIORITY = 0x04,      /* 1 to 16, 1 best; 0 off */
-    NURRISPANE_EVENT_LOCKOUT = 0x05,       /* 1 set, 0 clear */
-    NURRISPANE_EVENT_HOLDOFF = 0x06,       /* 300 to 1,800 ms */
-    NURRISPANE_EVENT_WAIT = 0x07,          /* 0 to 12 minutes */
-    NURRISPANE_EVENT_FIXED_QUALITY = 0x08, /* 1 to 5, 1 to 10; 0 none */
-    NURRISPANE_EVENT_CLEAR_WAIT = 0x09,    /* 0 */
-    NURRISPANE_EVENT_FORCED = 0x0a,        /* 0 */
-    NURRISPANE_EVENT_MANUAL = 0x0b,        /* 0 */
-    NURRISPANE_EVENT_CLEAR_SWITCH = 0x0c,  /* 0; input 0 */
-    NURRISPANE_EVENT_QUALITY_MODE = 0x0d,  /* 0 off, 1 on; input 0 */
-    NURRISPANE_EVENT_SENDING = 0x0e,       /* 0 off, 1 on */
-    NURRISPANE_EVENT_TICK = 0x0f,          /* 0; input 0 */
-    NURRISPANE_EVENT_INPUT_KIND = 0x10,    /* 0 or 1, 0 to 2: enum nurrispane_input_kind */
-    NURRISPANE_EVENT_FLOOR = 0x11,         /* 1 to 4, 1 to 8 */
-    NURRISPANE_EVENT_WORD = 0x12           /* any; option I does not know this kind */
-};
+#define NURRISPANE_EVENT_SIGNAL        0x01U /* NURRISPANE_SIGNAL_GOOD, NURRISPANE_SIGNAL_FAIL */
+#define NURRISPANE_EVENT_FRAME         0x02U /* 0; the frame is lent */
+#define NURRISPANE_EVENT_LINE_CODE     0x03U /* 0 to 15 */
+#define NURRISPANE_EVENT_PRIORITY      0x04U /* 1 to 16, 1 best; 0 off */
+#define NURRISPANE_EVENT_LOCKOUT       0x05U /* 1 set, 0 clear */
+#define NURRISPANE_EVENT_HOLDOFF       0x06U /* 300 to 1,800 ms */
+#define NURRISPANE_EVENT_WAIT          0x07U /* 0 to 12 minutes */
+#define NURRISPANE_EVENT_FIXED_QUALITY 0x08U /* 1 to 5, 1 to 10; 0 none */
+#define NURRISPANE_EVENT_CLEAR_WAIT    0x09U /* 0 */
+#define NURRISPANE_EVENT_FORCED        0x0aU /* 0 */
+#define NURRISPANE_EVENT_MANUAL        0x0bU /* 0 */
+#define NURRISPANE_EVENT_CLEAR_SWITCH  0x0cU /* 0; input 0 */
+#define NURRISPANE_EVENT_QUALITY_MODE  0x0dU /* 0 off, 1 on; input 0 */
+#define NURRISPANE_EVENT_SENDING       0x0eU /* 0 off, 1 on */
+#define NURRISPANE_EVENT_TICK          0x0fU /* 0; input 0 */
+#define NURRISPANE_EVENT_INPUT_KIND    0x10U /* NURRISPANE_INPUT_LINE, _ETHERNET; option II _WORDS too */
+#define NURRISPANE_EVENT_FLOOR         0x11U /* 1 to 4, 1 to 8 */
+#define NURRISPANE_EVENT_WORD          0x12U /* any; option I does not know this kind */
 
 /*
  * The numbers of an answer. Of those that apply to an event the smallest is given. 2 to 13 leave
@@ -221,43 +233,37 @@ enum nurrispane_event {
  * buffer where it refuses. 1, 20 and 21 (a log that does not go back to the old form) are of programs
  * that read logs: not given here.
  */
-enum nurrispane_number {
-    NURRISPANE_ACCEPTED = 0,
-    NURRISPANE_REFUSED_LINE_MALFORMED = 1,        /* not given here */
-    NURRISPANE_REFUSED_KIND_UNKNOWN = 2,
-    NURRISPANE_REFUSED_TIME_TOO_LARGE = 3,        /* at or above 2^48 */
-    NURRISPANE_REFUSED_TIME_BEFORE_STATE = 4,     /* before that of the state */
-    NURRISPANE_REFUSED_INPUT_OUT_OF_RANGE = 5,    /* above 15, also a port; not 0 for 0c, 0d, 0f */
-    NURRISPANE_REFUSED_ARGUMENT_OUT_OF_RANGE = 6, /* also a start with a place above 8 */
-    NURRISPANE_REFUSED_WRONG_INPUT_KIND = 7,      /* code, frame or word for an input of another kind */
-    NURRISPANE_REFUSED_FRAME_LENGTH = 8,          /* not 60 to 1,514 octets */
-    NURRISPANE_REFUSED_FRAME_DESTINATION = 9,
-    NURRISPANE_REFUSED_FRAME_PROTOCOL = 10,       /* octets 13-15 */
-    NURRISPANE_REFUSED_FRAME_ORGANISATION = 11,   /* octets 16-20 */
-    NURRISPANE_REFUSED_FRAME_VERSION = 12,
-    NURRISPANE_REFUSED_FRAME_TLV = 13,            /* octets 25-27 */
-    NURRISPANE_REFUSED_FORCED_BARRED = 14,        /* forced: input off or locked */
-    NURRISPANE_REFUSED_MANUAL_FORCED_STANDS = 15, /* manual: a forced switch stands */
-    NURRISPANE_REFUSED_MANUAL_NOT_ELIGIBLE = 16,  /* manual: input not eligible */
-    NURRISPANE_REFUSED_MANUAL_LOWER_QUALITY = 17, /* manual: an eligible input has lower quality */
-    NURRISPANE_REFUSED_BUFFER_TOO_SHORT = 18,     /* frame buffer under 60 octets */
-    NURRISPANE_REFUSED_SOURCE_NOT_SIX = 19,       /* source address not six octets */
-    NURRISPANE_REFUSED_OUTPUT_TOO_SHORT = 20      /* not given here */
-};
+#define NURRISPANE_ACCEPTED                      0U
+#define NURRISPANE_REFUSED_LINE_MALFORMED        1U  /* not given here */
+#define NURRISPANE_REFUSED_KIND_UNKNOWN          2U
+#define NURRISPANE_REFUSED_TIME_TOO_LARGE        3U  /* at or above 2^48 */
+#define NURRISPANE_REFUSED_TIME_BEFORE_STATE     4U  /* before that of the state */
+#define NURRISPANE_REFUSED_INPUT_OUT_OF_RANGE    5U  /* above 15, also a port; not 0 for 0c, 0d, 0f */
+#define NURRISPANE_REFUSED_ARGUMENT_OUT_OF_RANGE 6U  /* also of a start: option, place, minimum; also a half */
+#define NURRISPANE_REFUSED_WRONG_INPUT_KIND      7U  /* code, frame or word for an input of another kind */
+#define NURRISPANE_REFUSED_FRAME_LENGTH          8U  /* not 60 to 1,514 octets */
+#define NURRISPANE_REFUSED_FRAME_DESTINATION     9U
+#define NURRISPANE_REFUSED_FRAME_PROTOCOL        10U /* octets 13-15 */
+#define NURRISPANE_REFUSED_FRAME_ORGANISATION    11U /* octets 16-20 */
+#define NURRISPANE_REFUSED_FRAME_VERSION         12U
+#define NURRISPANE_REFUSED_FRAME_TLV             13U /* octets 25-27 */
+#define NURRISPANE_REFUSED_FORCED_BARRED         14U /* forced: input off or locked */
+#define NURRISPANE_REFUSED_MANUAL_FORCED_STANDS  15U /* manual: a forced switch stands */
+#define NURRISPANE_REFUSED_MANUAL_NOT_ELIGIBLE   16U /* manual: input not eligible */
+#define NURRISPANE_REFUSED_MANUAL_LOWER_QUALITY  17U /* manual: an eligible input has lower quality */
+#define NURRISPANE_REFUSED_BUFFER_TOO_SHORT      18U /* frame buffer under 60 octets */
+#define NURRISPANE_REFUSED_SOURCE_NOT_SIX        19U /* source address not six octets */
+#define NURRISPANE_REFUSED_OUTPUT_TOO_SHORT      20U /* not given here */
 
 /* The clock states. */
-enum nurrispane_clock_state {
-    NURRISPANE_FREE_RUN = 0,
-    NURRISPANE_HOLDOVER = 1,
-    NURRISPANE_LOCKED = 2
-};
+#define NURRISPANE_FREE_RUN 0U
+#define NURRISPANE_HOLDOVER 1U
+#define NURRISPANE_LOCKED   2U
 
 /* The operator's switch. */
-enum nurrispane_switch {
-    NURRISPANE_SWITCH_NONE = 0,
-    NURRISPANE_SWITCH_FORCED = 1,
-    NURRISPANE_SWITCH_MANUAL = 2
-};
+#define NURRISPANE_SWITCH_NONE   0U
+#define NURRISPANE_SWITCH_FORCED 1U
+#define NURRISPANE_SWITCH_MANUAL 2U
 
 /*
  * Qualities, lower is better. Option I: 1 PRC, 2 SSU-A, 3 SSU-B, 4 SEC, 5 DNU. Option II: 1 PRS, 2
@@ -273,7 +279,7 @@ struct nurrispane_input {
     uint8_t wait;     /* minutes */
     uint8_t priority; /* 1 to 16; 0 off */
     uint8_t fixed;    /* fixed quality; 0 none */
-    uint8_t kind;     /* enum nurrispane_input_kind */
+    uint8_t kind;     /* NURRISPANE_INPUT_LINE, _ETHERNET or _WORDS */
     uint8_t locked;   /* lockout */
     uint8_t sending;  /* SSM sending */
     uint8_t frame;    /* the quality that the last recorded frame said */
@@ -293,9 +299,9 @@ struct nurrispane_input {
 struct nurrispane_answer {
     uint8_t number;        /* NURRISPANE_ACCEPTED, or the number of the refusal */
     uint8_t selected;      /* the selected input, or NURRISPANE_NO_INPUT */
-    uint8_t clock_state;   /* enum nurrispane_clock_state */
+    uint8_t clock_state;   /* NURRISPANE_FREE_RUN, _HOLDOVER or _LOCKED */
     uint8_t clock_quality; /* 1 to 4, in option II 1 to 9; 0 with quality mode off */
-    uint8_t switch_kind;   /* enum nurrispane_switch */
+    uint8_t switch_kind;   /* NURRISPANE_SWITCH_NONE, _FORCED or _MANUAL */
     uint8_t switch_input;  /* its input, or NURRISPANE_NO_INPUT */
 };
 
@@ -309,13 +315,13 @@ struct nurrispane_card {
     uint64_t due;         /* nothing is due before this, ms; nurrispane_next_due() says when something is */
     uint8_t mode;         /* quality mode */
     uint8_t held;         /* the clock has been locked after some choice */
-    uint8_t switch_kind;  /* enum nurrispane_switch */
+    uint8_t switch_kind;  /* NURRISPANE_SWITCH_NONE, _FORCED or _MANUAL */
     uint8_t switch_input; /* its input; 255 with no switch */
     uint8_t selection;    /* 1 where an input is selected */
     uint8_t selected;     /* that input; 255 with none */
     struct nurrispane_answer answer;
     uint32_t served;      /* due moments that the last event's tick served, 0 to 48 */
-    uint8_t option;       /* enum nurrispane_option */
+    uint8_t option;       /* NURRISPANE_OPTION_1 or _2 */
     uint8_t place;        /* of PROV, 0 to 8; 0 in option I */
     uint16_t marks;       /* first-generation ports, bit i for port i; 0 in option I */
     uint32_t spare;       /* 0: no padding */
@@ -357,17 +363,15 @@ struct nurrispane_sender {
 };
 
 /* What a question was answered with. */
-enum nurrispane_heartbeat {
-    NURRISPANE_HEARTBEAT_NOTHING = 0,
-    NURRISPANE_HEARTBEAT_INFORMATION = 1,
-    NURRISPANE_HEARTBEAT_EVENT = 2
-};
+#define NURRISPANE_HEARTBEAT_NOTHING     0U
+#define NURRISPANE_HEARTBEAT_INFORMATION 1U
+#define NURRISPANE_HEARTBEAT_EVENT       2U
 
 /* The senders of the sixteen ports, and the answer to the last question. */
 struct nurrispane_senders {
     struct nurrispane_sender ports[NURRISPANE_INPUTS];
     uint32_t number; /* NURRISPANE_ACCEPTED, or the number of the refusal */
-    uint32_t frame;  /* enum nurrispane_heartbeat; NURRISPANE_HEARTBEAT_NOTHING for a refusal */
+    uint32_t frame;  /* NURRISPANE_HEARTBEAT_NOTHING, also for a refusal, _INFORMATION or _EVENT */
 };
 
 /*
@@ -401,9 +405,9 @@ uint32_t nurrispane_self_test(void);
  * Starts a card with a profile: it is fresh then, whatever it held: time 0, quality mode on, no
  * switch, nothing selected; each input a line with priority 0, hold-off 300 ms, wait 5 minutes,
  * sending on, its signal failing. Its answer is that of an accepted event on such a state: 00 ff 00
- * 04 00 ff, in option II 00 ff 00 06 00 ff. `option` is NURRISPANE_OPTION_2, or any other number for
- * option I, for which `place` and `marks` are not looked at. Option II with a place above 8 is
- * refused and nothing starts: the card stays as it was, but for `answer.number`, which is
+ * 04 00 ff, in option II 00 ff 00 06 00 ff. `option` is NURRISPANE_OPTION_1, for which `place` and
+ * `marks` are not looked at, or NURRISPANE_OPTION_2. Any other option, and option II with a place above
+ * 8, is refused and nothing starts: the card stays as it was, but for `answer.number`, which is
  * NURRISPANE_REFUSED_ARGUMENT_OUT_OF_RANGE, and `served`, 0.
  */
 void nurrispane_fresh(struct nurrispane_card *card, uint8_t option, uint8_t place, uint16_t marks);
@@ -512,7 +516,7 @@ void nurrispane_ask(struct nurrispane_senders *senders, const struct nurrispane_
  * 2 Mbit/s station output, which squelches; crates/unit and crates/unitcard. Its four functions are
  * in libunitcard.a, what `rt staticlib unitcard` writes, and for Arm `tools/card-for-arm unitcard`; all
  * others are in libcard.a: firmware with a unit links both, and neither has a name that the other has.
- * It needs memcpy and memmove.
+ * It needs no other functions than the card's.
  *
  * What C owes is what it owes of a card, of the unit as a whole: start from nurrispane_unit_fresh(),
  * and lend to each call the unit that the last one left, unchanged but for what is the firmware's. Then
@@ -524,10 +528,8 @@ void nurrispane_ask(struct nurrispane_senders *senders, const struct nurrispane_
  */
 
 /* The halves of a unit, by the number that nurrispane_unit_step() takes. */
-enum nurrispane_half {
-    NURRISPANE_EQUIPMENT = 0,
-    NURRISPANE_STATION = 1
-};
+#define NURRISPANE_EQUIPMENT 0U
+#define NURRISPANE_STATION   1U
 
 /*
  * The unit. Only the `answer` of each card, `squelched` and `source` are the firmware's. No due moments
@@ -545,11 +547,11 @@ struct nurrispane_unit {
 
 /* Whether the libraries that were linked are this header's, that of the unit too. */
 #define NURRISPANE_UNIT_BELONGS()                                                  \
-    (NURRISPANE_BELONGS() && nurrispane_unit_version() == NURRISPANE_VERSION &&    \
-     nurrispane_unit_octets() == sizeof(struct nurrispane_unit))
+    (NURRISPANE_BELONGS() && (nurrispane_unit_version() == NURRISPANE_VERSION) &&  \
+     (nurrispane_unit_octets() == sizeof(struct nurrispane_unit)))
 
 /* No call on a unit takes more stack than this. */
-#define NURRISPANE_UNIT_STACK 20480
+#define NURRISPANE_UNIT_STACK 20480U
 
 /* The version of the unit's library, and how many octets it takes a unit to have. */
 uint32_t nurrispane_unit_version(void);
@@ -558,18 +560,20 @@ uint32_t nurrispane_unit_octets(void);
 /*
  * Starts a unit with a profile, as nurrispane_fresh() does a card, and a minimum of the station output:
  * 1 to 4, in option II 1 to 8. Both cards are fresh then, whatever they held, and the output squelches.
- * Another minimum, or option II with a place above 8, is refused and nothing starts: the unit stays as
- * it was, but for `answer.number` of both cards, which is NURRISPANE_REFUSED_ARGUMENT_OUT_OF_RANGE, and
- * their `served`, 0.
+ * Another minimum, another option than 1 or 2, or option II with a place above 8, is refused and nothing
+ * starts: the unit stays as it was, but for `answer.number` of both cards, which is
+ * NURRISPANE_REFUSED_ARGUMENT_OUT_OF_RANGE, and their `served`, 0.
  */
 void nurrispane_unit_fresh(struct nurrispane_unit *unit, uint8_t option, uint8_t place,
                            uint16_t marks, uint8_t minimum);
 
 /*
  * One event: `*unit` becomes the unit after it, with an answer of each selector. Reports (signal, frame,
- * line code and, in option II, word), input kinds and ticks go to both, whatever `half` is. Any other
- * event, an unknown kind too, is a command and goes to the one that `half` says: NURRISPANE_STATION, or
- * any other number for the equipment's; to the other it is a tick of that time, and answered as one.
+ * line code and, in option II, word), input kinds and ticks go to both, whichever `half` says. Any other
+ * event, an unknown kind too, is a command and goes to the one that `half` says, NURRISPANE_EQUIPMENT or
+ * NURRISPANE_STATION; to the other it is a tick of that time, and answered as one. Any other number for a
+ * half is refused whatever the event is: both answers have NURRISPANE_REFUSED_ARGUMENT_OUT_OF_RANGE, and
+ * the unit, its time too, is as it was.
  * The time is held against the unit's; an event whose time passes first ticks both, so a refusal with 2
  * or 5 to 17 leaves what that tick leaves. The numbers and the frame are as in nurrispane_step().
  *
@@ -581,89 +585,89 @@ void nurrispane_unit_step(struct nurrispane_unit *unit, uint8_t half, uint8_t ki
                           uint64_t frame_length);
 
 /* The layout that the library was built with. */
-NURRISPANE_HOLDS(sizeof(struct nurrispane_input) == 40);
-NURRISPANE_HOLDS(offsetof(struct nurrispane_input, framed) == 0);
-NURRISPANE_HOLDS(offsetof(struct nurrispane_input, start) == 8);
-NURRISPANE_HOLDS(offsetof(struct nurrispane_input, holdoff) == 16);
-NURRISPANE_HOLDS(offsetof(struct nurrispane_input, wait) == 18);
-NURRISPANE_HOLDS(offsetof(struct nurrispane_input, priority) == 19);
-NURRISPANE_HOLDS(offsetof(struct nurrispane_input, fixed) == 20);
-NURRISPANE_HOLDS(offsetof(struct nurrispane_input, kind) == 21);
-NURRISPANE_HOLDS(offsetof(struct nurrispane_input, locked) == 22);
-NURRISPANE_HOLDS(offsetof(struct nurrispane_input, sending) == 23);
-NURRISPANE_HOLDS(offsetof(struct nurrispane_input, frame) == 24);
-NURRISPANE_HOLDS(offsetof(struct nurrispane_input, line) == 25);
-NURRISPANE_HOLDS(offsetof(struct nurrispane_input, count) == 26);
-NURRISPANE_HOLDS(offsetof(struct nurrispane_input, signal) == 27);
-NURRISPANE_HOLDS(offsetof(struct nurrispane_input, good) == 28);
-NURRISPANE_HOLDS(offsetof(struct nurrispane_input, failed) == 29);
-NURRISPANE_HOLDS(offsetof(struct nurrispane_input, up) == 30);
-NURRISPANE_HOLDS(offsetof(struct nurrispane_input, floor) == 31);
-NURRISPANE_HOLDS(offsetof(struct nurrispane_input, last) == 32);
-NURRISPANE_HOLDS(offsetof(struct nurrispane_input, spare2) == 34);
-NURRISPANE_HOLDS(offsetof(struct nurrispane_input, spare4) == 36);
-NURRISPANE_HOLDS(sizeof(struct nurrispane_answer) == 6);
-NURRISPANE_HOLDS(offsetof(struct nurrispane_answer, number) == 0);
-NURRISPANE_HOLDS(offsetof(struct nurrispane_answer, selected) == 1);
-NURRISPANE_HOLDS(offsetof(struct nurrispane_answer, clock_state) == 2);
-NURRISPANE_HOLDS(offsetof(struct nurrispane_answer, clock_quality) == 3);
-NURRISPANE_HOLDS(offsetof(struct nurrispane_answer, switch_kind) == 4);
-NURRISPANE_HOLDS(offsetof(struct nurrispane_answer, switch_input) == 5);
-NURRISPANE_HOLDS(sizeof(struct nurrispane_card) == 680);
-NURRISPANE_HOLDS(offsetof(struct nurrispane_card, inputs) == 0);
-NURRISPANE_HOLDS(offsetof(struct nurrispane_card, time) == 640);
-NURRISPANE_HOLDS(offsetof(struct nurrispane_card, due) == 648);
-NURRISPANE_HOLDS(offsetof(struct nurrispane_card, mode) == 656);
-NURRISPANE_HOLDS(offsetof(struct nurrispane_card, held) == 657);
-NURRISPANE_HOLDS(offsetof(struct nurrispane_card, switch_kind) == 658);
-NURRISPANE_HOLDS(offsetof(struct nurrispane_card, switch_input) == 659);
-NURRISPANE_HOLDS(offsetof(struct nurrispane_card, selection) == 660);
-NURRISPANE_HOLDS(offsetof(struct nurrispane_card, selected) == 661);
-NURRISPANE_HOLDS(offsetof(struct nurrispane_card, answer) == 662);
-NURRISPANE_HOLDS(offsetof(struct nurrispane_card, served) == 668);
-NURRISPANE_HOLDS(offsetof(struct nurrispane_card, option) == 672);
-NURRISPANE_HOLDS(offsetof(struct nurrispane_card, place) == 673);
-NURRISPANE_HOLDS(offsetof(struct nurrispane_card, marks) == 674);
-NURRISPANE_HOLDS(offsetof(struct nurrispane_card, spare) == 676);
-NURRISPANE_ALIGNED(struct nurrispane_card, 8);
-NURRISPANE_HOLDS(sizeof(struct nurrispane_status) == 24);
-NURRISPANE_HOLDS(offsetof(struct nurrispane_status, timer) == 0);
-NURRISPANE_HOLDS(offsetof(struct nurrispane_status, frame) == 8);
-NURRISPANE_HOLDS(offsetof(struct nurrispane_status, number) == 16);
-NURRISPANE_HOLDS(offsetof(struct nurrispane_status, raw) == 17);
-NURRISPANE_HOLDS(offsetof(struct nurrispane_status, passed) == 18);
-NURRISPANE_HOLDS(offsetof(struct nurrispane_status, eligible) == 19);
-NURRISPANE_HOLDS(offsetof(struct nurrispane_status, signal) == 20);
-NURRISPANE_HOLDS(offsetof(struct nurrispane_status, priority) == 21);
-NURRISPANE_HOLDS(offsetof(struct nurrispane_status, locked) == 22);
-NURRISPANE_HOLDS(offsetof(struct nurrispane_status, floor) == 23);
-NURRISPANE_ALIGNED(struct nurrispane_status, 8);
-NURRISPANE_HOLDS(sizeof(struct nurrispane_codes) == 16);
-NURRISPANE_HOLDS(sizeof(struct nurrispane_words) == 32);
-NURRISPANE_HOLDS(sizeof(struct nurrispane_frame) == 9);
-NURRISPANE_HOLDS(offsetof(struct nurrispane_frame, number) == 0);
-NURRISPANE_HOLDS(offsetof(struct nurrispane_frame, code) == 1);
-NURRISPANE_HOLDS(offsetof(struct nurrispane_frame, event) == 2);
-NURRISPANE_HOLDS(offsetof(struct nurrispane_frame, source) == 3);
-NURRISPANE_HOLDS(sizeof(struct nurrispane_sender) == 96);
-NURRISPANE_HOLDS(offsetof(struct nurrispane_sender, times) == 0);
-NURRISPANE_HOLDS(offsetof(struct nurrispane_sender, asked) == 80);
-NURRISPANE_HOLDS(offsetof(struct nurrispane_sender, code) == 88);
-NURRISPANE_HOLDS(offsetof(struct nurrispane_sender, sent) == 92);
-NURRISPANE_HOLDS(sizeof(struct nurrispane_senders) == 1544);
-NURRISPANE_HOLDS(offsetof(struct nurrispane_senders, ports) == 0);
-NURRISPANE_HOLDS(offsetof(struct nurrispane_senders, number) == 1536);
-NURRISPANE_HOLDS(offsetof(struct nurrispane_senders, frame) == 1540);
-NURRISPANE_ALIGNED(struct nurrispane_senders, 8);
-NURRISPANE_HOLDS(sizeof(struct nurrispane_unit) == 1368);
-NURRISPANE_HOLDS(offsetof(struct nurrispane_unit, equipment) == 0);
-NURRISPANE_HOLDS(offsetof(struct nurrispane_unit, station) == 680);
-NURRISPANE_HOLDS(offsetof(struct nurrispane_unit, minimum) == 1360);
-NURRISPANE_HOLDS(offsetof(struct nurrispane_unit, squelched) == 1361);
-NURRISPANE_HOLDS(offsetof(struct nurrispane_unit, source) == 1362);
-NURRISPANE_HOLDS(offsetof(struct nurrispane_unit, spare) == 1363);
-NURRISPANE_HOLDS(offsetof(struct nurrispane_unit, spare4) == 1364);
-NURRISPANE_ALIGNED(struct nurrispane_unit, 8);
+NURRISPANE_HOLDS(sizeof(struct nurrispane_input) == 40U);
+NURRISPANE_HOLDS(offsetof(struct nurrispane_input, framed) == 0U);
+NURRISPANE_HOLDS(offsetof(struct nurrispane_input, start) == 8U);
+NURRISPANE_HOLDS(offsetof(struct nurrispane_input, holdoff) == 16U);
+NURRISPANE_HOLDS(offsetof(struct nurrispane_input, wait) == 18U);
+NURRISPANE_HOLDS(offsetof(struct nurrispane_input, priority) == 19U);
+NURRISPANE_HOLDS(offsetof(struct nurrispane_input, fixed) == 20U);
+NURRISPANE_HOLDS(offsetof(struct nurrispane_input, kind) == 21U);
+NURRISPANE_HOLDS(offsetof(struct nurrispane_input, locked) == 22U);
+NURRISPANE_HOLDS(offsetof(struct nurrispane_input, sending) == 23U);
+NURRISPANE_HOLDS(offsetof(struct nurrispane_input, frame) == 24U);
+NURRISPANE_HOLDS(offsetof(struct nurrispane_input, line) == 25U);
+NURRISPANE_HOLDS(offsetof(struct nurrispane_input, count) == 26U);
+NURRISPANE_HOLDS(offsetof(struct nurrispane_input, signal) == 27U);
+NURRISPANE_HOLDS(offsetof(struct nurrispane_input, good) == 28U);
+NURRISPANE_HOLDS(offsetof(struct nurrispane_input, failed) == 29U);
+NURRISPANE_HOLDS(offsetof(struct nurrispane_input, up) == 30U);
+NURRISPANE_HOLDS(offsetof(struct nurrispane_input, floor) == 31U);
+NURRISPANE_HOLDS(offsetof(struct nurrispane_input, last) == 32U);
+NURRISPANE_HOLDS(offsetof(struct nurrispane_input, spare2) == 34U);
+NURRISPANE_HOLDS(offsetof(struct nurrispane_input, spare4) == 36U);
+NURRISPANE_HOLDS(sizeof(struct nurrispane_answer) == 6U);
+NURRISPANE_HOLDS(offsetof(struct nurrispane_answer, number) == 0U);
+NURRISPANE_HOLDS(offsetof(struct nurrispane_answer, selected) == 1U);
+NURRISPANE_HOLDS(offsetof(struct nurrispane_answer, clock_state) == 2U);
+NURRISPANE_HOLDS(offsetof(struct nurrispane_answer, clock_quality) == 3U);
+NURRISPANE_HOLDS(offsetof(struct nurrispane_answer, switch_kind) == 4U);
+NURRISPANE_HOLDS(offsetof(struct nurrispane_answer, switch_input) == 5U);
+NURRISPANE_HOLDS(sizeof(struct nurrispane_card) == 680U);
+NURRISPANE_HOLDS(offsetof(struct nurrispane_card, inputs) == 0U);
+NURRISPANE_HOLDS(offsetof(struct nurrispane_card, time) == 640U);
+NURRISPANE_HOLDS(offsetof(struct nurrispane_card, due) == 648U);
+NURRISPANE_HOLDS(offsetof(struct nurrispane_card, mode) == 656U);
+NURRISPANE_HOLDS(offsetof(struct nurrispane_card, held) == 657U);
+NURRISPANE_HOLDS(offsetof(struct nurrispane_card, switch_kind) == 658U);
+NURRISPANE_HOLDS(offsetof(struct nurrispane_card, switch_input) == 659U);
+NURRISPANE_HOLDS(offsetof(struct nurrispane_card, selection) == 660U);
+NURRISPANE_HOLDS(offsetof(struct nurrispane_card, selected) == 661U);
+NURRISPANE_HOLDS(offsetof(struct nurrispane_card, answer) == 662U);
+NURRISPANE_HOLDS(offsetof(struct nurrispane_card, served) == 668U);
+NURRISPANE_HOLDS(offsetof(struct nurrispane_card, option) == 672U);
+NURRISPANE_HOLDS(offsetof(struct nurrispane_card, place) == 673U);
+NURRISPANE_HOLDS(offsetof(struct nurrispane_card, marks) == 674U);
+NURRISPANE_HOLDS(offsetof(struct nurrispane_card, spare) == 676U);
+NURRISPANE_ALIGNED(struct nurrispane_card, 8U);
+NURRISPANE_HOLDS(sizeof(struct nurrispane_status) == 24U);
+NURRISPANE_HOLDS(offsetof(struct nurrispane_status, timer) == 0U);
+NURRISPANE_HOLDS(offsetof(struct nurrispane_status, frame) == 8U);
+NURRISPANE_HOLDS(offsetof(struct nurrispane_status, number) == 16U);
+NURRISPANE_HOLDS(offsetof(struct nurrispane_status, raw) == 17U);
+NURRISPANE_HOLDS(offsetof(struct nurrispane_status, passed) == 18U);
+NURRISPANE_HOLDS(offsetof(struct nurrispane_status, eligible) == 19U);
+NURRISPANE_HOLDS(offsetof(struct nurrispane_status, signal) == 20U);
+NURRISPANE_HOLDS(offsetof(struct nurrispane_status, priority) == 21U);
+NURRISPANE_HOLDS(offsetof(struct nurrispane_status, locked) == 22U);
+NURRISPANE_HOLDS(offsetof(struct nurrispane_status, floor) == 23U);
+NURRISPANE_ALIGNED(struct nurrispane_status, 8U);
+NURRISPANE_HOLDS(sizeof(struct nurrispane_codes) == 16U);
+NURRISPANE_HOLDS(sizeof(struct nurrispane_words) == 32U);
+NURRISPANE_HOLDS(sizeof(struct nurrispane_frame) == 9U);
+NURRISPANE_HOLDS(offsetof(struct nurrispane_frame, number) == 0U);
+NURRISPANE_HOLDS(offsetof(struct nurrispane_frame, code) == 1U);
+NURRISPANE_HOLDS(offsetof(struct nurrispane_frame, event) == 2U);
+NURRISPANE_HOLDS(offsetof(struct nurrispane_frame, source) == 3U);
+NURRISPANE_HOLDS(sizeof(struct nurrispane_sender) == 96U);
+NURRISPANE_HOLDS(offsetof(struct nurrispane_sender, times) == 0U);
+NURRISPANE_HOLDS(offsetof(struct nurrispane_sender, asked) == 80U);
+NURRISPANE_HOLDS(offsetof(struct nurrispane_sender, code) == 88U);
+NURRISPANE_HOLDS(offsetof(struct nurrispane_sender, sent) == 92U);
+NURRISPANE_HOLDS(sizeof(struct nurrispane_senders) == 1544U);
+NURRISPANE_HOLDS(offsetof(struct nurrispane_senders, ports) == 0U);
+NURRISPANE_HOLDS(offsetof(struct nurrispane_senders, number) == 1536U);
+NURRISPANE_HOLDS(offsetof(struct nurrispane_senders, frame) == 1540U);
+NURRISPANE_ALIGNED(struct nurrispane_senders, 8U);
+NURRISPANE_HOLDS(sizeof(struct nurrispane_unit) == 1368U);
+NURRISPANE_HOLDS(offsetof(struct nurrispane_unit, equipment) == 0U);
+NURRISPANE_HOLDS(offsetof(struct nurrispane_unit, station) == 680U);
+NURRISPANE_HOLDS(offsetof(struct nurrispane_unit, minimum) == 1360U);
+NURRISPANE_HOLDS(offsetof(struct nurrispane_unit, squelched) == 1361U);
+NURRISPANE_HOLDS(offsetof(struct nurrispane_unit, source) == 1362U);
+NURRISPANE_HOLDS(offsetof(struct nurrispane_unit, spare) == 1363U);
+NURRISPANE_HOLDS(offsetof(struct nurrispane_unit, spare4) == 1364U);
+NURRISPANE_ALIGNED(struct nurrispane_unit, 8U);
 
 #undef NURRISPANE_HOLDS
 #undef NURRISPANE_ALIGNED

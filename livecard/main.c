@@ -13,6 +13,7 @@
 #include <sys/file.h>
 #include <sys/signalfd.h>
 #include <sys/stat.h>
+#include <time.h>
 #include <unistd.h>
 
 #include "card.h"
@@ -29,11 +30,18 @@
 #define CLIENT_ID 32
 #define WOKEN (CLIENT_ID + CLIENTS)
 #define DROPS_NS 1000000000u
+/*
+ * Linux takes the processor from a real-time program that has used it for 950 of 1,000 ms, for 50 ms at a stretch,
+ * and heartbeats would be late by that: after so long without a pause comes a rest, however much there is to do.
+ */
+#define WORK_NS (8 * NS_A_MS)
+#define REST_NS (1 * NS_A_MS)
 
 struct loop {
     int epoll, timer, links, signals;
     int follow_watched;     /* the follower's pipe in epoll, -1 for none */
     uint64_t drops_counted; /* ns */
+    uint64_t rested;        /* ns: when it last slept for as long as a rest */
     bool busy;              /* something is left that no event will tell of */
     struct card card;
 };
@@ -251,16 +259,32 @@ static void round_of(struct card *card, const struct epoll_event *woken, int cou
     loop.busy = loop.busy || ports_are_behind(&card->ports) || ports_have_more(&card->ports);
 }
 
+/* Rests where the loop has worked for long without a pause; `slept` is how long it has just waited. */
+static void rest(uint64_t slept, uint64_t now)
+{
+    const struct timespec pause = {.tv_nsec = REST_NS};
+
+    if (slept < REST_NS && now < loop.rested + WORK_NS)
+        return;
+    /* a rest that a signal cuts short is over */
+    if (slept < REST_NS)
+        nanosleep(&pause, NULL);
+    loop.rested = monotonic_ns();
+}
+
 static void run(struct card *card)
 {
     struct epoll_event woken[WOKEN];
 
     while (!card->quits) {
+        uint64_t begun = monotonic_ns(), now;
         int count = epoll_wait(loop.epoll, woken, WOKEN, loop.busy ? 0 : -1);
-        uint64_t now = monotonic_ns();
 
         if (count < 0 && errno != EINTR)
             fail("nothing can be watched: %s", strerror(errno));
+        now = monotonic_ns();
+        rest(now - begun, now);
+        now = monotonic_ns();
         round_of(card, woken, count < 0 ? 0 : count, now);
         set_timer(card, monotonic_ns());
     }

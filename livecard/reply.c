@@ -59,7 +59,7 @@ static void put_codes(struct text *text, const struct selector *selector)
 
     selector_codes(selector, NURRISPANE_EQUIPMENT, codes);
     put(text, " > ");
-    for (int port = 0; port < PORTS; port++)
+    for (unsigned port = 0; port < PORTS; port++)
         put(text, "%x", codes[port]);
 }
 

@@ -78,7 +78,7 @@ static int put_codes(const struct selector *selector, uint8_t half, char *text)
 
     selector_codes(selector, half, codes);
     text[0] = ' ';
-    for (int port = 0; port < PORTS; port++)
+    for (unsigned port = 0; port < PORTS; port++)
         text[1 + port] = digits[codes[port] & 15];
     return 1 + PORTS;
 }

@@ -30,7 +30,7 @@ struct profile {
 
 /* One event for the library. `half` is looked at by a unit alone. */
 struct event {
-    uint8_t half; /* enum nurrispane_half */
+    uint8_t half; /* NURRISPANE_EQUIPMENT or NURRISPANE_STATION */
     uint8_t kind;
     uint8_t input;
     uint16_t argument;

@@ -68,7 +68,7 @@ static void check_fresh_of(uint8_t option, uint8_t place, uint16_t marks)
     nurrispane_fresh(&card, option, place, marks);
     CHECK(card.option == (two ? NURRISPANE_OPTION_2 : NURRISPANE_OPTION_1));
     CHECK(card.place == (two ? place : 0) && card.marks == (two ? marks : 0) && card.spare == 0);
-    for (int i = 0; i < NURRISPANE_INPUTS; i++) {
+    for (unsigned i = 0; i < NURRISPANE_INPUTS; i++) {
         const struct nurrispane_input *input = &card.inputs[i];
 
         CHECK(input->framed == 0 && input->start == 0);
@@ -91,7 +91,7 @@ static void check_fresh_of(uint8_t option, uint8_t place, uint16_t marks)
     CHECK(card.answer.switch_input == NURRISPANE_NO_INPUT);
 }
 
-/* Option II with a place above 8 is refused, and of the card only its number and its count change. */
+/* An option that is neither, and option II with a place above 8, are refused, and of the card only its number and its count change. */
 static void check_fresh(void)
 {
     struct nurrispane_card card, kept;
@@ -101,7 +101,7 @@ static void check_fresh(void)
         for (unsigned place = 0; place < 256; place++) {
             uint16_t marks = (uint16_t)random_number();
 
-            if (option != NURRISPANE_OPTION_2 || place <= 8) {
+            if (option == NURRISPANE_OPTION_1 || (option == NURRISPANE_OPTION_2 && place <= 8)) {
                 check_fresh_of((uint8_t)option, (uint8_t)place, marks);
                 continue;
             }
@@ -378,7 +378,7 @@ static void check_words(void)
             CHECK(card.answer.clock_quality == (usable ? quality : 6));
             words = outgoing_words(&card);
             codes = outgoing_codes(&card);
-            for (int port = 0; port < NURRISPANE_INPUTS; port++) {
+            for (unsigned port = 0; port < NURRISPANE_INPUTS; port++) {
                 uint8_t told = usable ? quality : 6;
 
                 if (port == 7) {
@@ -393,7 +393,7 @@ static void check_words(void)
             }
             event(NURRISPANE_EVENT_QUALITY_MODE, 13, 0, 0);
             words = outgoing_words(&card);
-            for (int port = 0; port < NURRISPANE_INPUTS; port++)
+            for (unsigned port = 0; port < NURRISPANE_INPUTS; port++)
                 CHECK(words.words[port] == (port == 7 ? 0x08ff : 0x30ff));
         }
     }
@@ -764,7 +764,7 @@ static void check_cards(void)
         CHECK(next.answer.switch_kind < 3 && next.answer.clock_state < 3 && next.served <= 48);
         CHECK(next.answer.selected < 16 || next.answer.selected == NURRISPANE_NO_INPUT);
         CHECK(next.answer.switch_input < 16 || next.answer.switch_input == NURRISPANE_NO_INPUT);
-        for (int port = 0; port < NURRISPANE_INPUTS; port++)
+        for (unsigned port = 0; port < NURRISPANE_INPUTS; port++)
             CHECK(outgoing.codes[port] < 16);
         /* refused at once, or what its own input heard before: the rest of it is as it was */
         wild.inputs[call.input % 16] = next.inputs[call.input % 16];
@@ -781,7 +781,7 @@ static void check_cards(void)
         CHECK(next.held < 2 && next.selection < 2 && next.switch_kind < 3);
         CHECK(next.selected == next.answer.selected);
         CHECK(next.switch_input == next.answer.switch_input);
-        for (int port = 0; port < NURRISPANE_INPUTS; port++) {
+        for (unsigned port = 0; port < NURRISPANE_INPUTS; port++) {
             const struct nurrispane_input *input = &next.inputs[port];
 
             CHECK(input->kind < 3 && input->locked < 2 && input->sending < 2);
@@ -811,6 +811,32 @@ static void check_unread(void)
         }
     }
     munmap(nowhere, 4096);
+}
+
+/* NULL is lent where a length is 0: a frame of none, a buffer of none, an address of none. */
+static void check_null(void)
+{
+    static const uint8_t source[NURRISPANE_SOURCE_OCTETS] = {0x02, 0, 0, 0, 0, 1};
+    uint8_t buffer[NURRISPANE_FRAME_OCTETS];
+    struct nurrispane_card one = fresh(), other = fresh();
+    struct nurrispane_senders senders;
+
+    for (unsigned kind = 0; kind < 256; kind++) {
+        nurrispane_step(&one, (uint8_t)kind, kind, 3, 1, NULL, 0);
+        nurrispane_step(&other, (uint8_t)kind, kind, 3, 1, NURRISPANE_NO_FRAME, 0);
+        CHECK(same(&one, &other));
+    }
+    nurrispane_step(&one, NURRISPANE_EVENT_INPUT_KIND, 300, 3, NURRISPANE_INPUT_ETHERNET, NULL, 0);
+    nurrispane_step(&one, NURRISPANE_EVENT_FRAME, 300, 3, 0, NULL, 0);
+    CHECK(one.answer.number == NURRISPANE_REFUSED_FRAME_LENGTH);
+    CHECK(read_frame(NULL, 0).number == NURRISPANE_REFUSED_FRAME_LENGTH);
+    CHECK(nurrispane_write_frame(&one, 0, 0, source, sizeof source, NULL, 0) == NURRISPANE_REFUSED_BUFFER_TOO_SHORT);
+    CHECK(nurrispane_write_frame(&one, 0, 0, NULL, 0, buffer, sizeof buffer) == NURRISPANE_REFUSED_SOURCE_NOT_SIX);
+    nurrispane_fresh_senders(&senders);
+    nurrispane_ask(&senders, &one, 0, 0, source, sizeof source, NULL, 0);
+    CHECK(senders.number == NURRISPANE_REFUSED_BUFFER_TOO_SHORT);
+    nurrispane_ask(&senders, &one, 0, 0, NULL, 0, buffer, sizeof buffer);
+    CHECK(senders.number == NURRISPANE_REFUSED_SOURCE_NOT_SIX);
 }
 
 /* ---- senders, against the words of document 02: every frame ever sent is kept and looked at */
@@ -864,7 +890,7 @@ static void check_senders(void)
 
     memset(&senders, 0xa5, sizeof senders);
     nurrispane_fresh_senders(&senders);
-    for (int i = 0; i < NURRISPANE_INPUTS; i++) {
+    for (unsigned i = 0; i < NURRISPANE_INPUTS; i++) {
         for (int at = 0; at < 10; at++)
             CHECK(senders.ports[i].times[at] == 0);
         CHECK(senders.ports[i].asked == 0 && senders.ports[i].code == 0);
@@ -1097,6 +1123,7 @@ int main(void)
     check_events();
     check_cards();
     check_unread();
+    check_null();
     check_senders();
     check_stack();
     printf("sizes: card %zu, input %zu, answer %zu, status %zu, codes %zu, words %zu, frame %zu, senders %zu, "

@@ -2,10 +2,13 @@
  * Preloaded into a program for x86-64 Linux, it makes calls of read and write fail. It is told how by the environment:
  *
  *   FAULT_IN=NAME               only the program of that name is touched
- *   FAULT_READ=NUMBER:ERROR     that read of standard input, counted from 1, fails with that errno; the others don't
+ *   FAULT_READ=NUMBER:ERROR     that read, counted from 1, fails with that errno; the others don't. An error of 0: nothing
+ *                               is read, as at the end of a file that has shrunk
  *   FAULT_WRITE=NUMBER:ERROR    that write to standard output likewise
- *   FAULT_READ_PART=OCTETS      each read of standard input hands over at most so many octets
+ *   FAULT_READ_PART=OCTETS      each read hands over at most so many octets
  *   FAULT_WRITE_PART=OCTETS     each write to standard output takes at most so many octets
+ *
+ * Reads are counted of standard input and of files alike: a program has one or the other.
  *
  * No header is asked for, so that the kit's own compiler builds it: tests/faults has the words.
  */
@@ -47,8 +50,9 @@ static long faulty_call(long number, int file, const void *buffer, unsigned long
     const char *fails = is_touched() ? getenv(fail) : 0, *parts = is_touched() ? getenv(part) : 0;
     ++*calls;
     if (fails && number_from(&fails) == *calls) {
-        *__errno_location() = (int)number_from(&fails);
-        return -1;
+        long error = number_from(&fails);
+        *__errno_location() = (int)error;
+        return error ? -1 : 0;
     }
     if (parts) {
         unsigned long most = (unsigned long)number_from(&parts);
@@ -64,10 +68,8 @@ static long faulty_call(long number, int file, const void *buffer, unsigned long
 
 long read(int file, void *buffer, unsigned long size)
 {
-    static long calls, others;
-    if (file == 0)
-        return faulty_call(0, file, buffer, size, "FAULT_READ", "FAULT_READ_PART", &calls);
-    return faulty_call(0, file, buffer, size, "", "", &others);
+    static long calls;
+    return faulty_call(0, file, buffer, size, "FAULT_READ", "FAULT_READ_PART", &calls);
 }
 
 long write(int file, const void *buffer, unsigned long size)

@@ -19,9 +19,7 @@ SOURCE = slice(6, 12)
 
 def replayed(log, start=None):
     """The proved answers to a log."""
-    profiles.given = ()
-    profiles.take_start(start)
-    return b"".join(line + b"\n" for line in programs.answers("replay", log))
+    return b"".join(line + b"\n" for line in programs.answers("replay", log, profiles.start_of(start)))
 
 
 def replayed_unit(events, *start):
@@ -33,9 +31,7 @@ def replayed_unit(events, *start):
 
 def outgoing(log, start=None):
     """After each line: its time and the sixteen codes that go out."""
-    profiles.given = ()
-    profiles.take_start(start)
-    codes = programs.answers("outgoing", log)
+    codes = programs.answers("outgoing", log, profiles.start_of(start))
     times = [words.event_of(line).time for line in log.splitlines()]
     return list(zip(times, [[int(code, 16) for code in line.decode()] for line in codes]))
 
@@ -122,10 +118,13 @@ def dissector():
     return module
 
 
-def wrongly_dissected(name, frames, zero):
-    """How many fields of frames tshark reads otherwise than they should be; says so where it is not there."""
+def wrongly_dissected(name, frames, zero, late):
+    """How many fields of frames tshark reads otherwise than they should be; says so where it is not there.
+
+    A frame may come so many ms late and the next one in time, so eleven may stand closer on the wire by as much."""
     if not shutil.which("tshark"):
         print("tshark is not installed: frames are not dissected")
         return 0
     questions = [(one.port, int((one.at - zero) / NS_A_MS), one.octets[SOURCE].hex()) for one in frames]
-    return dissector().judged(name, questions, [one.octets for one in frames])
+    window = dissector().WINDOW - late
+    return dissector().judged(name, questions, [one.octets for one in frames], window)

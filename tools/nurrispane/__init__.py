@@ -4,8 +4,10 @@
 `commands`. The other modules are what these share: `files` (read and written whole, or not at
 all), `programs` (the proved ones), `words` and `answers` (the language of docs/WORDS.md),
 `captures` (capture files), `inputs` (what is known of each input, and
-why it isn't selected), `timeline` (what is selected between two lines), `pictures` (lanes, and pages of them), `logs` (a log's form), `faults` (the known faults), `sequences` (the bench's set), `meetings` (which
-rules meet in a log).
+why it isn't selected), `timeline` (what is right and known at any time), `answered` (a card's answer lines), `findings` (what is wrong with
+them, and why), `lanes` and `pictures` (lanes over time, and pages of them), `progress` (what a terminal is told), `logs` (a log in hand),
+`faults` (the known faults), `reach` (which of them a log can show at all), `jitter` (how late a bench is), `sequences` (the bench's
+set), `meetings` (which rules meet in a log).
 
 No rule of the selector stands here: what a line is answered with is asked of the proved
 programs, and what a fault does of the wrong copies of the independent program.

@@ -66,13 +66,13 @@ def line_of(answer):
     return ("%02x%s" % (answer.number, answer.shown)).encode()
 
 
-def refusal(number):
+def refusal(number, profile=profiles.OPTION_I):
     """A number of refusal with what it says, as "16, manual: input not eligible"."""
-    told = REFUSALS if profiles.chosen.prov is None else {**REFUSALS, **REFUSALS_II}
+    told = REFUSALS if profile.prov is None else {**REFUSALS, **REFUSALS_II}
     return "%d, %s" % (number, told.get(number, "no number of document 01"))
 
 
-def meaning(line):
+def meaning(line, profile=profiles.OPTION_I):
     """What an answer line says, as "refused (16, manual: input not eligible); locked to input 3, PRC; no switch"."""
     octets = octets_of(line)
     if octets is None:
@@ -83,11 +83,11 @@ def meaning(line):
         clock += " to " + (selection if selected != NONE else "no input")
     elif selected != NONE:
         clock += " with %s selected" % selection
-    taken = "refused (%s)" % refusal(number) if number else "accepted"
+    taken = "refused (%s)" % refusal(number, profile) if number else "accepted"
     switched = "no switch"
     if (switch, switch_input) != (0, NONE):
         switched = "%s to input %d" % (SWITCHES.get(switch) or "switch %02x" % switch, switch_input)
-    return "%s; %s, %s; %s" % (taken, clock, profiles.quality(quality) if quality else "no quality", switched)
+    return "%s; %s, %s; %s" % (taken, clock, profiles.quality(quality, profile) if quality else "no quality", switched)
 
 
 def read(text):

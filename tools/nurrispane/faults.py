@@ -13,9 +13,10 @@ import pathlib
 import re
 import shutil
 import subprocess
+import sys
 import tempfile
 
-from nurrispane import answers, profiles, programs
+from nurrispane import answers, programs
 from nurrispane.files import ROOT, Trouble, reason
 
 SOURCES = ROOT / "tests" / "independent"
@@ -25,6 +26,10 @@ BUILT = ROOT / "target" / "known-faults"
 FLAGS = "-C opt-level=0 -C debug-assertions=off -C overflow-checks=off -C strip=symbols --edition 2021 -A warnings"
 # A copy that takes longer has lost its way; that shows.
 PATIENCE = 60
+# Octets of logs that a copy gets through in a second, at the least.
+SLOWEST = 100_000
+# How many are built between two words on it.
+EVERY = 20
 # What every card shows: its answers, and the codes on its ports.
 SHOWN = ("replay", "outgoing")
 # The modes that take a log. The count of due moments is asked for where a fault shows in nothing else.
@@ -126,31 +131,81 @@ def build(fault, added=None):
     return program
 
 
-def run(program, mode, data):
+def run(program, mode, data, start=()):
     """What a copy says to a log, line by line; None where it doesn't end or has no such mode."""
     try:
-        said = subprocess.run([str(program), mode, *profiles.start_of(mode)], input=data, capture_output=True, timeout=PATIENCE)
+        said = subprocess.run([str(program), mode, *(start if mode in programs.TAKE_START else ())], input=data, capture_output=True, timeout=PATIENCE)
     except subprocess.TimeoutExpired:
         return None
     return said.stdout.split(b"\n")[:-1] if said.returncode == 0 else None
 
 
-class Reference:
-    """The right answers of a log: the proved programs', with which the independent program has to agree."""
+def prepare(chosen, who):
+    """Builds what is not built yet; `who` says on standard error how far it is."""
+    missing = [fault for fault in chosen if not path_of(fault).exists()]
+    if missing:
+        sys.stderr.write("%s: building %d programs, half a second each, once: they are kept\n" % (who, len(missing)))
+    for count, fault in enumerate(missing, 1):
+        build(fault)
+        if count % EVERY == 0 or count == len(missing) > EVERY:
+            sys.stderr.write("%s: %d of %d built\n" % (who, count, len(missing)))
+            sys.stderr.flush()
 
-    def __init__(self, data):
-        self.data, self.right = data, {}
-        self.independent = build(RIGHT)
 
-    def lines(self, mode):
-        """Line by line."""
-        if mode not in self.right:
-            proved = programs.answers(mode, self.data)
-            place = first_difference(proved, run(self.independent, mode, self.data) or [])
-            if place is not None:
-                raise Trouble("line %d: the independent program and the proved %s differ" % (place + 1, mode))
-            self.right[mode] = proved
-        return self.right[mode]
+def several(program, logs):
+    """What a copy says to each of these logs: a line for each of its lines with answer, codes and count. None where
+    it doesn't end."""
+    asked = b"".join(b"%d\n%s" % (len(log), log) for log in logs)
+    try:
+        said = subprocess.run([str(program), "several"], input=asked, capture_output=True, timeout=PATIENCE + len(asked) / SLOWEST)
+        told = said.stdout.split(b"log\n")[1:] if said.returncode == 0 else []
+    except subprocess.TimeoutExpired:
+        told = []
+    if len(told) == len(logs):
+        return told
+    # one of them brings it down: the others are asked without it
+    half = len(logs) // 2
+    return several(program, logs[:half]) + several(program, logs[half:]) if half else [None] * len(logs)
+
+
+def difference(fault, right, wrong):
+    """Where a fault shows first in a log, by what `several` tells: mode, line from 1, right and wrong; None where it doesn't."""
+    if right == wrong:
+        return None
+    one, other = ((told or b"").split(b"\n")[:-1] for told in (right, wrong))
+    places = [place for place, pair in enumerate(zip(one, other)) if pair[0] != pair[1]]
+    if len(one) != len(other):
+        places.append(min(len(one), len(other)))
+    for column, mode in enumerate(LOG_MODES):
+        for place in places if mode in modes(fault) else ():
+            said = [side[place].split(b" ")[column] if place < len(side) else b"" for side in (one, other)]
+            if said[0] != said[1]:
+                return mode, place + 1, *said
+    return None
+
+
+def difference_on_ports(ports, right, wrong):
+    """Where the codes that these ports send differ first, told as `difference` tells it: those of these ports."""
+    if right == wrong:
+        return None
+    sent = [[bytes(line.split(b" ")[1][port] for port in ports) for line in (told or b"").splitlines()] for told in (right, wrong)]
+    first = first_difference(*sent)
+    if first is None:
+        return None
+    return "outgoing", first + 1, *(side[first] if first < len(side) else b"" for side in sent)
+
+
+def rights(logs):
+    """What is right for each of these logs, told as `several` tells it: what the proved programs say, with which the
+    independent program has to agree."""
+    told = several(build(RIGHT), logs)
+    for log, said in zip(logs, told):
+        lines = zip(*(programs.answers(mode, log) for mode in LOG_MODES))
+        proved = b"".join(b" ".join(line) + b"\n" for line in lines)
+        if proved != said:
+            place = first_difference(proved.splitlines(), (said or b"").splitlines())
+            raise Trouble("line %d: the independent program and the proved ones differ" % (place + 1))
+    return told
 
 
 def first_difference(one, other):
@@ -166,17 +221,12 @@ def modes(fault):
     return [mode for mode in LOG_MODES if mode in SHOWN or mode == fault.mode]
 
 
-def find(fault, reference):
+def find(fault, data):
     """Where a log shows a fault first: in its answers, otherwise in the outgoing codes or the fault's own mode. None
     where it doesn't."""
-    program = build(fault)
-    for mode in modes(fault):
-        right, wrong = reference.lines(mode), run(program, mode, reference.data) or []
-        place = first_difference(right, wrong)
-        if place is not None:
-            at = lambda lines: lines[place] if place < len(lines) else b""
-            return Found(fault, mode, place + 1, at(right), at(wrong))
-    return None
+    (right,), (wrong,) = rights([data]), several(build(fault), [data])
+    shown = difference(fault, right, wrong)
+    return shown and Found(fault, *shown)
 
 
 def in_words(mode, line, told=answers.words):

@@ -2,7 +2,7 @@
 
 Such a module has SUMMARY (a line), EXAMPLES (calls that work), `arguments(parser)` and
 `run(options)`, which gives the exit status. With LIVE set its calls need interfaces, and work
-where these are.
+where these are; with PROGRESS set a terminal is told what is being done where that takes long.
 """
 
 import argparse
@@ -14,6 +14,7 @@ import signal
 import sys
 import traceback
 
+from nurrispane import progress
 from nurrispane.files import FINE, TROUBLE, NobodyReads, PlainText, Trouble, name_of, reason, write_out
 
 STATUS = "exit status: 0 fine, 1 a finding, 2 trouble; a file is written whole or not at all"
@@ -64,7 +65,9 @@ def status_of(arguments):
         if word not in words():
             sys.stderr.write(overview() if word is None else "nurrispane: no such word: %s\n%s" % (word, overview()))
             return TROUBLE
-        status = module(word).run(parser_of(word).parse_args(arguments[1:]))
+        options = parser_of(word).parse_args(arguments[1:])
+        with progress.shown(word) if getattr(module(word), "PROGRESS", False) else contextlib.nullcontext():
+            status = module(word).run(options)
         write_out(b"")
         return status
     except NobodyReads:

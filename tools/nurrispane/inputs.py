@@ -2,14 +2,14 @@
 into words. Nothing is worked out here but which of the facts is told."""
 
 import collections
+import functools
 import re
 
-from nurrispane import answers, profiles, programs
-from nurrispane.profiles import quality
+from nurrispane import answers, profiles, programs, progress
 from nurrispane.files import Trouble
+from nurrispane.programs import ANSWER
 
 INPUTS = 16
-ANSWER = 13  # an answer line with its LF
 MARK = b"?"
 # Stands in a malformed line for a mark: the line stays malformed.
 UNMARKED = b"x"
@@ -26,43 +26,100 @@ REPORTS = ("code", "frame", "word")
 
 
 def marked(lines, numbers):
-    """The log up to the last of these lines, a mark after each of them."""
+    """The log up to the last of these lines, which have their LFs, a mark after each of them."""
     done = 0
     for number in numbers:
-        if number > done:
-            yield b"\n".join(lines[done:number]).replace(MARK, UNMARKED) + b"\n"
+        while done < number:
+            end = min(done + programs.PART, number)
+            yield b"".join(lines[done:end]).replace(MARK, UNMARKED)
+            done = end
         yield MARK
-        done = number
 
 
-def along(lines, numbers):
-    """Each of these lines, which rise from 0, before any, with the sixteen facts after it."""
-    numbers = list(numbers)
-    if not numbers:
-        return
-    run = programs.given("facts", b"".join(marked(lines, numbers)))
-    if run.returncode != 0 or run.stderr:
-        said = run.stderr.decode(errors="replace").strip() or "status %d" % run.returncode
-        raise Trouble("the program facts says: %s" % said)
-    told, place, done = run.stdout, 0, 0
+class Known:
+    """What is known after a line: its number, the answers since the last one asked for, the state's time, and of each input
+    the rest of its row, which `facts` reads."""
+
+    def __init__(self, number, said, rows):
+        self.number, self.said = number, said
+        time = rows[0].partition(b" ")[0]
+        self.time = int(time)
+        self.rests = [row[len(time) + 1:] for row in rows]
+
+    @property
+    def answer(self):
+        """The answer to the line."""
+        return self.said[-ANSWER:-1]
+
+    @functools.cached_property
+    def facts(self):
+        return [Fact(self.time, *numbers_in(rest)) for rest in self.rests]
+
+
+@functools.lru_cache(maxsize=1 << 16)
+def numbers_in(rest):
+    return tuple(map(int, rest.split()))
+
+
+class Output:
+    """What the program says, taken from the front."""
+
+    def __init__(self, pieces):
+        self.pieces, self.held, self.place = pieces, b"", 0
+
+    def more(self):
+        """Holds more of it, from the place on."""
+        piece = next(self.pieces, None)
+        if piece is None:
+            raise Trouble("the program facts answered in part")
+        self.held, self.place = self.held[self.place:] + piece, 0
+
+    def answers(self, count):
+        """So many answer lines."""
+        told, wanted = [], count * ANSWER
+        while len(self.held) - self.place < wanted:
+            told.append(self.held[self.place:])
+            wanted, self.place = wanted - len(told[-1]), len(self.held)
+            self.more()
+        start, self.place = self.place, self.place + wanted
+        return b"".join([*told, self.held[start:self.place]])
+
+    def rows(self):
+        """The rows of the sixteen inputs."""
+        while True:
+            end = self.place
+            for _ in range(INPUTS):
+                end = self.held.find(b"\n", end) + 1
+                if end == 0:
+                    break
+            if end:
+                rows = self.held[self.place:end - 1].split(b"\n")
+                self.place = end
+                return rows
+            self.more()
+
+    def ended(self):
+        if self.place != len(self.held) or next(self.pieces, None) is not None:
+            raise Trouble("the program facts said more than it was asked")
+
+
+def along(lines, numbers, start=()):
+    """Each of these lines, which have their LFs, by numbers that rise from 0, before any, with what is known after it; the log is gone
+    through once."""
+    output, done = Output(programs.pieces("facts", marked(lines, numbers), start=start)), 0
+    progress.doing("asking what is known of the inputs")
     for number in numbers:
-        place += ANSWER * (number - done)
+        if number % programs.PART == 0:
+            progress.doing("asking what is known of the inputs", number / len(lines))
+        said = output.answers(number - done)
         done = number
-        end = place
-        for _ in range(INPUTS):
-            end = told.find(b"\n", end) + 1
-            if end == 0:
-                raise Trouble("the program facts answered line %d in part" % number)
-        parts = list(map(int, told[place:end].split()))
-        yield number, [Fact(*parts[at:at + 12]) for at in range(0, 12 * INPUTS, 12)]
-        place = end
-    if place != len(told):
-        raise Trouble("the program facts said more than it was asked")
+        yield Known(number, said, output.rows())
+    output.ended()
 
 
-def after(lines, numbers):
-    """The same by their numbers."""
-    return dict(along(lines, sorted(set(numbers))))
+def after(lines, numbers, start=()):
+    """The facts by the numbers of lines without their LFs."""
+    return {known.number: known.facts for known in along([line + b"\n" for line in lines], sorted(set(numbers)), start)}
 
 
 # ---- in words
@@ -78,13 +135,14 @@ def left(fact, end, brief=False):
 REPORTS_NEEDED = 3
 
 
-def unfit(fact, brief=False, equal=0):
-    """Why an input that is not eligible is not: a reason and its words; `equal` is how many equal reports the log has of it."""
+def unfit(fact, names, brief=False, equal=0):
+    """Why an input that is not eligible is not, in the names of a profile: a reason and its words; `equal` is how many equal
+    reports the log has of it."""
     if fact.priority == 0:
         return "off", "off"
     if fact.locked:
         return "locked", "locked out"
-    names = profiles.chosen
+    quality = functools.partial(profiles.quality, profile=names)
     if fact.passed == names.failed:
         if fact.raw != names.failed:
             return "wait", "wait: " + left(fact, fact.timer, brief)
@@ -104,18 +162,19 @@ def unfit(fact, brief=False, equal=0):
     return "floor", "%s%s is below its floor, %s" % (quality(fact.passed), below, quality(fact.floor))
 
 
-def outdone(facts, number, selected):
+def outdone(facts, number, selected, names):
     """Why an eligible input is not selected where another is, with no switch: a reason and its words."""
     fact, best = facts[number], facts[selected]
     if fact.mode and fact.passed != best.passed:
-        return "quality", "%s is worse than %s of input %d" % (quality(fact.passed), quality(best.passed), selected)
+        told = profiles.quality(fact.passed, names), profiles.quality(best.passed, names), selected
+        return "quality", "%s is worse than %s of input %d" % told
     if fact.priority != best.priority:
         return "priority", "priority %d is worse than %d of input %d" % (fact.priority, best.priority, selected)
     kept = "was kept" if number < selected else "was kept or has the lower number"
     return "equal", "equal to input %d, which %s" % (selected, kept)
 
 
-def why(facts, number, answer, brief=False, equal=0):
+def why(facts, number, answer, names, brief=False, equal=0):
     """Why an input is selected or is not, by the facts and the right answer: a reason and its words, in brief without what
     changes with each millisecond; `equal` is how many equal reports the log has of it."""
     _, selected, _, _, switch, on = answer
@@ -123,44 +182,45 @@ def why(facts, number, answer, brief=False, equal=0):
     if number == selected:
         reason = "selected", "selected" + (" by a %s switch" % answers.SWITCHES[switch] if switch else "")
     elif not fact.eligible:
-        reason = unfit(fact, brief, equal)
+        reason = unfit(fact, names, brief, equal)
     elif switch:
         reason = "switch", "a %s switch stands on input %d" % (answers.SWITCHES[switch], on)
     else:
-        reason = outdone(facts, number, selected)
-    failed = profiles.chosen.failed
-    if fact.passed != failed and fact.raw == failed:
-        return reason[0], "%s; has failed, still passes %s: hold-off, %s" % (reason[1], quality(fact.passed), left(fact, fact.timer, brief))
+        reason = outdone(facts, number, selected, names)
+    if fact.passed != names.failed and fact.raw == names.failed:
+        passed = profiles.quality(fact.passed, names)
+        return reason[0], "%s; has failed, still passes %s: hold-off, %s" % (reason[1], passed, left(fact, fact.timer, brief))
     return reason
 
 
 REPORT = re.compile(rb"(02|03|12)0[12]([0-9a-f]{12})([0-9a-f]{2})([0-9a-f]{4})(?:[0-9a-f]{55}([0-9a-f])[0-9a-f]*)?")
 WORD, FRAME = b"12", b"02"
+REPORTED = {b"03": "code", FRAME: "frame with code", WORD: "word"}
 # What forgets the reports of an input: a failing signal, and its kind set.
 SIGNAL = re.compile(rb"010[12][0-9a-f]{12}([0-9a-f]{2})000([01])")
 KIND = re.compile(rb"100[12][0-9a-f]{12}([0-9a-f]{2})[0-9a-f]{4}")
 
 
-def report_in_words(kind, number):
+def report_in_words(kind, number, names):
     """What a code, a frame's code or a word says."""
     if kind == WORD:
-        return profiles.chosen.words.get(number, "word %04x" % number)
-    return profiles.chosen.codes.get(number, "code %d" % number)
+        return names.words.get(number, "word %04x" % number)
+    return names.codes.get(number, "code %d" % number)
 
 
 class Reports:
     """The last report of each input that was accepted, and how many equal ones there are in a row since its signal is good and
     its kind is set: as the log has it. Whether they count, the facts say."""
 
-    def __init__(self):
-        self.last, self.rows, self.good = {}, {}, set()
+    def __init__(self, names):
+        self.names, self.last, self.rows, self.good = names, {}, {}, set()
 
     def take(self, line, answer):
         if answer[:2] != b"00":
             return
         if report := REPORT.fullmatch(line):
             said, number = int(report.group(5) or report.group(4), 16), int(report.group(3), 16)
-            self.last[number] = int(report.group(2), 16), report_in_words(report.group(1), said)
+            self.last[number] = int(report.group(2), 16), report_in_words(report.group(1), said, self.names)
             if report.group(1) != FRAME and number in self.good:
                 before, count = self.rows.get(number, (None, 0))
                 self.rows[number] = said, count + 1 if said == before else 1
@@ -183,3 +243,42 @@ class Reports:
             return "-"
         came, said = self.last[number]
         return "%s %s ms ago" % (said, format(time - came, ","))
+
+
+class Received:
+    """The last report of an input that was accepted up to a line, as the log has it, with the line it came in."""
+
+    def __init__(self, lines, right, names):
+        self.lines, self.right, self.names = lines, right, names
+        # of an input: up to which line it was looked for, and where it was found
+        self.found = {}
+
+    def place_of(self, number, last):
+        """The place of the last report up to line `last`; None where there is none."""
+        done, place = self.found.get(number, (0, None))
+        if last < done:
+            done, place = 0, None
+        digits = b"%02x" % number
+        for at in range(last - 1, done - 1, -1):
+            line = self.lines[at]
+            if line[16:18] == digits and line[:2] in REPORTED and self.right[ANSWER * at:ANSWER * at + 2] == b"00":
+                place = at
+                break
+        self.found[number] = last, place
+        return place
+
+    def told(self, number, last):
+        """The same in words, as "code 0100 (SSU-A), line 12 at 1,000 ms"."""
+        place = self.place_of(number, last)
+        report = REPORT.fullmatch(self.lines[place][:-1]) if place is not None else None
+        if not report:
+            return "nothing received"
+        kind, said = report.group(1), int(report.group(5) or report.group(4), 16)
+        digits = "%04x" % said if kind == WORD else format(said, "04b")
+        return "received %s %s (%s), line %d at %s ms" % (
+            REPORTED[kind], digits, meant(kind, said, self.names), place + 1, format(int(report.group(2), 16), ","))
+
+
+def meant(kind, said, names):
+    """The quality that a report says, or that it says none."""
+    return (names.words if kind == WORD else names.codes).get(said, "no quality")

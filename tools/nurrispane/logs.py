@@ -1,14 +1,72 @@
-"""Small words on logs: their form, times, numbers in a row."""
+"""A log in hand, and small words on logs: their form, an event, times, numbers in a row."""
 
+import functools
+import gc
+import io
 import re
 import shlex
 import sys
 
-from nurrispane import words
-from nurrispane.files import name_of
+from nurrispane import profiles, words
+from nurrispane.files import Trouble, name_of, read
 
 # So much of a log is looked at.
 FRONT, LINES = 65_536, 100
+
+
+class Log:
+    """A log in hand: its bytes, its lines with their LFs, its profile and what it is called."""
+
+    def __init__(self, path, data, start=()):
+        self.name, self.data = name_of(path), data
+        # a third of what `split` takes, which looks at each byte by itself
+        self.lines = io.BytesIO(data).readlines()
+        if self.lines and not data.endswith(b"\n"):
+            self.lines[-1] += b"\n"
+        # a million lines are not looked through for rubbish again and again
+        gc.freeze()
+        self.option = words.option_in(data)
+        self.profile = profiles.of_log(self.option, start)
+
+    def line(self, number):
+        """A line by its number, from 1, without its LF."""
+        return self.lines[number - 1][:-1]
+
+
+def taken(command, path, start):
+    """A log that a command is given, with START as it is given; one that has the wrong form gets a line on standard error."""
+    data = read(path)
+    word_on_form(command, path, data)
+    return Log(path, data, profiles.start_of(start))
+
+
+def nothing_to_judge(log):
+    """Why nothing can be judged by a log; None where it can."""
+    if not log.lines:
+        return "%s is empty" % log.name
+    return None if log.option else "no line of %s is formed" % log.name
+
+
+def judged_by(log):
+    """Trouble where nothing can be judged by a log."""
+    wrong = nothing_to_judge(log)
+    if wrong:
+        raise Trouble("%s, so there is no verdict" % wrong)
+
+
+def event_in_words(line, option):
+    """When a line's event came and what it is; a malformed line of a log of this option as it stands."""
+    event = words.event_of(line, option)
+    if event is None:
+        said = words.line_in_words(line, option)
+        return None, said if len(said) <= 60 else said[:58] + ".."
+    if event.kind == words.FRAME_KIND:
+        return event.time, "frame on input %d" % event.input
+    said = words.line_in_words(line).split()[1:]
+    kind = words.BY_NUMBER.get(event.kind)
+    if kind is not None and kind.has_input and said[0] != "event":
+        return event.time, " ".join([said[0], *said[2:], "on input", said[1]])
+    return event.time, " ".join(said)
 
 
 def first_lines(data):
@@ -21,8 +79,10 @@ def is_old(data):
     return not any(map(words.event_of, lines)) and any(map(words.OLD_EVENT.fullmatch, lines))
 
 
-# A line of a log in words: an event, or what says something of a log.
-IN_WORDS = re.compile(r"[0-9]+ (?:%s)(?: .*)?|(?:log|shows|bytes|raw) .*|option [12]" % "|".join([*words.BY_WORD, "frame", "event"]))
+@functools.cache
+def in_words():
+    """A line of a log in words: an event, or what says something of a log."""
+    return re.compile(r"[0-9]+ (?:%s)(?: .*)?|(?:log|shows|bytes|raw) .*|option [12]" % "|".join([*words.BY_WORD, "frame", "event"]))
 
 
 def is_utf_16(data):
@@ -32,7 +92,7 @@ def is_utf_16(data):
 
 
 def is_in_words(lines):
-    return any(IN_WORDS.fullmatch(line.decode("latin-1").split("#")[0].strip()) for line in lines)
+    return any(in_words().fullmatch(line.decode("latin-1").split("#")[0].strip()) for line in lines)
 
 
 def form_of(data, name):

@@ -1,5 +1,5 @@
 """The profile of a log: its option by the byte of its lines, its place of PROV and its marks by START as the proved programs take
-it; and the names of its numbers."""
+it; and the names of its numbers. It is made once a log, `of_log`, and handed to whatever tells of that log."""
 
 import collections
 import re
@@ -7,8 +7,8 @@ import re
 from nurrispane.files import Trouble
 
 # The option, the names of the qualities by number, what a code of four bits and a word of sixteen say, which numbers are unlike the
-# others, and the place of PROV, 0 for none.
-Profile = collections.namedtuple("Profile", "option qualities codes words prov do_not_use invalid failed place")
+# others, the place of PROV, 0 for none, and START as the programs take it.
+Profile = collections.namedtuple("Profile", "option qualities codes words prov do_not_use invalid failed place start")
 
 OPTION_I = Profile(
     option=1,
@@ -20,6 +20,7 @@ OPTION_I = Profile(
     invalid=6,
     failed=7,
     place=0,
+    start=(),
 )
 OPTION_II = Profile(
     option=2,
@@ -34,6 +35,7 @@ OPTION_II = Profile(
     invalid=11,
     failed=12,
     place=0,
+    start=(),
 )
 
 
@@ -43,43 +45,27 @@ def of_option(option):
     return OPTION_II if option == OPTION_II.option else OPTION_I
 
 
-# The programs that take START.
-TAKE_START = ("replay", "outgoing", "counts", "words", "heartbeat", "facts")
-
-# START as it was given, and the profile of the log that is told of.
-given = ()
-chosen = OPTION_I
-
-
 def argument(parser):
     parser.add_argument("--start", metavar="START", help="with what a log of option II starts, as '2 3 00ff': the card's place of PROV and "
                         "its first-generation ports; without it none")
 
 
-def take_start(start):
-    """Takes START for this run; None is PROV unplaced and no marks."""
-    global given
-    if start is None:
-        return
-    if not re.fullmatch("2 [0-8] [0-9a-f]{4}", start):
-        raise Trouble("--start is '2 PLACE MARKS', the place of PROV from 0 to 8 and four lowercase digits, not %s" % ascii(start))
-    given = tuple(start.split())
+def start_of(text):
+    """START in words for the programs; None is PROV unplaced and no marks."""
+    if text is None:
+        return ()
+    if not re.fullmatch("2 [0-8] [0-9a-f]{4}", text):
+        raise Trouble("--start is '2 PLACE MARKS', the place of PROV from 0 to 8 and four lowercase digits, not %s" % ascii(text))
+    return tuple(text.split())
 
 
-def follow(option):
-    """What is told from now on is of a log of this option; None, where no line of it is formed, is option I."""
-    global chosen
-    chosen = of_option(option)
-    if option == OPTION_II.option and given:
-        chosen = chosen._replace(place=int(given[1]))
-    if option == OPTION_I.option and given:
+def of_log(option, start=()):
+    """The profile of a log of this option with this START; None, where no line of it is formed, is option I."""
+    if option == OPTION_I.option and start:
         raise Trouble("--start is for a log of option II, and this one is of option I")
+    placed = option == OPTION_II.option and start
+    return of_option(option)._replace(place=int(start[1]) if placed else 0, start=tuple(start))
 
 
-def start_of(program):
-    """START for a program, where it takes one."""
-    return list(given) if program in TAKE_START else []
-
-
-def quality(number):
-    return chosen.qualities.get(number, "quality %d" % number)
+def quality(number, profile):
+    return profile.qualities.get(number, "quality %d" % number)

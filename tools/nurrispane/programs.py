@@ -7,10 +7,10 @@ import sys
 import tempfile
 import threading
 
-from nurrispane import profiles, words
+from nurrispane import profiles, progress, words
 from nurrispane.files import ROOT, Trouble, name_of, read, reason, standard, write, write_out
 
-CHUNK = 1 << 16
+CHUNK, LARGE_CHUNK = 1 << 16, 1 << 20
 
 
 @functools.cache
@@ -21,8 +21,13 @@ def ready(name):
         raise Trouble("the program %s is not built" % name)
 
 
-def command(name):
-    return [str(ROOT / ".ci" / "program"), name, *profiles.start_of(name)]
+# Those that take START, after their other arguments.
+TAKE_START = ("replay", "outgoing", "counts", "words", "heartbeat", "facts")
+
+
+def command(name, *arguments, start=()):
+    """A program's call; START where it takes one."""
+    return [str(ROOT / ".ci" / "program"), name, *map(str, arguments), *(start if name in TAKE_START else ())]
 
 
 class LineCount:
@@ -39,7 +44,7 @@ class LineCount:
         return self.ended + self.open
 
 
-def stream(name, source, sink):
+def stream(name, source, sink, start=()):
     """Hands a log from a file to a program and its output on to `sink`, piece by piece; gives the log's front.
 
     A line that is not answered, or an answer that is not whole, is trouble."""
@@ -49,8 +54,8 @@ def stream(name, source, sink):
         front = source.read(CHUNK)
     except OSError as error:
         raise Trouble("the log cannot be read: %s" % reason(error)) from error
-    profiles.follow(words.option_in(front))
-    process = subprocess.Popen(command(name), stdin=subprocess.PIPE, stdout=subprocess.PIPE, stderr=subprocess.PIPE)
+    profiles.of_log(words.option_in(front), start)
+    process = subprocess.Popen(command(name, start=start), stdin=subprocess.PIPE, stdout=subprocess.PIPE, stderr=subprocess.PIPE)
 
     def feed():
         try:
@@ -84,18 +89,49 @@ def stream(name, source, sink):
     return front
 
 
-def given(name, data):
+def given(name, data, start=()):
     """A program run on data, which it reads from a file: handed over by a pipe, a large log would cost more than its replay."""
     ready(name)
     with tempfile.TemporaryFile() as source:
         source.write(data)
         source.seek(0)
-        return subprocess.run(command(name), stdin=source, capture_output=True)
+        return subprocess.run(command(name, start=start), stdin=source, capture_output=True)
 
 
-def answers(name, data):
+def pieces(name, parts, *arguments, start=()):
+    """What a program says to its input, piece by piece; the input comes in parts and is read from a file."""
+    ready(name)
+    with tempfile.TemporaryFile() as source:
+        source.writelines(parts)
+        source.seek(0)
+        process = subprocess.Popen(command(name, *arguments, start=start), stdin=source, stdout=subprocess.PIPE, stderr=subprocess.PIPE)
+        try:
+            while piece := process.stdout.read1(LARGE_CHUNK):
+                yield piece
+            said, status = process.stderr.read(), process.wait()
+        finally:
+            process.kill()
+            process.communicate()
+    went_on(name, status, said)
+
+
+# An answer line with its LF; so many lines are handed over at a time.
+ANSWER, PART = 13, 10_000
+
+
+def replayed(log):
+    """The right answers to a log in hand, ANSWER bytes for each of its lines."""
+    count = len(log.lines)
+    progress.doing("replaying %s lines" % format(count, ","))
+    told = b"".join(pieces("replay", [log.data], start=log.profile.start))
+    if len(told) != ANSWER * count or told[ANSWER - 1::ANSWER] != b"\n" * count:
+        raise Trouble("the program replay answered %d of %d lines" % (told.count(b"\n"), count))
+    return told
+
+
+def answers(name, data, start=()):
     """The program's output for a log, line by line."""
-    run = given(name, data)
+    run = given(name, data, start)
     asked, told = LineCount(), LineCount()
     asked.take(data)
     told.take(run.stdout)
@@ -103,25 +139,30 @@ def answers(name, data):
     return run.stdout.split(b"\n")[:-1]
 
 
-def ended_well(name, status, said, asked, told):
-    """Trouble where a program ended badly, said that it could not go on, or left a line without its answer."""
+def went_on(name, status, said):
+    """Trouble where a program ended badly, or said that it could not go on."""
     if status != 0:
         raise Trouble("the program %s ended with status %d" % (name, status))
     if said:
         raise Trouble("the program %s says: %s" % (name, said.decode(errors="replace").strip()))
+
+
+def ended_well(name, status, said, asked, told):
+    """Trouble there too, and where it left a line without its answer."""
+    went_on(name, status, said)
     if told.open or told.ended != asked.lines():
         raise Trouble("the program %s answered %d of %d lines" % (name, told.ended, asked.lines()))
 
 
-def put_out(name, path, out):
+def put_out(name, path, out, start=()):
     """What a program says to a log: on standard output piece by piece, or in the file `out`, whole or not at all; gives
     the log's front."""
     if out is None:
         with opened(path) as source:
-            return stream(name, source, write_out)
+            return stream(name, source, write_out, start)
     data = read(path)
-    profiles.follow(words.option_in(data))
-    write(out, b"".join(line + b"\n" for line in answers(name, data)))
+    profiles.of_log(words.option_in(data), start)
+    write(out, b"".join(line + b"\n" for line in answers(name, data, start)))
     return data[:CHUNK]
 
 
@@ -163,10 +204,7 @@ def on_files(name, logs, *numbers, first=()):
         paths = [pathlib.Path(directory) / ("log-%d" % place) for place in range(1, len(logs) + 1)]
         for path, data in zip(paths, logs):
             path.write_bytes(data)
-        call = command(name) + [str(argument) for argument in (*first, *paths, *numbers)]
+        call = command(name, *first, *paths, *numbers)
         run = subprocess.run(call, stdin=subprocess.DEVNULL, capture_output=True)
-    if run.returncode != 0:
-        raise Trouble("the program %s ended with status %d" % (name, run.returncode))
-    if run.stderr:
-        raise Trouble("the program %s says: %s" % (name, run.stderr.decode(errors="replace").strip()))
+    went_on(name, run.returncode, run.stderr)
     return run.stdout

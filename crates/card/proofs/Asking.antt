@@ -6,7 +6,7 @@ use Rattle.selector.specs.declared.Selector.{Selector}
 use Rattle.sender.specs.declared.Asked.{Asked}
 use Rattle.sender.specs.declared.Senders.{Senders}
 use Rattle.sender.specs.Heartbeat.{Question, Questions, questionOf, heartbeatBy}
-use Rattle.sender.specs.Sender.{asked, AskSenders}
+use Rattle.sender.specs.Sender.{asked, contentOf, AskSenders}
 use Rattle.sender.specs.Sequence.{sendersAfter}
 use Rattle.sender.proofs.Sending.{sending}
 use Rattle.card.specs.declared.Card.{Card}
@@ -57,6 +57,9 @@ card-senders-right earlier question =
       senders = cardSendersAfter-senders earlier;
       number = ap numberOf answer;
       frame = ap frameOf answer;
+      buffer =
+          ap (λ (before : Senders). contentOf before question) (cardSendersAfter-senders earlier)
+          ∙ sending earlier question .buffer;
     }
   where
     answer : asked (cardSendersAfter earlier .senders) question .heartbeat ≡ heartbeatBy earlier question

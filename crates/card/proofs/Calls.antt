@@ -1,15 +1,17 @@
 -- Calls in a row are steps in a row. Assumes nothing.
 use Prim.Native.Nat.{ℕ, _+_, _-_, _≤_, _<_}
+use mathlib.Core.Bool.{true, false, or-true}
 use mathlib.Core.List.{List, [], _++_}
+use mathlib.Core.Logic.{_≢_}
 use mathlib.Core.Path.{_≡_, refl, sym, _∙_, ap, subst}
 use native.Mathlib.Omega.{arith}
 use lib.ListN.{getD, drop}
 use lib.Dec.{eqb}
-use borrow.Author.Tests.{eq-eqb, eqb-true, lt-ltb, le-ltb}
+use borrow.Author.Tests.{eq-eqb, ne-eqb, eqb-true, lt-ltb, le-ltb}
 use Rattle.numbers.specs.From.{started, _following_}
 use Rattle.numbers.specs.Inputs.{timeLimit}
 use Rattle.numbers.specs.Kind.{kindFrame}
-use Rattle.numbers.specs.Profile.{placeOf, lastPlace, startNumber, limitsOf, optionTwo, profileIn}
+use Rattle.numbers.specs.Profile.{placeOf, lastPlace, startNumber, limitsOf, optionOne, optionTwo, profileIn}
 use Rattle.numbers.specs.Refusal.{accepted, argumentOutOfRange}
 use Rattle.numbers.proofs.Truth.{byBool}
 use Rattle.frame.specs.Read.{readCode}
@@ -45,7 +47,7 @@ use Rattle.quickstep.specs.Watch.{dueAfter}
 use Rattle.card.specs.declared.Card.{Card}
 use Rattle.card.specs.declared.CardAnswer.{CardAnswer}
 use Rattle.card.specs.Flat.{flatAnswer, selectorOf, cardOf, withNumber}
-use Rattle.card.specs.Card.{freshCard, startCard, steppedCard, readFor, stepCard, cardCodes, cardWords, cardDue}
+use Rattle.card.specs.Card.{freshCard, namesOption, startCard, steppedCard, readFor, stepCard, cardCodes, cardWords, cardDue}
 use Rattle.card.specs.Calls.{called, cardAfter, latestNumber, latestCount, latestBy, StartRight, CardRight, Demand1Card, Demand2Card, Demand3Card, Demand4Card, NextDueCard}
 use Rattle.card.proofs.Ports.{port-written}
 use Rattle.card.proofs.Range.{stepRead-readFor, sequence-named}
@@ -74,13 +76,25 @@ startNumber-starts option place marks within =
     (λ two. rw (two, le-ltb lastPlace place (within (eqb-true option optionTwo two))))
     (λ other. rw other)
 
--- L10 in C's hands: a place above 8 starts nothing, and any other start is where calls in a row begin.
+-- option II is an option
+names-two : (option : ℕ) → option ≡ optionTwo → namesOption option ≡ true
+unfolding namesOption
+names-two option two = rw (eq-eqb option optionTwo two, or-true (eqb option optionOne))
+
+-- a number that is neither option's names none
+pub names-neither : (option : ℕ) → option ≢ optionOne → option ≢ optionTwo → namesOption option ≡ false
+unfolding namesOption
+names-neither option one two = rw (ne-eqb option optionOne one, ne-eqb option optionTwo two)
+
+-- L10 in C's hands: a place above 8 starts nothing, nor does a number that is no option's, and any other start is where
+-- calls in a row begin.
 pub start-right : (card : Card) (option place marks : ℕ) → StartRight card option place marks
 unfolding startCard cardAfter
 start-right card option place marks =
     record {
-      refused = λ two above. rw (startNumber-refused option place marks two above);
-      starts = λ within. rw (startNumber-starts option place marks within);
+      refused = λ two above. rw (names-two option two, startNumber-refused option place marks two above);
+      neither = λ one two. rw (names-neither option one two);
+      starts = λ named within. rw (named, startNumber-starts option place marks within);
     }
 
 -- ---- calls in a row

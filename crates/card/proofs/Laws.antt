@@ -16,8 +16,8 @@ use Rattle.numbers.specs.declared.InputNumber.{InputNumber}
 use Rattle.numbers.specs.declared.Profile.{Profile}
 use Rattle.numbers.specs.Kind.{flag, kindFrame, inputKindOf, kindArgument}
 use Rattle.numbers.specs.Quality.{quality}
-use Rattle.numbers.specs.Profile.{placeOf, marksOf, startNumber, paperNumber, limitsOf, profileIn, optionOf}
-use Rattle.numbers.specs.Refusal.{accepted, inputOutOfRange}
+use Rattle.numbers.specs.Profile.{placeOf, marksOf, startNumber, paperNumber, limitsOf, optionOne, optionTwo, profileIn, optionOf}
+use Rattle.numbers.specs.Refusal.{accepted, inputOutOfRange, argumentOutOfRange}
 use Rattle.frame.specs.declared.FrameRead.{FrameRead}
 use Rattle.frame.specs.declared.FrameRead.the-variants.{Code}
 use Rattle.frame.specs.declared.FrameWrite.{FrameWrite}
@@ -44,7 +44,7 @@ use Rattle.card.specs.declared.CardInput.{CardInput}
 use Rattle.card.specs.declared.quick.Quick.{Quick}
 use Rattle.card.specs.declared.known.CardStatus.{CardStatus}
 use Rattle.card.specs.Flat.{isSet, inputOf, flatInput, flatAnswer, switchOf, selectionOf, isSelected, selectorOf, cardOf, withNumber}
-use Rattle.card.specs.Card.{freshCard, startCard, isRanged, profileHeld, flatPlace, StandsAt, ownFlat, quickOf, notQuick, quickStep, framedFlat, cardNumbered, quickCard, wholeCard, eventCard, readFor, portCode, numberOfWrite, WritePort}
+use Rattle.card.specs.Card.{freshCard, namesOption, startCard, isRanged, profileHeld, flatPlace, StandsAt, ownFlat, quickOf, notQuick, quickStep, framedFlat, cardNumbered, quickCard, wholeCard, eventCard, readFor, portCode, numberOfWrite, WritePort}
 use Rattle.card.specs.Status.{noStatus, cardStatus}
 use Rattle.card.specs.Sound.{sameInput, sameAmong, sameInputs, sameCard, tickedAgain, cardSound}
 
@@ -204,25 +204,46 @@ pub cardOf-answered : (number count due : ℕ) (state : Selector) (flat : List C
 unfolding cardOf answerOf
 cardOf-answered number count due state flat selection answer option place marks f s a o p m = rw (f, s, a, o, p, m)
 
+-- ---- namesOption
+
+module _ (option : ℕ) where
+  pub namesOption-one : option ≡ optionOne → true ≡ namesOption option
+  unfolding namesOption
+  namesOption-one e = rw (eq-eqb _ optionOne e)
+
+  pub namesOption-other : (option ≡ optionOne → ⊥) → eqb option optionTwo ≡ namesOption option
+  unfolding namesOption
+  namesOption-other n = rw (ne-eqb _ optionOne n)
+
 -- ---- startCard
 
-module _ (card : Card) (option place marks : ℕ) (profile : Profile) (number : ℕ) where
-  pub startCard-fresh : (new : Card) → profile ≡ profileIn option place marks → number ≡ startNumber profile
-      → number ≡ accepted → new ≡ freshCard profile
-      → new ≡ startCard card option place marks
-  unfolding startCard
-  startCard-fresh new p n a f =
-      f ∙ (rw p (rw (eq-eqb (startNumber (profileIn option place marks)) accepted (sym (n ∙ ap startNumber p) ∙ a))))
-
-  pub startCard-refused : (kept : Card) → profile ≡ profileIn option place marks → number ≡ startNumber profile
-      → (number ≡ accepted → ⊥) → kept ≡ withNumber card number 0
+module _ (card : Card) (option place marks : ℕ) (named : Bool) (is : named ≡ namesOption option) where
+  pub startCard-neither : (kept : Card) → named ≡ false → kept ≡ withNumber card argumentOutOfRange 0
       → kept ≡ startCard card option place marks
   unfolding startCard
-  startCard-refused kept p n a k =
-      k ∙ ap (λ (given : ℕ). withNumber card given 0) (n ∙ ap startNumber p)
-      ∙ (rw (ne-eqb (startNumber (profileIn option place marks)) accepted (λ e. a (n ∙ ap startNumber p ∙ e))))
+  startCard-neither kept other k = k ∙ (rw (← is, other))
 
-pub ruleset startCard-laws = (startCard-fresh, startCard-refused)
+  module _ (chosen : named ≡ true) (profile : Profile) (p : profile ≡ profileIn option place marks) (number : ℕ)
+      (n : number ≡ startNumber profile) where
+    pub startCard-fresh : (new : Card) → number ≡ accepted → new ≡ freshCard profile
+        → new ≡ startCard card option place marks
+    unfolding startCard
+    startCard-fresh new a f =
+        f ∙
+        (rw p
+        (rw
+        (← is, chosen, eq-eqb (startNumber (profileIn option place marks)) accepted (sym (n ∙ ap startNumber p) ∙ a))))
+
+    pub startCard-refused : (kept : Card) → (number ≡ accepted → ⊥) → kept ≡ withNumber card number 0
+        → kept ≡ startCard card option place marks
+    unfolding startCard
+    startCard-refused kept a k =
+        k ∙ ap (λ (given : ℕ). withNumber card given 0) (n ∙ ap startNumber p)
+        ∙ (rw (
+          ← is,
+          chosen,
+          ne-eqb (startNumber (profileIn option place marks)) accepted (λ e. a (n ∙ ap startNumber p ∙ e)),
+        ))
 
 -- ---- readFor
 

@@ -48,7 +48,7 @@ any-status card input =
     }
 
 -- of a state that names an input
-cardStatus-within : (card : Card) (input : ℕ) → input ≤ lastInput
+pub cardStatus-within : (card : Card) (input : ℕ) → input ≤ lastInput
     → cardStatus card input ≡ flatStatus (selectorOf card .profile) (inputStatus (selectorOf card) input)
 unfolding cardStatus
 cardStatus-within card input within = rw (le-ltb lastInput input within)

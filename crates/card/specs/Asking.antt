@@ -7,7 +7,7 @@ use Rattle.numbers.specs.Refusal.{accepted}
 use Rattle.sender.specs.declared.Asked.{Asked}
 use Rattle.sender.specs.declared.Heartbeat.{Heartbeat}
 use Rattle.sender.specs.declared.Heartbeat.the-variants as H
-use Rattle.sender.specs.Heartbeat.{Question, Questions, questionOf, heartbeatBy}
+use Rattle.sender.specs.Heartbeat.{Question, Questions, questionOf, codeAsked, heartbeatBy, contentBy}
 use Rattle.sender.specs.Sender.{freshSenders, asked, contentOf}
 use Rattle.sender.specs.Sequence.{sendersAfter}
 use Rattle.card.specs.declared.Card.{Card}
@@ -72,3 +72,6 @@ pub record CardSendersRight (earlier : Questions) (question : Question) : Type 0
   pub senders : cardSendersAfter earlier .senders ≡ sendersAfter earlier
   pub number : cardSendersAfter (question ∷ earlier) .number ≡ numberOf (heartbeatBy earlier question)
   pub frame : cardSendersAfter (question ∷ earlier) .frame ≡ frameOf (heartbeatBy earlier question)
+  -- what `AskCard` leaves in the buffer: a frame with the port's code, or what it held
+  pub buffer : contentOf (cardSendersAfter earlier .senders) question
+      ≡ contentBy (heartbeatBy earlier question) (codeAsked question) (question .source) (question .buffer)

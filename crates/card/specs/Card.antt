@@ -11,8 +11,8 @@ use Rattle.numbers.specs.declared.Event.{Event}
 use Rattle.numbers.specs.declared.Profile.{Profile}
 use Rattle.numbers.specs.Inputs.{lastInput, inputCount}
 use Rattle.numbers.specs.Kind.{flag, kindFrame}
-use Rattle.numbers.specs.Profile.{startNumber, limitsOf, profileIn}
-use Rattle.numbers.specs.Refusal.{accepted, inputOutOfRange}
+use Rattle.numbers.specs.Profile.{optionOne, optionTwo, startNumber, limitsOf, profileIn}
+use Rattle.numbers.specs.Refusal.{accepted, inputOutOfRange, argumentOutOfRange}
 use Rattle.frame.specs.declared.FrameMessage.{FrameMessage}
 use Rattle.frame.specs.declared.FrameRead.{FrameRead}
 use Rattle.frame.specs.declared.FrameRead.the-variants.{Code}
@@ -43,7 +43,7 @@ use Rattle.card.specs.Flat.{inputOf, flatInput, selectorOf, cardOf, with
 
 -- the header's version
 abbrev pub headerVersion : ℕ
-headerVersion = 4
+headerVersion = 5
 
 -- how long a card is in C
 abbrev pub cardOctets : ℕ
@@ -57,12 +57,17 @@ sendersOctets = 1544
 unfoldable pub freshCard : Profile → Card
 freshCard profile = cardOf accepted 0 (nextDue (freshSelector profile)) (freshSelector profile)
 
+-- whether a number is that of an option
+unfoldable pub namesOption : ℕ → Bool
+namesOption option = eqb option optionOne || eqb option optionTwo
+
 -- document 02, L10: "otherwise refusal 6 and no start": a fresh card of the profile, or the card as it was with that
--- number
+-- number; and so with a number that is no option's
 unfoldable pub startCard : Card → ℕ → ℕ → ℕ → Card
 startCard card option place marks =
     let profile = profileIn option place marks in
-    cond (eqb (startNumber profile) accepted) (freshCard profile) (withNumber card (startNumber profile) 0)
+    cond (not (namesOption option)) (withNumber card argumentOutOfRange 0)
+    (cond (eqb (startNumber profile) accepted) (freshCard profile) (withNumber card (startNumber profile) 0))
 
 -- an event, of the numbers that C gives
 abbrev pub eventOf : ℕ → ℕ → ℕ → ℕ → Event

@@ -25,7 +25,7 @@ ghost use Rattle.card.specs.Sound.{cardSound};
 ghost use Rattle.card.specs.Card.{headerVersion, cardOctets, sendersOctets, startCard, stepCard, cardCodes, cardWords, cardDue, cardFrame, WritePort};
 
 // Raised with each change of a struct, of a number or of what a function answers.
-const VERSION: u32 = 4;
+const VERSION: u32 = 5;
 
 // How long a card is in C.
 const CARD_OCTETS: u32 = 680;
@@ -66,8 +66,9 @@ pub extern "C" fn nurrispane_self_test() -> u32
     self_test()
 }
 
-// Starts a card with a profile, whatever it held: it is fresh then. Option II with a place above 8
-// is refused with 6, and nothing starts: the card is kept but for the number in its answer.
+// Starts a card with a profile, whatever it held: it is fresh then. An option that is neither 1 nor
+// 2, or option II with a place above 8, is refused with 6, and nothing starts: the card is kept but
+// for the number in its answer.
 #[no_mangle]
 pub extern "C" fn nurrispane_fresh(card: &mut Card, option: u8, place: u8, marks: u16)
     ensures { λ _. ⌜ now (card .exit) ≡ startCard (now (card .entry)) option place marks ⌝ }

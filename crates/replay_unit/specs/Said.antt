@@ -3,9 +3,18 @@
 use Prim.Native.Nat.{ℕ}
 use mathlib.Core.List.{List, []}
 use Rattle.start.specs.declared.StartRead.the-variants as S
-use Rattle.console.specs.Said.{octetsOfText, startSaid}
+use Rattle.calls.specs.declared.Stream.{Stream}
+use Rattle.calls.specs.declared.Stream.the-variants.{Output, Error}
+use Rattle.calls.specs.Said.{octetsOfText}
+use Rattle.start.specs.Said.{startSaid}
 use Rattle.unitstart.specs.declared.UnitStart.{UnitStart}
 use Rattle.unitstart.specs.declared.UnitStart.the-variants.{Started, Refused, NoStart}
+
+-- a refusal is an answer; what the words are goes to standard error
+abbrev pub unitStartStream : UnitStart → Stream
+unitStartStream (Started profile minimum) = Error
+unitStartStream Refused = Output
+unitStartStream NoStart = Error
 
 -- "A refused start prints `06` and nothing else.", as START's does; and one line that says what the words are where
 -- they are none; nothing of a start

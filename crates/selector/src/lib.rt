@@ -377,7 +377,8 @@ fn selected_candidate(
     }
 }
 
-fn clock_state(locked: bool, held: bool) -> u8
+// The clock state: locked, or whether it ever was.
+pub fn clock_state(locked: bool, held: bool) -> u8
     ensures { λ answer. ⌜ answer ≡ clockState locked held ⌝ }
 {
     if locked {
@@ -390,7 +391,7 @@ fn clock_state(locked: bool, held: bool) -> u8
 }
 
 // 0 with mode off; the passed quality when locked; otherwise the clock's own.
-fn clock_quality(own: Quality, mode: bool, candidate: Candidate) -> Quality
+pub fn clock_quality(own: Quality, mode: bool, candidate: Candidate) -> Quality
     ensures { λ answer. ⌜ answer ≡ clockQuality own mode candidate ⌝ }
 {
     if mode {
@@ -418,7 +419,8 @@ fn outgoing_code(mode: bool, sending: bool, selected: bool, code: u8) -> u8
     CODE_DNU
 }
 
-fn selected_number(selection: Selection) -> u8
+// The selected input, as an answer names it.
+pub fn selected_number(selection: Selection) -> u8
     ensures { λ answer. ⌜ answer ≡ selectedNumber selection ⌝ }
 {
     match selection {
@@ -427,7 +429,8 @@ fn selected_number(selection: Selection) -> u8
     }
 }
 
-fn switch_number(switch: Switch) -> u8
+// The number of a switch.
+pub fn switch_number(switch: Switch) -> u8
     ensures { λ answer. ⌜ answer ≡ switchNumber switch ⌝ }
 {
     match switch {
@@ -437,7 +440,8 @@ fn switch_number(switch: Switch) -> u8
     }
 }
 
-fn switch_input(switch: Switch) -> u8
+// The input of a switch, as an answer names it.
+pub fn switch_input(switch: Switch) -> u8
     ensures { λ answer. ⌜ answer ≡ switchInput switch ⌝ }
 {
     match switch {

@@ -5,16 +5,22 @@
 // What the system hands over as arguments no contract can say: `read_start` promises that its
 // answer is that of some words, and `start_by` which answer they have. No public function has a
 // `requires`: a word may have any length and any content.
+use calls::Ending;
+use calls::Stream;
+use calls::write_alone;
 use numbers::ACCEPTED;
 use numbers::Profile;
 use numbers::start_number;
 use text::NumberRead;
 ghost use mathlib.Core.Bool.{true};
 ghost use mathlib.Core.Path.{_≡_};
+ghost use lib.ListN.{length};
+ghost use Rattle.calls.specs.Calls.{TextSaid};
 ghost use Rattle.digits.specs.Digits.{isDigit};
 ghost use Rattle.digits.specs.Decimal.{decimalValue};
 ghost use Rattle.start.specs.Start.{isOptionWord, isDecimal, isMarks, digitsValue, startOf, startIn, startBy, StartReadRight};
 ghost use Rattle.start.specs.Parts.{ValueOf, FourDigits};
+ghost use Rattle.start.specs.Said.{startStream, startSaid};
 
 // The words of `2 PLACE MARKS`.
 const WORDS: usize = 3;
@@ -184,4 +190,29 @@ pub fn read_start() -> StartRead
         &place[..second],
         &marks[..third],
     )
+}
+
+// Writes a line that says a start.
+fn start_line(stream: Stream, line: &[u8], start: StartRead) -> Ending
+    requires { ⌜ (stream ≡ startStream start) × (now line ≡ startSaid start) ⌝ }
+    ensures { λ ending. ⌜ TextSaid (length (startSaid start)) ending ⌝ }
+{
+    write_alone(stream, line)
+}
+
+// Says that there is no start: of a refused one its number on standard output, and nothing else; of
+// words that are no START on standard error, in one line, what START is. Of a start nothing is
+// said.
+pub fn say_start(start: StartRead) -> Ending
+    ensures { λ ending. ⌜ TextSaid (length (startSaid start)) ending ⌝ }
+{
+    match start {
+        StartRead::Started(_, _) => start_line(Stream::Error, b"", start),
+        StartRead::Refused => start_line(Stream::Output, b"06\n", start),
+        StartRead::NoStart => start_line(
+            Stream::Error,
+            b"START is nothing, or 2 PLACE MARKS: a decimal number, four hexadecimal digits\n",
+            start,
+        ),
+    }
 }

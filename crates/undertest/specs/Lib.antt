@@ -1,5 +1,6 @@
 -- `UnderTest`: what holds of a line under test. `UnitUnderTest`: the same of the station clock unit.
--- `Cases`: counts may differ.
+-- `CardsUnderTest`: the same of what C holds. `Cases`: counts may differ.
 pub mod UnderTest
 pub mod UnitUnderTest
+pub mod CardsUnderTest
 pub mod Cases

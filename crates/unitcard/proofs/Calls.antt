@@ -17,6 +17,7 @@ use Rattle.numbers.specs.Kind.{flag}
 use Rattle.numbers.specs.Profile.{limitsOf, lastPlace, placeOf, startNumber, profileIn}
 use Rattle.numbers.specs.Quality.{quality}
 use Rattle.numbers.specs.Refusal.{accepted, argumentOutOfRange}
+use Rattle.numbers.proofs.Truth.{byBool}
 use Rattle.selector.specs.declared.Selector.{Selector}
 use Rattle.selector.specs.Answer.{answerOf, outgoingCodes, outgoingWords}
 use Rattle.due.specs.Next.{nextDue}
@@ -43,16 +44,17 @@ use Rattle.unit.proofs.Output.{squelched-by, source-by, output-right}
 use Rattle.unit.proofs.Runs.{independence}
 use Rattle.card.specs.declared.Card.{Card}
 use Rattle.card.specs.Flat.{flatAnswer, selectorOf, cardOf}
-use Rattle.card.specs.Card.{readFor, cardCodes, cardWords, cardDue}
+use Rattle.card.specs.Card.{namesOption, readFor, cardCodes, cardWords, cardDue}
 use Rattle.card.proofs.Range.{Named, stepRead-readFor, sequence-named}
 use Rattle.card.specs.Sound.{cardSound}
-use Rattle.card.proofs.Called.{selectorOf-cardOf}
+use Rattle.card.proofs.Called.{selectorOf-cardOf, withNumber-cardOf}
+use Rattle.card.proofs.Calls.{names-neither}
 use Rattle.card.proofs.Kept.{sound-cardOf}
 use Rattle.unitcard.specs.declared.UnitCard.{UnitCard}
-use Rattle.unitcard.specs.Flat.{halfIn, numberOfTo, halfCard, cardIn, unitOf, unitCardOf, withNumbers}
+use Rattle.unitcard.specs.Flat.{stationHalf, halfIn, numberOfTo, halfCard, cardIn, unitOf, unitCardOf, withNumbers}
 use Rattle.unitcard.specs.UnitCard.{freshUnitCard, startUnitCard, steppedUnitCard, stepUnitCard}
 use Rattle.unitcard.specs.Calls.{calledUnit, unitCardAfter, halfLatestNumber, halfLatestBy, UnitStartRight, UnitCardRight, HalfCardRight, OutputCardRight, SameCards}
-use Rattle.unitcard.proofs.Range.{NamedUnit}
+use Rattle.unitcard.proofs.Range.{NamedUnit, any-unit}
 
 -- ---- back from its numbers
 
@@ -66,6 +68,11 @@ unitOf-unitCardOf equipment station unit named = λ j.
       station = selectorOf-cardOf station 0 (nextDue (unit .station)) (unit .station) (named .station) j;
       minimum = unit .minimum;
     }
+
+-- the number of a half is not above the last
+numberOfTo-half : (to : Half) → ltb stationHalf (numberOfTo to) ≡ false
+numberOfTo-half H.Equipment = refl
+numberOfTo-half H.Station = refl
 
 halfIn-to : (to : Half) → halfIn (numberOfTo to) ≡ to
 unfolding halfIn
@@ -88,17 +95,21 @@ unfolding unitStartNumber startNumber
 unitStart-refused profile minimum =
     refused-number (not (isMinimum profile minimum)) (ltb lastPlace (placeOf profile))
 
--- A minimum or a place that is out of range starts nothing, and any other start is where calls in a row begin.
+-- A minimum, a place or an option that is out of range starts nothing, and any other start is where calls in a row begin.
 pub unit-start-right : (flat : UnitCard) (option place marks minimum : ℕ)
     → UnitStartRight flat option place marks minimum
 unfolding startUnitCard unitCardAfter
 unit-start-right flat option place marks minimum =
     record {
       refused = λ refused.
-          rw (ne-eqb (unitStartNumber (profileIn option place marks) (quality minimum)) accepted refused)
-          (ap (withNumbers flat) (unitStart-refused (profileIn option place marks) (quality minimum) refused));
-      starts = λ starts.
-          rw (eq-eqb (unitStartNumber (profileIn option place marks) (quality minimum)) accepted starts);
+          byBool (namesOption option)
+          (λ named.
+          rw (named, ne-eqb (unitStartNumber (profileIn option place marks) (quality minimum)) accepted refused)
+          (ap (withNumbers flat) (unitStart-refused (profileIn option place marks) (quality minimum) refused)))
+          (λ other. rw other);
+      neither = λ one two. rw (names-neither option one two);
+      starts = λ named starts.
+          rw (named, eq-eqb (unitStartNumber (profileIn option place marks) (quality minimum)) accepted starts);
     }
 
 -- ---- calls in a row
@@ -132,10 +143,11 @@ unfolding stepUnitCard
 called-unitCardOf equipment station unit addressed named =
     let event = addressed .given .event in
     let frame = addressed .given .frame in
-    (λ j. steppedUnitCard
+    rw (numberOfTo-half (addressed .to))
+    ((λ j. steppedUnitCard
     (stepUnitRead (unitOf-unitCardOf equipment station unit named j) (halfIn-to (addressed .to) j) event
     (readFor (event .kind) frame))) ∙
-    ap steppedUnitCard (stepUnit-readFor unit (addressed .to) event frame)
+    ap steppedUnitCard (stepUnit-readFor unit (addressed .to) event frame))
 
 module _ (minimum : Quality) where
   half-named : (half : Half) (sequence : UnitSequence) → Named (halfAfter minimum half sequence)
@@ -159,10 +171,34 @@ module _ (minimum : Quality) where
   after-unit : (sequence : UnitSequence) → unitOf (unitCardAfter minimum sequence) ≡ unitAfter minimum sequence
   after-unit sequence = ap unitOf (after-whole sequence) ∙ unitOf-unitCardOf _ _ _ (unit-named sequence)
 
+-- a unit of other numbers in both answers
+withNumbers-unitCardOf : (equipment station number : ℕ) (unit : Unit)
+    → withNumbers (unitCardOf equipment station unit) number ≡ unitCardOf number number unit
+unfolding unitCardOf
+withNumbers-unitCardOf equipment station number unit = λ j.
+    record {
+      equipment = withNumber-cardOf equipment number 0 0 (nextDue (unit .equipment)) (unit .equipment) j;
+      station = withNumber-cardOf station number 0 0 (nextDue (unit .station)) (unit .station) j;
+      minimum = unit .minimum .0;
+      squelched = flag (isSquelched unit);
+      source = sourceOf unit;
+      spare = 0;
+      spare4 = 0;
+    }
+
 -- CALLS IN A ROW ARE THE UNIT'S STEPS IN A ROW, for every sequence of the unit's events.
 pub unit-card-right : (minimum : Quality) (sequence : UnitSequence) → UnitCardRight minimum sequence
 unit-card-right minimum sequence =
-    record { unit = after-unit minimum sequence; whole = after-whole minimum sequence }
+    record {
+      unit = after-unit minimum sequence;
+      whole = after-whole minimum sequence;
+      neither = λ half kind time input argument frame above.
+          any-unit (unitCardAfter minimum sequence) half kind time input argument frame .neither above ∙
+          ap (unitCardOf argumentOutOfRange argumentOutOfRange) (after-unit minimum sequence) ∙
+          sym
+          (ap (λ (flat : UnitCard). withNumbers flat argumentOutOfRange) (after-whole minimum sequence) ∙
+          withNumbers-unitCardOf _ _ argumentOutOfRange (unitAfter minimum sequence));
+    }
 
 -- ---- each half
 
@@ -171,7 +207,7 @@ module _ (minimum : Quality) (half : Half) (sequence : UnitSequence) where
   own = stateAfter (ownEvents half sequence)
 
   -- the card of a half is that of its selector after its own events
-  half-card : cardIn half (unitCardAfter minimum sequence) ≡ halfCard (halfLatestNumber minimum half sequence) own
+  pub half-card : cardIn half (unitCardAfter minimum sequence) ≡ halfCard (halfLatestNumber minimum half sequence) own
   unfolding unitCardOf
   half-card =
       ap (λ (flat : UnitCard). cardIn half flat) (after-whole minimum sequence) ∙
@@ -232,11 +268,11 @@ half-card-right minimum half sequence =
 -- ---- the station output
 
 module _ (minimum : Quality) (sequence : UnitSequence) where
-  squelched-of : unitCardAfter minimum sequence .squelched ≡ flag (isSquelched (unitAfter minimum sequence))
+  pub squelched-of : unitCardAfter minimum sequence .squelched ≡ flag (isSquelched (unitAfter minimum sequence))
   unfolding unitCardOf
   squelched-of = ap (λ (flat : UnitCard). flat .squelched) (after-whole minimum sequence)
 
-  source-of : unitCardAfter minimum sequence .source ≡ sourceOf (unitAfter minimum sequence)
+  pub source-of : unitCardAfter minimum sequence .source ≡ sourceOf (unitAfter minimum sequence)
   unfolding unitCardOf
   source-of = ap (λ (flat : UnitCard). flat .source) (after-whole minimum sequence)
 

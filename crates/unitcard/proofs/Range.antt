@@ -1,10 +1,11 @@
 -- The inputs that a unit names stay among the sixteen, so that C may index by what it reads. Assumes nothing.
-use Prim.Native.Nat.{ℕ}
+use Prim.Native.Nat.{ℕ, _≤_}
 use mathlib.Core.Bool.{Bool, true, false, cond}
 use mathlib.Core.List.{List, []}
-use mathlib.Core.Logic.{inr, _≢_}
+use mathlib.Core.Logic.{inr}
 use mathlib.Core.Path.{_≡_, refl}
-use borrow.Author.Tests.{ne-eqb}
+use lib.Dec.{ltb}
+use borrow.Author.Tests.{lt-ltb}
 use Rattle.numbers.specs.declared.Event.{Event}
 use Rattle.numbers.specs.Refusal.{accepted}
 use Rattle.numbers.proofs.Truth.{flag-most}
@@ -19,10 +20,10 @@ use Rattle.unit.specs.declared.Unit.{Unit}
 use Rattle.unit.specs.Kept.{halfStep, stepUnitRead, isSquelched, sourceOf}
 use Rattle.card.specs.Flat.{cardOf}
 use Rattle.card.specs.Card.{eventOf, readFor}
-use Rattle.card.specs.Range.{IsInput}
+use Rattle.card.specs.Range.{IsInput, InRange}
 use Rattle.card.proofs.Range.{Named, selectorOf-named, stepRead-named, readFor-unread, cardOf-inRange}
 use Rattle.unitcard.specs.declared.UnitCard.{UnitCard}
-use Rattle.unitcard.specs.Flat.{equipmentHalf, stationHalf, halfIn, unitOf, unitCardOf}
+use Rattle.unitcard.specs.Flat.{stationHalf, halfIn, unitOf, unitCardOf}
 use Rattle.unitcard.specs.UnitCard.{stepUnitCard}
 use Rattle.unitcard.specs.Range.{AnyUnit}
 
@@ -66,24 +67,48 @@ source-input unit named =
     told-or-none (isSquelched unit) (answerOf accepted (unit .station) .selected)
     (cardOf-inRange accepted 0 0 (unit .station) named .selected)
 
-halfIn-other : (half : ℕ) → half ≢ stationHalf → halfIn half ≡ halfIn equipmentHalf
-unfolding halfIn
-halfIn-other half other = rw (ne-eqb _ _ other)
+-- what C may read of a unit
+record Reads (flat : UnitCard) : Type 0 where
+  equipment : InRange (flat .equipment)
+  station : InRange (flat .station)
+  source : IsInput (flat .source)
+  squelched : flat .squelched ≤ 1
 
--- Whatever unit came in, C may index by what it reads; any half's number but 1 is the equipment's; and what is lent
--- beside another event than a frame changes nothing.
+unitCardOf-reads : (equipment station : ℕ) (unit : Unit) → NamedUnit unit → Reads (unitCardOf equipment station unit)
+unfolding unitCardOf
+unitCardOf-reads equipment station unit named =
+    record {
+      equipment = cardOf-inRange equipment 0 _ (unit .equipment) (named .equipment);
+      station = cardOf-inRange station 0 _ (unit .station) (named .station);
+      source = source-input unit (named .station);
+      squelched = flag-most (isSquelched unit);
+    }
+
+either-reads : (test : Bool) (one other : UnitCard) → Reads one → Reads other → Reads (cond test one other)
+either-reads true one other first second = first
+either-reads false one other first second = second
+
+stepUnitCard-reads : (flat : UnitCard) (half kind time input argument : ℕ) (frame : List ℕ)
+    → Reads (stepUnitCard flat half kind time input argument frame)
+unfolding stepUnitCard
+stepUnitCard-reads flat half kind time input argument frame =
+    let event = eventOf kind time input argument in
+    either-reads (ltb stationHalf half) _ _ (unitCardOf-reads _ _ (unitOf flat) (unitOf-named flat))
+    (unitCardOf-reads _ _ _
+    (stepUnitRead-named (unitOf flat) (halfIn half) event (readFor kind frame) (unitOf-named flat)))
+
+-- Whatever unit came in, C may index by what it reads; a number that is no half's is refused; and what is lent beside
+-- another event than a frame changes nothing.
 pub any-unit : (flat : UnitCard) (half kind time input argument : ℕ) (frame : List ℕ)
     → AnyUnit flat half kind time input argument frame
-unfolding stepUnitCard unitCardOf
+unfolding stepUnitCard
 any-unit flat half kind time input argument frame =
-    let event = eventOf kind time input argument in
-    let after = stepUnitRead (unitOf flat) (halfIn half) event (readFor kind frame) in
-    let named = stepUnitRead-named (unitOf flat) (halfIn half) event (readFor kind frame) (unitOf-named flat) in
+    let reads = stepUnitCard-reads flat half kind time input argument frame in
     record {
-      equipment = cardOf-inRange (after .equipment) 0 _ (after .unit .equipment) (named .equipment);
-      station = cardOf-inRange (after .station) 0 _ (after .unit .station) (named .station);
-      source = source-input (after .unit) (named .station);
-      squelched = flag-most (isSquelched (after .unit));
-      other = λ other. rw (halfIn-other half other);
+      equipment = reads .equipment;
+      station = reads .station;
+      source = reads .source;
+      squelched = reads .squelched;
+      neither = λ above. rw (lt-ltb stationHalf half above);
       unread = λ other lent. rw (readFor-unread kind frame lent other);
     }

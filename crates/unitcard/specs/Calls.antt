@@ -1,6 +1,8 @@
 -- What C holds after calls in a row on a fresh unit, each passing on what the one before handed out: the unit after the
 -- same events, so that all that holds of the unit holds of what C holds. Not cited by the code. Assumes nothing.
-use Prim.Native.Nat.{ℕ}
+use Prim.Native.Nat.{ℕ, _<_}
+use mathlib.Core.Bool.{true}
+use mathlib.Core.List.{List}
 use mathlib.Core.Logic.{_≢_}
 use mathlib.Core.Path.{_≡_}
 use Rattle.numbers.specs.declared.Quality.{Quality}
@@ -8,7 +10,7 @@ use Rattle.numbers.specs.From.{started, _following_}
 use Rattle.numbers.specs.Kind.{flag}
 use Rattle.numbers.specs.Quality.{quality}
 use Rattle.numbers.specs.Refusal.{accepted, argumentOutOfRange}
-use Rattle.numbers.specs.Profile.{profileIn}
+use Rattle.numbers.specs.Profile.{optionOne, optionTwo, profileIn}
 use Rattle.events.specs.Sequence.{stateAfter}
 use Rattle.events.specs.Past.{recorded}
 use Rattle.events.specs.Told.{answerBy, codesBy, wordsBy}
@@ -19,10 +21,10 @@ use Rattle.unit.specs.Unit.{Addressed, UnitSequence, unitStartNumber, ownEvents
 use Rattle.unit.specs.Sequence.{unitAfter, halfNumber}
 use Rattle.unit.specs.Claims.{HalfRight, OneTime, RefusalsLeave, OutputRight}
 use Rattle.card.specs.Flat.{flatAnswer, selectorOf}
-use Rattle.card.specs.Card.{cardCodes, cardWords, cardDue}
+use Rattle.card.specs.Card.{namesOption, cardCodes, cardWords, cardDue}
 use Rattle.card.specs.Sound.{cardSound}
 use Rattle.unitcard.specs.declared.UnitCard.{UnitCard}
-use Rattle.unitcard.specs.Flat.{numberOfTo, cardIn, unitOf, unitCardOf, withNumbers}
+use Rattle.unitcard.specs.Flat.{stationHalf, numberOfTo, cardIn, unitOf, unitCardOf, withNumbers}
 use Rattle.unitcard.specs.UnitCard.{freshUnitCard, startUnitCard, stepUnitCard}
 
 -- a unit after a call
@@ -52,8 +54,11 @@ pub record UnitStartRight (flat : UnitCard) (option place marks minimum : ℕ) :
   -- "otherwise 6 and no start": the unit is as it was, but for the numbers
   pub refused : unitStartNumber (profileIn option place marks) (quality minimum) ≢ accepted
       → startUnitCard flat option place marks minimum ≡ withNumbers flat argumentOutOfRange
+  -- nor does a number that is no option's start one
+  pub neither : option ≢ optionOne → option ≢ optionTwo
+      → startUnitCard flat option place marks minimum ≡ withNumbers flat argumentOutOfRange
   -- any other start leaves a fresh unit of its profile and minimum, whatever the unit held
-  pub starts : unitStartNumber (profileIn option place marks) (quality minimum) ≡ accepted
+  pub starts : namesOption option ≡ true → unitStartNumber (profileIn option place marks) (quality minimum) ≡ accepted
       → startUnitCard flat option place marks minimum ≡
       unitCardAfter (quality minimum) (started (profileIn option place marks))
 
@@ -63,6 +68,10 @@ pub record UnitCardRight (minimum : Quality) (sequence : UnitSequence) : Type 0 
   pub whole : unitCardAfter minimum sequence ≡
       unitCardOf (halfLatestNumber minimum H.Equipment sequence) (halfLatestNumber minimum H.Station sequence)
       (unitAfter minimum sequence)
+  -- a number that is no half's: the unit is as it was, but for the numbers
+  pub neither : (half kind time input argument : ℕ) (frame : List ℕ) → stationHalf < half
+      → stepUnitCard (unitCardAfter minimum sequence) half kind time input argument frame ≡
+      withNumbers (unitCardAfter minimum sequence) argumentOutOfRange
 
 -- a half in C's hands: the selector after its own events, and what C reads of it is what has happened to it
 pub record HalfCardRight (minimum : Quality) (half : Half) (sequence : UnitSequence) : Type 0 where

@@ -21,7 +21,7 @@ equipmentHalf = 0
 abbrev pub stationHalf : ℕ
 stationHalf = 1
 
--- the half of a number: any but the station's is the equipment's
+-- the half of a number, which is one of the two
 unfoldable pub halfIn : ℕ → Half
 halfIn half = cond (eqb half stationHalf) H.Station H.Equipment
 

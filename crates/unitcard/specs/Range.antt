@@ -1,13 +1,14 @@
 -- What C may index by: after every event, whatever unit came in. And what no answer depends on. Not cited by the code.
 -- Assumes nothing.
-use Prim.Native.Nat.{ℕ, _≤_}
+use Prim.Native.Nat.{ℕ, _≤_, _<_}
 use mathlib.Core.List.{List}
 use mathlib.Core.Logic.{_≢_}
 use mathlib.Core.Path.{_≡_}
 use Rattle.numbers.specs.Kind.{kindFrame}
+use Rattle.numbers.specs.Refusal.{argumentOutOfRange}
 use Rattle.card.specs.Range.{IsInput, InRange}
 use Rattle.unitcard.specs.declared.UnitCard.{UnitCard}
-use Rattle.unitcard.specs.Flat.{equipmentHalf, stationHalf}
+use Rattle.unitcard.specs.Flat.{stationHalf, unitOf, unitCardOf}
 use Rattle.unitcard.specs.UnitCard.{stepUnitCard}
 
 -- after any call, on any unit at all
@@ -16,10 +17,10 @@ pub record AnyUnit (flat : UnitCard) (half kind time input argument : ℕ) (fram
   pub station : InRange (stepUnitCard flat half kind time input argument frame .station)
   pub source : IsInput (stepUnitCard flat half kind time input argument frame .source)
   pub squelched : stepUnitCard flat half kind time input argument frame .squelched ≤ 1
-  -- any number but the station's is the equipment's
-  pub other : half ≢ stationHalf
+  -- a number that is no half's is refused with 6, and nothing happens
+  pub neither : stationHalf < half
       → stepUnitCard flat half kind time input argument frame ≡
-      stepUnitCard flat equipmentHalf kind time input argument frame
+      unitCardOf argumentOutOfRange argumentOutOfRange (unitOf flat)
   -- a frame is looked at for a frame event alone: for any other, what is lent changes nothing
   pub unread : kind ≢ kindFrame
       → (lent : List ℕ)

@@ -8,7 +8,7 @@ ghost use Rattle.card.specs.Card.{headerVersion};
 ghost use Rattle.unitcard.specs.UnitCard.{unitOctets, startUnitCard, stepUnitCard};
 
 // That of the header, as the card's library has it.
-const VERSION: u32 = 4;
+const VERSION: u32 = 5;
 
 // How long a unit is in C.
 const UNIT_OCTETS: u32 = 1_368;
@@ -29,9 +29,9 @@ pub extern "C" fn nurrispane_unit_octets() -> u32
     UNIT_OCTETS
 }
 
-// Starts a unit with a profile and a minimum, whatever it held: it is fresh then. A minimum that is
-// not 1 to 4, of option II 1 to 8, or a place above 8 is refused with 6, and nothing starts: the
-// unit is kept but for the numbers in its answers.
+// Starts a unit with a profile and a minimum, whatever it held: it is fresh then. An option that is
+// neither 1 nor 2, a minimum that is not 1 to 4, of option II 1 to 8, or a place above 8 is refused
+// with 6, and nothing starts: the unit is kept but for the numbers in its answers.
 #[no_mangle]
 pub extern "C" fn nurrispane_unit_fresh(
     unit: &mut UnitCard,
@@ -49,7 +49,8 @@ pub extern "C" fn nurrispane_unit_fresh(
 }
 
 // One event with a lent frame, which is looked at for a frame event alone, sent to a half: the unit
-// after it, with the answers, takes the place of the unit before it.
+// after it, with the answers, takes the place of the unit before it. A half that is neither 0 nor 1
+// is refused with 6 by both, and nothing happens.
 #[no_mangle]
 pub extern "C" fn nurrispane_unit_step(
     unit: &mut UnitCard,

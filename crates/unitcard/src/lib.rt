@@ -10,11 +10,13 @@ pub mod exports;
 
 use card::Card;
 use card::card_of;
+use card::names_option;
 use card::read_for;
 use card::selector_of;
 use card::with_number;
 use due::next_due;
 use numbers::ACCEPTED;
+use numbers::ARGUMENT_OUT_OF_RANGE;
 use numbers::Event;
 use numbers::Profile;
 use numbers::Quality;
@@ -27,7 +29,7 @@ ghost use mathlib.Core.Path.{_≡_};
 ghost use Rattle.unitcard.specs.Flat.{halfIn, halfCard, unitOf, unitCardOf, withNumbers};
 ghost use Rattle.unitcard.specs.UnitCard.{freshUnitCard, startUnitCard, stepUnitCard};
 
-// The station half, as C numbers it; any other number is the equipment's.
+// The station half, as C numbers it, and the last; 0 is the equipment's.
 const STATION: u8 = 1;
 
 // The unit: a card for each selector, with its answer; the worst quality that the station output
@@ -133,6 +135,9 @@ fn fresh_unit_card(profile: Profile, minimum: Quality) -> UnitCard
 fn start_unit_card(flat: UnitCard, option: u8, place: u8, marks: u16, minimum: u8) -> UnitCard
     ensures { λ answer. ⌜ answer ≡ startUnitCard flat option place marks minimum ⌝ }
 {
+    if !names_option(option) {
+        return with_numbers(flat, ARGUMENT_OUT_OF_RANGE);
+    }
     let profile = profile_in(option, place, marks);
     let worst = Quality(minimum);
     let number = unit_start_number(profile, worst);
@@ -142,7 +147,8 @@ fn start_unit_card(flat: UnitCard, option: u8, place: u8, marks: u16, minimum: u
     with_numbers(flat, number)
 }
 
-// One event with a lent frame, sent to a half: the unit after it, with the answers.
+// One event with a lent frame, sent to a half: the unit after it, with the answers. A number that is
+// no half's is refused with 6, and nothing happens.
 fn step_unit_card(
     flat: UnitCard,
     half: u8,
@@ -155,13 +161,16 @@ fn step_unit_card(
     ensures { λ answer. ⌜
         answer ≡ stepUnitCard flat half kind time input argument (now (frame .entry)) ⌝ }
 {
+    let unit = unit_of(flat);
+    if STATION < half {
+        return unit_card_of(ARGUMENT_OUT_OF_RANGE, ARGUMENT_OUT_OF_RANGE, unit);
+    }
     let event = Event {
         kind,
         time,
         input,
         argument,
     };
-    let unit = unit_of(flat);
     let to = half_in(half);
     let read = read_for(kind, frame);
     let stepped = unit.step_read(to, event, read);

@@ -3,7 +3,8 @@ with what each answer means.
 
 Whether they differ the proved program says, which lists lines by their numbers; its list comes last. For the eye, lines are first matched by
 time and content, so that a line that one recorder lost shifts nothing: shown are the lines that only one log has, and matched lines
-that are answered differently. Exit status 0: the answers are the same; 1: they differ; 2: trouble. A log of more than 1,048,576
+that are answered differently. Exit status 0: the answers are the same; 1: they differ; 2: trouble, also where nothing
+differs and no line of a log is formed. A log of more than 1,048,576
 octets is trouble: the program can't hold it."""
 
 from nurrispane import answers, logs, matching, profiles, programs, words
@@ -33,10 +34,19 @@ def run(options):
     for path, log in zip((options.first, options.second), recorded):
         logs.word_on_old_form("compare", path, log)
     number, numbers = differing(recorded)
+    if number != TOO_MANY and not numbers:
+        comparable(names, recorded)
     sides = [list(zip(words.split_log(log)[0], programs.answers("replay", log))) for log in recorded]
     told = [*report(names, sides, bool(numbers) or number == TOO_MANY), "", listed(number, numbers)]
     write(options.out, "".join(line.rstrip() + "\n" for line in told).encode())
     return FINDING if number == TOO_MANY or numbers else FINE
+
+
+def comparable(names, recorded):
+    """Trouble where no line of a log is formed: that two such are answered alike says nothing."""
+    for name, log in zip(names, recorded):
+        if words.option_in(log) is None:
+            raise Trouble("%s, so there is nothing to compare" % ("no line of %s is formed" % name if log else "%s is empty" % name))
 
 
 def differing(recorded):
@@ -67,11 +77,11 @@ def report(names, sides, differ):
     yield f"only in the first: {alone[0]}; only in the second: {alone[1]}; matched and answered differently: {len(found) - sum(alone)}"
     if not differ:
         return
-    options = [words.option_of(side) for side in lines]
+    told_of = [profiles.of_log(words.option_of(side)) for side in lines]
     yield row("", *names)
     for pair in found[:MOST_SHOWN]:
         yield ""
-        cells = [["no such line"] if place is None else cell(*side[place], option) for place, side, option in zip(pair, sides, options)]
+        cells = [["no such line"] if place is None else cell(*side[place], profile) for place, side, profile in zip(pair, sides, told_of)]
         for place in range(max(map(len, cells))):
             shown = [lines[place] if place < len(lines) else "" for lines in cells]
             yield row(head(pair) if place == 0 else "", *shown)
@@ -96,11 +106,10 @@ def head(pair):
     return f"line {numbers[0]}" if numbers[0] == numbers[1] else f"line {' / '.join(numbers)}"
 
 
-def cell(line, answer, option):
-    """What is shown of a line of a log of this option: its words, and its answer, a part a line."""
-    profiles.follow(option)
-    said = words.line_in_words(line, profiles.chosen.option)
-    return [said if len(said) <= WIDEST else said[: WIDEST - 2] + "..", *answers.meaning(answer).split("; ")]
+def cell(line, answer, profile):
+    """What is shown of a line of a log of this profile: its words, and its answer, a part a line."""
+    said = words.line_in_words(line, profile.option)
+    return [said if len(said) <= WIDEST else said[: WIDEST - 2] + "..", *answers.meaning(answer, profile).split("; ")]
 
 
 def row(first, left, right):

@@ -7,8 +7,8 @@ has it, recorded or not. Times are those of the log in ms. Exit status 0, or 2 f
 import csv
 import io
 
-from nurrispane import answers, inputs, logs, profiles, programs, words
-from nurrispane.files import FINE, Trouble, read, write
+from nurrispane import answers, inputs, logs, profiles
+from nurrispane.files import FINE, Trouble, write
 
 SUMMARY = "why each input is selected or isn't, line by line, by what is proved"
 EXAMPLES = [
@@ -16,6 +16,7 @@ EXAMPLES = [
     "./nurrispane explain examples/whole-replay.log --input 3 --csv",
 ]
 HEAD = ["in", "kind", "priority", "lockout", "signal", "last report", "raw", "passed", "why not"]
+PROGRESS = True
 CSV = ["line", "time", "event", "number", "selected", "state", "quality", "switch", "on", "input", "kind", "priority", "lockout",
        "signal", "last report", "raw", "passed", "eligible", "timer", "frame", "reason", "why"]
 
@@ -30,47 +31,25 @@ def arguments(parser):
 
 
 def run(options):
-    profiles.take_start(options.start)
     if options.input is not None and not 0 <= options.input < inputs.INPUTS:
         raise Trouble("there is no input %d: 0 to 15" % options.input)
-    data = read(options.log)
-    lines = words.split_log(data)[0]
-    profiles.follow(words.option_of(lines))
-    if options.line is not None and not 1 <= options.line <= len(lines):
-        raise Trouble("there is no line %d: the log has %d" % (options.line, len(lines)))
-    logs.word_on_form("explain", options.log, data)
+    log = logs.taken("explain", options.log, options.start)
+    if options.line is not None and not 1 <= options.line <= len(log.lines):
+        raise Trouble("there is no line %d: the log has %d" % (options.line, len(log.lines)))
     told = in_csv if options.csv else in_words
-    write(options.out, "".join(told(lines, options)).encode())
+    write(options.out, "".join(told(log, options)).encode())
     return FINE
 
 
-def explained(lines, options):
+def explained(log, options):
     """Number, event, answer line, facts and reports of each line asked for."""
-    last = options.line or len(lines)
-    asked = [last] if options.line else range(1, last + 1)
-    right = programs.answers("replay", b"".join(line + b"\n" for line in lines[:last]))
-    reports, done = inputs.Reports(), 0
-    for number, facts in inputs.along(lines, asked):
-        for place in range(done, number):
-            reports.take(lines[place], right[place])
-        done = number
-        yield number, lines[number - 1], right[number - 1], facts, reports
-
-
-def event_in_words(line):
-    """When a line's event came and what it is; a malformed line as it stands."""
-    option = profiles.chosen.option
-    event = words.event_of(line, option)
-    if event is None:
-        said = words.line_in_words(line, option)
-        return None, said if len(said) <= 60 else said[:58] + ".."
-    if event.kind == words.FRAME_KIND:
-        return event.time, "frame on input %d" % event.input
-    said = words.line_in_words(line).split()[1:]
-    kind = words.BY_NUMBER.get(event.kind)
-    if kind is not None and kind.has_input and said[0] != "event":
-        return event.time, " ".join([said[0], *said[2:], "on input", said[1]])
-    return event.time, " ".join(said)
+    asked = [options.line] if options.line else range(1, len(log.lines) + 1)
+    reports, done = inputs.Reports(log.profile), 0
+    for known in inputs.along(log.lines, asked, log.profile.start):
+        for place in range(done, known.number):
+            reports.take(log.lines[place][:-1], known.said[inputs.ANSWER * (place - done):inputs.ANSWER * (place - done) + 2])
+        done = known.number
+        yield done, log.line(done), known.answer, known.facts, reports
 
 
 def asked_inputs(options, facts, answer):
@@ -80,24 +59,25 @@ def asked_inputs(options, facts, answer):
     return [number for number, fact in enumerate(facts) if fact.priority or number == answer[1]]
 
 
-def cells(number, facts, answer, reports):
+def cells(number, facts, answer, reports, profile):
     fact = facts[number]
     kind = inputs.KINDS[fact.kind]
     return ["%d" % number, kind, "%d" % fact.priority if fact.priority else "off", "set" if fact.locked else "none",
-            "good" if fact.signal else "failing", reports.told(number, fact.time), inputs.quality(fact.raw),
-            inputs.quality(fact.passed), inputs.why(facts, number, answer, equal=reports.equal(number))[1]]
+            "good" if fact.signal else "failing", reports.told(number, fact.time), profiles.quality(fact.raw, profile),
+            profiles.quality(fact.passed, profile), inputs.why(facts, number, answer, profile, equal=reports.equal(number))[1]]
 
 
-def in_words(lines, options):
-    for number, line, answer, facts, reports in explained(lines, options):
+def in_words(log, options):
+    profile = log.profile
+    for number, line, answer, facts, reports in explained(log, options):
         octets = answers.octets_of(answer)
-        time, event = event_in_words(line)
-        taken, *rest = answers.meaning(answer).split("; ")
+        time, event = logs.event_in_words(line, profile.option)
+        taken, *rest = answers.meaning(answer, profile).split("; ")
         rest.insert(1, "quality mode %s" % ("on" if facts[0].mode else "off"))
         yield "line %d  %s  %s: %s\n  %s\n" % (number, logs.seconds(time), event, taken, "; ".join(rest))
         shown = asked_inputs(options, facts, octets)
         if shown:
-            yield from table([HEAD] + [cells(each, facts, octets, reports) for each in shown])
+            yield from table([HEAD] + [cells(each, facts, octets, reports, profile) for each in shown])
         hidden = [each for each in range(inputs.INPUTS) if each not in shown]
         if hidden and options.input is None:
             yield "  off: %s\n" % logs.ranges(hidden)
@@ -111,17 +91,18 @@ def table(rows):
         yield (first + "".join("  " + cell.ljust(width) for cell, width in zip(row[1:], widths[1:]))).rstrip() + "\n"
 
 
-def in_csv(lines, options):
+def in_csv(log, options):
+    profile = log.profile
     out = io.StringIO()
     writer = csv.writer(out, lineterminator="\n")
     writer.writerow(CSV)
-    for number, line, answer, facts, reports in explained(lines, options):
+    for number, line, answer, facts, reports in explained(log, options):
         octets = answers.octets_of(answer)
-        time, event = event_in_words(line)
+        time, event = logs.event_in_words(line, profile.option)
         for each in range(inputs.INPUTS) if options.input is None else [options.input]:
             fact = facts[each]
-            told = cells(each, facts, octets, reports)
-            reason, said = inputs.why(facts, each, octets, equal=reports.equal(each))
+            told = cells(each, facts, octets, reports, profile)
+            reason, said = inputs.why(facts, each, octets, profile, equal=reports.equal(each))
             writer.writerow([number, fact.time if time is None else time, event, *octets, each, *told[1:6], fact.raw, fact.passed,
                              fact.eligible, fact.timer, fact.frame, reason, said])
     yield out.getvalue()

@@ -1,30 +1,32 @@
 """Judges a card: where its own answers to a log differ from the right ones, both in words, with the reason from what is
-proved of the inputs. Of each sort of difference the first is told, and how many there are.
+proved of the inputs and what they received. Of each sort of difference the first is told, and how many there are; with --all every
+stretch of wrong lines, with --csv the same as rows.
 
-ANSWERS has the card's answer line to each line of the log. A card that logs no answers but a time and a selection is
+ANSWERS has the card's answer line to each line of the log; CR LF line ends and capital digits are taken, and an answer that was lost
+or doubled is found, named and passed over. A card that logs no answers but a time and a selection is
 judged with --times: lines of "TIME INPUT" in ms, "-" for none, one where its selection changes; differences that last
 longer than --tolerance are told. With --candidates the known faults that would give exactly these answers are named:
-candidates, never a verdict. Exit status 0: all answers are right; 1: some differ; 2: trouble."""
+candidates, never a verdict. Exit status 0: all answers are right; 1: some differ, are lost or too many; 2: trouble, also where there
+is nothing to judge."""
 
 import collections
-import functools
+import csv
+import io
 import re
 import sys
 
-from nurrispane import answers, faults, inputs, logs, profiles, programs, timeline, words
-from nurrispane.commands import explain
-from nurrispane.files import FINDING, FINE, Trouble, name_of, read, read_text, write
+from nurrispane import answered, answers, findings, inputs, logs, profiles, timeline
+from nurrispane.files import FINDING, FINE, Trouble, name_of, read_text, write
 
 SUMMARY = "where a card's own answers differ from the right ones, and why"
 EXAMPLES = [
     "./nurrispane judge examples/whole-replay.log examples/whole-replay.answers",
     "./nurrispane judge examples/whole-replay.log --times examples/whole-replay.times --tolerance 50ms",
 ]
-FIELDS = ["refusal", "selection", "clock state", "clock quality", "switch", "switch"]
+PROGRESS = True
 # What is told of sorts at most.
 MOST_SORTS = 20
-# So many answers are compared at once.
-BLOCK = 256
+CSV = ["from", "to", "first line", "last line", "wrong", "right", "card", "reasons"]
 
 
 def arguments(parser):
@@ -32,109 +34,136 @@ def arguments(parser):
     profiles.argument(parser)
     parser.add_argument("answers", nargs="?", metavar="ANSWERS", help="the card's answer lines")
     parser.add_argument("--times", metavar="FILE", help="the card's times and selections instead")
-    parser.add_argument("--tolerance", default="0ms", metavar="MS", help="with --times: how long a difference may last, as 50ms")
+    parser.add_argument("--tolerance", metavar="MS", help="with --times: how long a difference may last, as 50ms; 0 without it")
+    parser.add_argument("--all", action="store_true", help="every stretch that is wrong, not the first of each sort")
+    parser.add_argument("--csv", action="store_true", help="every stretch that is wrong as a row, for other programs")
     parser.add_argument("--candidates", nargs="?", const="", metavar="TEXT",
                         help="name the known faults, or those with TEXT in their names, that would give exactly these answers")
     parser.add_argument("--out", metavar="FILE", help="write to FILE, whole or not at all")
 
 
 def run(options):
-    profiles.take_start(options.start)
     if (options.answers is None) == (options.times is None):
         raise Trouble("either ANSWERS or --times FILE is needed")
-    data = read(options.log)
-    profiles.follow(words.option_in(data))
-    logs.word_on_form("judge", options.log, data)
-    if options.times is not None:
-        told = by_times(data, options)
-    else:
-        told = by_answers(data, read(options.answers), options)
+    without_effect(options)
+    log = logs.taken("judge", options.log, options.start)
+    logs.judged_by(log)
+    told = by_times(log, options) if options.times is not None else by_answers(log, options)
     found = next(told)
-    write(options.out, "".join(line + "\n" for line in told).encode())
+    write(options.out, "".join(told).encode())
     return FINDING if found else FINE
+
+
+def without_effect(options):
+    """Trouble where an option would have no effect."""
+    idle = []
+    if options.times is None:
+        idle += [("--tolerance", options.tolerance is not None)]
+    else:
+        idle += [("--candidates", options.candidates is not None), ("--all", options.all), ("--csv", options.csv)]
+    for name, given in idle:
+        if given:
+            raise Trouble("%s has no effect with %s" % (name, "ANSWERS" if options.times is None else "--times"))
+    if options.csv and (options.all or options.candidates is not None):
+        raise Trouble("--csv has every stretch and nothing else: %s has no effect with it" % ("--all" if options.all else "--candidates"))
 
 
 # ---- by answers
 
 
-def by_answers(data, given, options):
+def by_answers(log, options):
     """How many lines differ, and then what is said of them."""
-    lines, right = words.split_log(data)[0], programs.answers("replay", data)
-    card = words.split_log(given)[0]
-    wrong = list(differing(right, card))
-    missing = len(right) - len(card)
-    yield len(wrong) + abs(missing)
-    yield "lines: %d; answers: %d; wrong: %d" % (len(lines), len(card), len(wrong))
-    if missing:
-        yield "%s has %d answers too %s" % (name_of(options.answers), abs(missing), "few" if missing > 0 else "many")
+    judged = findings.ByAnswers(log, options.answers)
+    yield judged.count
+    if options.csv:
+        yield from in_csv(judged)
+        return
+    lost = "; lost: %d" % sum(map(len, judged.card.lost)) if judged.card.lost else ""
+    extra = "; too many: %d" % sum(map(len, judged.card.extra)) if judged.card.extra else ""
+    yield "lines: %d; answers: %d; wrong: %d%s%s\n" % (len(log.lines), judged.card.count, len(judged.wrong), lost, extra)
+    yield from (line + "\n" for line in on_the_file(judged.card))
+    yield from every_stretch(judged) if options.all else each_sort(judged)
+    if options.candidates is not None and judged.count:
+        yield "\n"
+        yield from (line + "\n" for line in candidates(judged, options.candidates))
+
+
+def on_the_file(card):
+    """What is said of the file of answers as such."""
+    name = name_of(card.path)
+    if card.forms:
+        yield "%s has %s, which are taken as they are meant" % (name, " and ".join(card.forms))
+    if card.odd:
+        places = logs.ranges([place + 1 for place in sorted(card.odd)][:MOST_SORTS])
+        yield "%d lines of %s are no answers: to line %s%s" % (len(card.odd), name, places, " .." if len(card.odd) > MOST_SORTS else "")
+    for gap in card.lost:
+        yield "%s has lost the answer%s to %s" % (name, "" if len(gap) == 1 else "s", gap.told("line"))
+    for gap in card.extra:
+        what = "is doubled" if gap.last - gap.first > len(gap) else "too many" if len(gap) > 1 else "is one too many"
+        yield "%s: %s %s; it belongs to no line" % (name, gap.told("answer"), what)
+    if card.unmatched:
+        yield "%s has %d answers too %s; which can't be said, so that lines are judged by their numbers" % (
+            name, abs(card.unmatched), "few" if card.unmatched < 0 else "many")
+
+
+def each_sort(judged):
+    """The first wrong line of each sort, and how many there are."""
     sorts = collections.OrderedDict()
-    for place in wrong:
-        sorts.setdefault(sort_of(right[place], card[place]), []).append(place)
+    for number, right, card in judged.wrong:
+        sorts.setdefault(findings.sort_of(right, card), []).append(number)
     told = list(sorts.items())[:MOST_SORTS]
-    facts = inputs.after(lines, [places[0] + 1 for _, places in told])
-    for sort, places in told:
-        yield ""
-        yield from difference(sort, places, lines, right, card, facts[places[0] + 1])
+    said = dict(judged.told([numbers[0] for _, numbers in told]))
+    for sort, numbers in told:
+        count = "once" if len(numbers) == 1 else "%s times, to line %d" % (format(len(numbers), ","), numbers[-1])
+        yield "\n%s wrong: %s\n" % (", ".join(sort), count)
+        yield from in_words(said[numbers[0]])
     if len(sorts) > MOST_SORTS:
-        yield ""
-        yield "%d further sorts of differences are not told" % (len(sorts) - MOST_SORTS)
-    if options.candidates is not None and wrong:
-        yield ""
-        yield from candidates(data, card, options.candidates)
+        yield "\n%d further sorts of differences are not told: --all tells each\n" % (len(sorts) - MOST_SORTS)
 
 
-def differing(right, card):
-    """The places at which both have an answer and these differ; what is alike is passed over many at a time."""
-    for start in range(0, min(len(right), len(card)), BLOCK):
-        one, other = right[start:start + BLOCK], card[start:start + BLOCK]
-        if one != other:
-            yield from (start + place for place, (first, second) in enumerate(zip(one, other)) if first != second)
+def every_stretch(judged):
+    found = {each.first: each for each in findings.stretches(judged.wrong)}
+    for number, said in judged.told(found):
+        each = found[number]
+        lines = "line %d" % number if each.last == number else "lines %d to %d" % (number, each.last)
+        yield "\n%s wrong: %s\n" % (", ".join(findings.sort_of(each.right, each.card)), lines)
+        yield from in_words(said)
 
 
-@functools.lru_cache(maxsize=None)
-def sort_of(right, wrong):
-    """Which parts of an answer differ."""
-    one, other = answers.octets_of(right), answers.octets_of(wrong)
-    if other is None:
-        return ("no answer line",)
-    return tuple(dict.fromkeys(field for field, first, second in zip(FIELDS, one, other) if first != second))
+def in_words(said):
+    yield "  %s\n    right: %s\n    card:  %s\n" % (said.head, said.right, said.card)
+    yield from ("    %s\n" % reason for reason in said.reasons)
 
 
-def difference(sort, places, lines, right, card, facts):
-    """The first difference of a sort, and how many there are."""
-    place = places[0]
-    time, event = explain.event_in_words(lines[place])
-    count = "once" if len(places) == 1 else "%s times, to line %d" % (format(len(places), ","), places[-1] + 1)
-    yield "%s wrong: %s" % (", ".join(sort), count)
-    yield "  line %d  %s  %s" % (place + 1, logs.seconds(time), event)
-    yield "    right: %s" % answers.meaning(right[place])
-    yield "    card:  %s" % answers.meaning(card[place])
-    for said in reasons(facts, answers.octets_of(right[place]), answers.octets_of(card[place]), words.event_of(lines[place], profiles.chosen.option)):
-        yield "    " + said
+def in_csv(judged):
+    """Every stretch; lines that were lost or are too many have rows too."""
+    found, out = {each.first: each for each in findings.stretches(judged.wrong)}, io.StringIO()
+    writer = csv.writer(out, lineterminator="\n")
+    writer.writerow(CSV)
+    time = lambda number: logs.event_in_words(judged.log.line(number), judged.log.profile.option)[0]
+    for number, said in judged.told(found):
+        each = found[number]
+        writer.writerow([time(number), time(each.last), number, each.last, ", ".join(findings.sort_of(each.right, each.card)), said.right, said.card,
+                         " | ".join(said.reasons)])
+    for gap, what in [*((gap, "lost") for gap in judged.card.lost), *((gap, "too many") for gap in judged.card.extra)]:
+        writer.writerow(["", "", gap.first + 1, gap.last, what, "", "", gap.told("answer")])
+    yield out.getvalue()
 
 
-def reasons(facts, right, wrong, event):
-    """What is known of the inputs that the two answers and the event name."""
-    shown = [right[1], right[5]]
-    if wrong is not None:
-        shown += [wrong[1], wrong[5]]
-    if event is not None and (event.kind == words.FRAME_KIND or getattr(words.BY_NUMBER.get(event.kind), "has_input", False)):
-        shown.append(event.input)
-    for number in dict.fromkeys(number for number in shown if number < inputs.INPUTS):
-        fact = facts[number]
-        yield "input %d: raw %s, passes %s, priority %d: %s" % (
-            number, inputs.quality(fact.raw), inputs.quality(fact.passed), fact.priority, inputs.why(facts, number, right)[1])
-
-
-def candidates(data, card, only):
+def candidates(judged, only):
     """The known faults that would give exactly these answers."""
-    chosen = [fault for fault in faults.of_answers(profiles.chosen.option) if only in fault.name]
+    from nurrispane import faults, reach  # only here, since few ask for it
+    log = judged.log
+    chosen = [fault for fault in faults.of_answers(log.profile.option) if only in fault.name]
     if not chosen:
         raise Trouble("no known fault has %s in its name" % ascii(only))
-    missing = [fault for fault in chosen if not faults.path_of(fault).exists()]
-    if missing:
-        sys.stderr.write("judge: building %d known faults, half a second each\n" % len(missing))
-    same = [fault.name for fault in chosen if faults.run(faults.build(fault), "replay", data) == card]
+    before = [line[:-1] for line in log.lines[:judged.wrong[0][0] if judged.wrong else None]]
+    able = reach.able(chosen, before, log.profile.start)
+    if len(able) < len(chosen):
+        sys.stderr.write("judge: %d of %d known faults can change an answer up to the first wrong one\n" % (len(able), len(chosen)))
+    faults.prepare(able, "judge")
+    card = judged.card.flat.split(b"\n")[:-1]
+    same = [fault.name for fault in able if alike(faults.run(faults.build(fault), "replay", log.data, log.profile.start), card)]
     if same:
         yield "candidates: a card with one of these known faults would give exactly these answers"
         yield from ("  " + name for name in same)
@@ -142,38 +171,40 @@ def candidates(data, card, only):
         yield "none of %d known faults would give exactly these answers" % len(chosen)
 
 
+def alike(one, card):
+    """Whether a copy gives the card's answers, those apart that were lost."""
+    return one is not None and len(one) == len(card) and all(other in (first, answered.LOST) for first, other in zip(one, card))
+
+
 # ---- by times and selections
 
 
-def by_times(data, options):
+def by_times(log, options):
     """How many stretches differ for too long, and then what is said of them."""
-    tolerance = milliseconds(options.tolerance)
+    tolerance = milliseconds(options.tolerance or "0ms")
     card = read_times(options.times)
-    lines = words.split_log(data)[0]
-    if card:
-        # what is right behind the log's end, if no further event comes; refused where the card ends first
-        lines = lines + [timeline.tick(card[-1][0], lines)]
-    ticked = timeline.served(lines)
+    if not card:
+        raise Trouble("%s shows nothing, so there is no verdict" % name_of(options.times))
+    # what is right behind the log's end, if no further event comes; refused where the card ends first
+    ticked = timeline.served(log.lines + [timeline.tick_line(card[-1][0], log.profile.option)], log.profile)
     right = timeline.selections(ticked)
     last = right[-1][0]
     found = [each for each in timeline.differences(right, [(0, None), *card], last) if each.end - each.start > tolerance]
     yield len(found)
-    yield "times: 0 to %s ms; selections: %d; wrong for more than %d ms: %d" % (format(last, ","), len(card), tolerance, len(found))
+    yield "times: 0 to %s ms; selections: %d; wrong for more than %d ms: %d\n" % (format(last, ","), len(card), tolerance, len(found))
     places = {each.start: ticked.line_at(each.start) for each in found[:MOST_SORTS]}
-    facts = inputs.after(ticked.lines, places.values())
+    facts = {known.number: known.facts for known in inputs.along(ticked.lines, sorted(set(places.values())), log.profile.start)}
     for each in found[:MOST_SORTS]:
         place = places[each.start]
-        yield ""
-        yield "from %s to %s ms: %s is right, the card has %s" % (
+        yield "\nfrom %s to %s ms: %s is right, the card has %s\n" % (
             format(each.start, ","), format(each.end, ","), selection(each.right), selection(each.card))
         shown = [number for number in (each.right, each.card) if number is not None]
         if place:
             answer = answers.octets_of(ticked.answers[place - 1])
             for number in shown:
-                yield "    input %d: %s" % (number, inputs.why(facts[place], number, answer)[1])
+                yield "    input %d: %s\n" % (number, inputs.why(facts[place], number, answer, log.profile)[1])
     if len(found) > MOST_SORTS:
-        yield ""
-        yield "%d further differences are not told" % (len(found) - MOST_SORTS)
+        yield "\n%d further differences are not told\n" % (len(found) - MOST_SORTS)
 
 
 def selection(number):

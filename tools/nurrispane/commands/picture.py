@@ -1,18 +1,22 @@
 """A picture of a log: lanes over time for what a right card selects, what the card under test selects and where they
-differ, the passed quality of each input that is ever used, the switch and the clock.
+differ, the passed quality of each input that is ever used, the switch and the clock. What is right changes when it does, also between
+two lines of the log; a card that gives ANSWERS is seen at the lines alone. The wrong stretches stand below, with the reasons.
 
 FILE.html is one page with nothing outside it: zoom with the wheel or the keys + and -, drag or use the arrows to move,
 hover for the reason. FILE.svg is the whole time as one small picture, FILE.vcd the same lanes as signals for GTKWave.
-All of it is asked of the proved programs. Exit status 0: no difference, or no ANSWERS; 1: the card differs; 2: trouble."""
+All of it is asked of the proved programs. Exit status 0: no difference, or no ANSWERS; 1: the card differs; 2: trouble, also where
+there is nothing to judge."""
 
-from nurrispane import logs, pictures, profiles, programs, words
-from nurrispane.files import FINDING, FINE, Trouble, name_of, read, write, write_out
+from nurrispane import findings, lanes, logs, pictures, profiles, timeline
+from nurrispane.files import FINDING, FINE, Trouble, name_of, write, write_out
 
 SUMMARY = "a log and a card's answers as lanes over time: a page, a small picture, or a wave file"
 EXAMPLES = [
     "./nurrispane picture examples/whole-replay.log examples/whole-replay.answers -o /tmp/whole-replay.html",
     "./nurrispane picture examples/whole-replay.log -o /tmp/whole-replay.vcd",
 ]
+PROGRESS = True
+FORMS = {"html": pictures.page, "svg": pictures.svg, "vcd": pictures.vcd}
 
 
 def arguments(parser):
@@ -23,23 +27,31 @@ def arguments(parser):
 
 
 def run(options):
-    profiles.take_start(options.start)
     form = options.out.rpartition(".")[2]
-    if form not in ("html", "svg", "vcd"):
+    if form not in FORMS:
         raise Trouble("%s: a picture is a FILE.html, a FILE.svg or a FILE.vcd" % options.out)
-    data = read(options.log)
-    profiles.follow(words.option_in(data))
-    logs.word_on_form("picture", options.log, data)
-    card = words.split_log(read(options.answers))[0] if options.answers else None
-    lines, right = words.split_log(data)[0], programs.answers("replay", data)
-    lanes, last = pictures.lanes_of(lines, right, card)
-    title = name_of(options.log) + (" and " + name_of(options.answers) if options.answers else "")
-    differing = sum(one != other for one, other in zip(right, card or right)) + (abs(len(right) - len(card)) if card is not None else 0)
-    summary = "; the card differs in %s" % format(differing, ",") if card is not None else ""
-    if form == "vcd":
-        made = pictures.vcd(lanes)
-    else:
-        made = (pictures.page if form == "html" else pictures.svg)(title, lanes, last, "%s lines%s" % (format(len(lines), ","), summary))
-    write(options.out, made.encode())
-    write_out(("%d lines in %d lanes are in %s%s\n" % (len(lines), len(lanes), options.out, summary)).encode())
-    return FINDING if differing else FINE
+    log = logs.taken("picture", options.log, options.start)
+    if not log.lines:
+        raise Trouble("%s is empty, so there is nothing to draw" % log.name)
+    picture, found = drawn(log, options)
+    write(options.out, FORMS[form](picture).encode())
+    write_out(("%d lines in %d lanes are in %s%s\n" % (len(log.lines), len(picture.lanes), options.out, picture.summary.partition(" lines")[2])).encode())
+    return FINDING if found else FINE
+
+
+def drawn(log, options):
+    """The picture, and how many findings there are."""
+    title, summary, wrong, shown, found = log.name, "%s lines" % format(len(log.lines), ","), [], [], 0
+    judged = None
+    if options.answers is not None:
+        logs.judged_by(log)
+        judged, title = findings.ByAnswers(log, options.answers), "%s and %s" % (log.name, name_of(options.answers))
+        found = judged.count
+        summary += "; " + judged.summary()
+    course = timeline.Course(log)
+    right, others = lanes.of_course(course, log.profile)
+    if judged:
+        card, wrong = lanes.of_answers(course, judged)
+        shown = [card, lanes.differs(course, wrong)]
+    drawn_lanes = [(lane.name, lane.ended(course.end + 1)) for lane in [right, *shown, *others]]
+    return pictures.Picture(title, summary, drawn_lanes, course.end, wrong, min(len(wrong), lanes.MOST_LISTED), lanes.key(log.profile)), found

@@ -28,25 +28,25 @@ def arguments(parser):
 
 
 def run(options):
-    profiles.take_start(options.start)
+    start = profiles.start_of(options.start)
     if options.words or options.summary:
         data = read(options.log)
-        profiles.follow(words.option_in(data))
-        right = programs.answers("replay", data)
+        profile = profiles.of_log(words.option_in(data), start)
+        right = programs.answers("replay", data, start)
         said = [answers.words(line).encode() for line in right] if options.words else right
         write(options.out, b"".join(line + b"\n" for line in said))
         logs.word_on_form("replay", options.log, data)
         if options.summary:
-            sys.stderr.write("".join(line + "\n" for line in summary(right)))
+            sys.stderr.write("".join(line + "\n" for line in summary(right, profile)))
     else:
-        front = programs.put_out("replay", options.log, options.out)
+        front = programs.put_out("replay", options.log, options.out, start)
         logs.word_on_form("replay", options.log, front)
     return FINE
 
 
-def summary(right):
+def summary(right, profile):
     """How many lines were accepted, and refused with each number."""
     counted = collections.Counter(int(line[:2], 16) for line in right)
     yield "lines: %d; accepted: %d" % (len(right), counted.pop(0, 0))
     for number in sorted(counted):
-        yield "refused with %s: %d" % (answers.refusal(number), counted[number])
+        yield "refused with %s: %d" % (answers.refusal(number, profile), counted[number])

@@ -59,14 +59,14 @@ def count_of(log):
 def told(options, log, report):
     """What is said of what was dropped."""
     lines = words.split_log(log)[0]
-    profiles.follow(words.option_of(lines))
+    profile = profiles.of_log(words.option_of(lines))
     for number, refusal in report:
-        yield "line %d dropped, refused with %s: %s" % (number, answers.refusal(refusal), shortened(lines[number - 1]))
+        yield "line %d dropped, refused with %s: %s" % (number, answers.refusal(refusal, profile), shortened(lines[number - 1], profile))
     for kept, shut_out in shutting_out(report):
         time = words.event_of(lines[kept - 1]).time
         count = "1 line" if len(shut_out) == 1 else f"{len(shut_out)} lines"
         yield (f"line {kept} is kept, and its time, {time:,} ms, shut out {count} with an earlier one (line {logs.ranges(shut_out)}); if it is "
-               f"torn, take that line out and salvage again: {shortened(lines[kept - 1])}")
+               f"torn, take that line out and salvage again: {shortened(lines[kept - 1], profile)}")
     yield "%d of %d lines are in %s, %d dropped" % (len(lines) - len(report), len(lines), name_of(options.out), len(report))
 
 
@@ -83,6 +83,6 @@ def shutting_out(report):
     return found.items()
 
 
-def shortened(line):
-    said = words.line_in_words(line, profiles.chosen.option)
+def shortened(line, profile):
+    said = words.line_in_words(line, profile.option)
     return said if len(said) <= 60 else said[:58] + ".."

@@ -2,18 +2,19 @@
 -- Assumes nothing.
 use mathlib.Core.Path.{_≡_, refl, sym}
 use lib.ListN.{length}
+use native.Mathlib.Omega.{arith}
 use lib.Seq.{length-take-le}
-use Rattle.console.proofs.Laws.{delivered-within}
+use Rattle.calls.proofs.Laws.{delivered-within}
 use borrow.Author.Needs.{needs}
 use Rattle.facts.proofs.take_chunks.Statement.{statement}
 use Rattle.facts.proofs.take_chunks.Tie as tie
 
 abbrev Inv-loop : tie.InvT-loop
-Inv-loop prov marks chunk₀ digits₀ out₀ facts₀ progress₀ left₀ chunk digits out facts progress left =
+Inv-loop prov marks chunk₀ digits₀ out₀ facts₀ progress₀ read₀ left₀ chunk digits out facts progress read left =
     (length chunk ≡ length chunk₀) × ((length out ≡ length out₀) × (length facts ≡ length facts₀))
 
 abbrev μ-loop : tie.MeasureT-loop
-μ-loop prov marks chunk₀ digits₀ out₀ facts₀ progress₀ left₀ chunk digits out facts progress left = left
+μ-loop prov marks chunk₀ digits₀ out₀ facts₀ progress₀ read₀ left₀ chunk digits out facts progress read left = left
 
 start-requires : tie.Need-start-requires Inv-loop μ-loop
 start-requires c κs = search needs
@@ -21,11 +22,11 @@ start-requires c κs = search needs
 loop-holds : tie.Need-loop-holds Inv-loop μ-loop
 loop-holds c = (refl, (refl, refl))
 
-read-chunk-requires : tie.Need-read-chunk-requires Inv-loop μ-loop
-read-chunk-requires c κs = search needs
+read-input-requires : tie.Need-read-input-requires Inv-loop μ-loop
+read-input-requires c κs = search needs
 
-enum-known-delivery : tie.Need-enum-known-delivery Inv-loop μ-loop
-enum-known-delivery c = search needs
+octets-moved-requires : tie.Need-octets-moved-requires Inv-loop μ-loop
+octets-moved-requires c κs = search needs
 
 read-ending-requires : tie.Need-read-ending-requires Inv-loop μ-loop
 read-ending-requires c κs = search needs
@@ -62,8 +63,8 @@ returns-2 c = search needs
 
 slice-reshare-prefix-take-chunk : tie.Need-slice-reshare-prefix-take-chunk Inv-loop μ-loop
 slice-reshare-prefix-take-chunk c =
-    let read = c .before .before .before .before .before .read-chunk in
-    delivered-within _ _ _ (read .ensures) (c .before .delivery .given .1)
+    let read = c .before .before .before .before .read-input in
+    omega (arith, c .before .octets-moved .ensures, delivered-within _ (read .ensures))
 
 slice-aggregate-take-chunk : tie.Need-slice-aggregate-take-chunk Inv-loop μ-loop
 slice-aggregate-take-chunk c = sym (length-take-le _ _ (slice-reshare-prefix-take-chunk (c .before)))
@@ -115,8 +116,8 @@ take-chunks-spec =
     μ-loop
     start-requires
     loop-holds
-    read-chunk-requires
-    enum-known-delivery
+    read-input-requires
+    octets-moved-requires
     read-ending-requires
     is-whole-requires
     same-length

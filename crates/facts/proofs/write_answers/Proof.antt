@@ -10,14 +10,14 @@ use Rattle.facts.proofs.write_answers.Tie as tie
 returns : tie.Need-returns
 returns c = search needs
 
-slice-aggregate-write-text : tie.Need-slice-aggregate-write-text
-slice-aggregate-write-text c = sym (length-take-le _ _ (omega arith))
+slice-aggregate-write-alone : tie.Need-slice-aggregate-write-alone
+slice-aggregate-write-alone c = sym (length-take-le _ _ (omega arith))
 
-write-text-requires : tie.Need-write-text-requires
-write-text-requires c κs = search needs
+write-alone-requires : tie.Need-write-alone-requires
+write-alone-requires c κs = search needs
 
 returns-2 : tie.Need-returns-2
 returns-2 c = search needs
 
 pub write-answers-spec : {M : Type 1} → statement M
-write-answers-spec = tie.close (tie.spec returns slice-aggregate-write-text write-text-requires returns-2)
+write-answers-spec = tie.close (tie.spec returns slice-aggregate-write-alone write-alone-requires returns-2)

@@ -1,6 +1,9 @@
 -- `replay_unit::say_unit_start` meets its contract: each line is what is said of its start.
 -- Assumes nothing.
-use Rattle.console.specs.Said.{octetsOfText}
+use Rattle.digits.specs.Digits.{digitsOf, upperDigit, lowerDigit, digitOf}
+use mathlib.Core.Path.{_≡_, refl, sym, ap}
+use Rattle.calls.specs.Said.{octetsOfText}
+use Rattle.start.specs.Said.{startSaid}
 use Rattle.replay_unit.specs.Said.{unitStartSaid}
 use borrow.Author.Needs.{needs}
 use Rattle.replay_unit.proofs.say_unit_start.Statement.{statement}
@@ -14,30 +17,33 @@ slice-aggregate-start-line c = search needs
 
 start-line-requires : tie.Need-start-line-requires
 unfolding unitStartSaid octetsOfText
-start-line-requires c κs = rw (c .before .enum-told .given .1)
+start-line-requires c κs = (rw (c .before .enum-told .given .1), rw (c .before .enum-told .given .1))
 
 enum-told-2 : tie.Need-enum-told-2
 enum-told-2 c = search needs
-
-say-start-requires : tie.Need-say-start-requires
-say-start-requires c κs = search needs
-
-enum-told-3 : tie.Need-enum-told-3
-enum-told-3 c = search needs
 
 slice-aggregate-start-line-2 : tie.Need-slice-aggregate-start-line-2
 slice-aggregate-start-line-2 c = search needs
 
 start-line-requires-2 : tie.Need-start-line-requires-2
+unfolding unitStartSaid startSaid digitsOf upperDigit lowerDigit digitOf
+start-line-requires-2 c κs = (rw (c .before .enum-told2 .given .1), rw (c .before .enum-told2 .given .1))
+
+enum-told-3 : tie.Need-enum-told-3
+enum-told-3 c = search needs
+
+slice-aggregate-start-line-3 : tie.Need-slice-aggregate-start-line-3
+slice-aggregate-start-line-3 c = search needs
+
+start-line-requires-3 : tie.Need-start-line-requires-3
 unfolding unitStartSaid octetsOfText
-start-line-requires-2 c κs = rw (c .before .enum-told3 .given .1)
+start-line-requires-3 c κs = (rw (c .before .enum-told3 .given .1), rw (c .before .enum-told3 .given .1))
 
 returns : tie.Need-returns
 returns c = search needs
 
 returns-2 : tie.Need-returns-2
-unfolding unitStartSaid
-returns-2 c = rw (c .before .enum-told2 .given .1) (c .say-start .ensures)
+returns-2 c = search needs
 
 returns-3 : tie.Need-returns-3
 returns-3 c = search needs
@@ -50,10 +56,11 @@ say-unit-start-spec =
     slice-aggregate-start-line
     start-line-requires
     enum-told-2
-    say-start-requires
-    enum-told-3
     slice-aggregate-start-line-2
     start-line-requires-2
+    enum-told-3
+    slice-aggregate-start-line-3
+    start-line-requires-3
     returns
     returns-2
     returns-3)

@@ -1,0 +1,146 @@
+-- Numbers stored among those that stand once change what stands there, and no input. Assumes nothing.
+use Prim.Native.Nat.{ℕ, _+_, _*_, _<_, _≤_}
+use mathlib.Core.Bool.{Bool, true, false, cond, _&&_}
+use mathlib.Core.List.{List, [], _∷_, map}
+use mathlib.Core.Path.{_≡_, refl, sym, ap, _∙_, fun-ext}
+use mir.Val.{boolByte}
+use native.Mathlib.Omega.{arith}
+use lib.Dec.{eqb, ltb}
+use lib.ListN.{getD, set, length, length-set}
+use lib.Seq.{getD-set-same, getD-set-other}
+use borrow.Author.Tests.{eqb-true, eqb-false, ltb-true, eq-eqb, ne-eqb}
+use Rattle.numbers.proofs.Truth.{byBool, both-first, both-second}
+use Rattle.numbers.specs.declared.InputNumber.{InputNumber}
+use Rattle.choice.specs.declared.Selection.{Selection}
+use Rattle.choice.specs.declared.Selection.the-variants as S
+use Rattle.switch.specs.declared.AfterChoice.{AfterChoice}
+use Rattle.switch.specs.declared.Switch.{Switch}
+use Rattle.switch.specs.declared.Switch.the-variants as W
+use Rattle.selector.specs.Clock.{ports, selectedNumber, switchNumber, switchInput, switchForced, switchManual}
+use Rattle.selector.specs.declared.Selector.{Selector}
+use Rattle.selector.specs.State.{withChoice}
+use Rattle.selector.proofs.Ports.{ports-same}
+use Rattle.inplace.specs.Lists.{isSet, column, rest, inputIn, inputAt, selectorIn, selectorAt, switchOf, selectionOf, isSelected, withTime, withCommand, heldSwitch, heldChoice}
+use Rattle.inplace.proofs.Columns.{put, puts, isSet-byte}
+
+-- numbers stored among those that stand once, one after another, in a list
+abbrev pub onces : List ℕ → ℕ → List (ℕ × ℕ) → List ℕ
+onces list from [] = list
+onces list from (pair ∷ pairs) = onces (set list (from + pair .0) (pair .1)) from pairs
+
+-- the first fields alone
+abbrev cut : ℕ → (ℕ → ℕ) → ℕ → ℕ
+cut count fields field = cond (ltb field count) (fields field) 0
+
+-- each place is below the list's end
+abbrev pub allIn : ℕ → List (ℕ × ℕ) → Bool
+allIn room [] = true
+allIn room (pair ∷ pairs) = ltb (pair .0) room && allIn room pairs
+
+module _ (count : ℕ) where
+  once-column : (list : List ℕ) (place value at : ℕ) → at < 16
+      → cut count (column (set list (16 * count + place) value) at) ≡ cut count (column list at)
+  once-column list place value at h =
+      fun-ext
+      (λ field.
+      byBool (ltb field count)
+      (λ e.
+      let k : field < count = ltb-true field count e in
+      rw e (getD-set-other list (16 * count + place) (at + 16 * field) value 0 (λ q. omega arith)))
+      (λ e. rw e))
+
+  pub onces-column : (pairs : List (ℕ × ℕ)) (list : List ℕ) (at : ℕ) → at < 16
+      → cut count (column (onces list (16 * count) pairs) at) ≡ cut count (column list at)
+  onces-column [] list at h = refl
+  onces-column (pair ∷ pairs) list at h =
+      onces-column pairs (set list (16 * count + pair .0) (pair .1)) at h ∙
+      once-column list (pair .0) (pair .1) at h
+
+once-rest : (list : List ℕ) (from place value : ℕ) → from + place < length list
+    → rest (set list (from + place) value) from ≡ put (rest list from) place value
+once-rest list from place value h =
+    fun-ext
+    (λ other.
+    byBool (eqb other place)
+    (λ e.
+    let k : other ≡ place = eqb-true other place e in
+    rw (e, k) (getD-set-same list (from + place) value 0 h))
+    (λ e.
+    let k : other ≡ place → ⊥ = eqb-false other place e in
+    rw e (getD-set-other list (from + place) (from + other) value 0 (λ q. k (omega arith)))))
+
+pub onces-rest : (from room : ℕ) (pairs : List (ℕ × ℕ)) (list : List ℕ) → allIn room pairs ≡ true
+    → from + room ≤ length list
+    → rest (onces list from pairs) from ≡ puts (rest list from) pairs
+onces-rest from room [] list below long = refl
+onces-rest from room (pair ∷ pairs) list below long =
+    let a : pair .0 < room = ltb-true _ _ (both-first (ltb (pair .0) room) (allIn room pairs) below) in
+    let b : allIn room pairs ≡ true = both-second (ltb (pair .0) room) (allIn room pairs) below in
+    let l : length (set list (from + pair .0) (pair .1)) ≡ length list = length-set list _ _ in
+    onces-rest from room pairs (set list (from + pair .0) (pair .1)) b (omega arith) ∙
+    ap (λ (fields : ℕ → ℕ). puts fields pairs) (once-rest list from (pair .0) (pair .1) (omega arith))
+
+-- ---- the state
+
+module _ (times small words : List ℕ) (ts ss : List (ℕ × ℕ))
+    (tsame : rest (onces times 32 ts) 32 ≡ puts (rest times 32) ts)
+    (ssame : rest (onces small 224 ss) 224 ≡ puts (rest small 224) ss) where
+  each : (port : ℕ) → port < 16
+      → inputAt (onces times 32 ts) (onces small 224 ss) words port ≡ inputAt times small words port
+  unfolding inputAt
+  each port h = λ j.
+      inputIn (onces-column 2 ts times port h j) (onces-column 14 ss small port h j) (column words port)
+
+  pub selector-once : selectorAt (onces times 32 ts) (onces small 224 ss) words
+      ≡ selectorIn (selectorAt times small words .inputs) (puts (rest times 32) ts) (puts (rest small 224) ss)
+      (rest words 32)
+  unfolding selectorAt
+  selector-once = λ j.
+      selectorIn
+      (ports-same (inputAt (onces times 32 ts) (onces small 224 ss) words) (inputAt times small words) each j)
+      (tsame j)
+      (ssame j)
+      (rest words 32)
+
+-- ---- what is stored together
+
+pub time-stored : (times : List ℕ) (time : ℕ) → length times ≡ 33
+    → (small words : List ℕ) → selectorAt (set times 32 time) small words ≡ withTime (selectorAt times small words) time
+unfolding selectorAt
+time-stored times time long small words =
+    let ts : List (ℕ × ℕ) = (0, time) ∷ [] in
+    selector-once times small words ts [] (onces-rest 32 1 ts times refl (omega arith)) refl
+
+-- the numbers of a choice stored
+abbrev pub choiceIn : List ℕ → Bool → ℕ → ℕ → ℕ → ℕ → List ℕ
+choiceIn small held kind on selection number =
+    set (set (set (set (set small 225 (boolByte held)) 226 kind) 227 on) 228 selection) 229 number
+
+pub choice-stored : (small : List ℕ) (choice : AfterChoice) (kind on selection number : ℕ) → length small ≡ 232
+    → kind ≡ switchNumber (choice .switch) → on ≡ switchInput (choice .switch)
+    → selection ≡ isSelected (choice .selection)
+    → number ≡ selectedNumber (choice .selection)
+    → (times words : List ℕ)
+    → selectorAt times (choiceIn small (choice .held) kind on selection number) words
+    ≡ withChoice (selectorAt times small words) (heldChoice choice)
+unfolding selectorAt
+choice-stored small choice kind on selection number wide k o s n times words =
+    let ss : List (ℕ × ℕ) =
+    (1, boolByte (choice .held)) ∷ (2, kind) ∷ (3, on) ∷ (4, selection) ∷ (5, number) ∷ [] in
+    selector-once times small words [] ss refl (onces-rest 224 8 ss small refl (omega arith)) ∙
+    rw (isSet-byte (choice .held), k, o, s, n)
+
+-- the numbers of a command stored
+abbrev pub commandIn : List ℕ → Bool → ℕ → ℕ → List ℕ
+commandIn small mode kind on = set (set (set small 224 (boolByte mode)) 226 kind) 227 on
+
+pub command-stored : (small : List ℕ) (mode : Bool) (switch : Switch) (kind on : ℕ) → length small ≡ 232
+    → kind ≡ switchNumber switch → on ≡ switchInput switch
+    → (times words : List ℕ)
+    → selectorAt times (commandIn small mode kind on) words
+    ≡ withCommand (selectorAt times small words) mode (heldSwitch switch)
+unfolding selectorAt
+command-stored small mode switch kind on wide k o times words =
+    let ss : List (ℕ × ℕ) = (0, boolByte mode) ∷ (2, kind) ∷ (3, on) ∷ [] in
+    selector-once times small words [] ss refl (onces-rest 224 8 ss small refl (omega arith)) ∙
+    rw (isSet-byte mode, k, o)

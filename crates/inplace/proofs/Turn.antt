@@ -1,0 +1,156 @@
+-- A turn of a loop that changes one input after another in place, and its end, for any change. Assumes nothing.
+use Prim.Native.Nat.{ℕ, zero, suc, _+_, _<_, _≤_}
+use mathlib.Core.Bool.{Bool}
+use mathlib.Core.List.{List, [], _∷_, map}
+use mathlib.Core.Path.{_≡_, refl, sym, ap, _∙_}
+use native.Mathlib.Omega.{arith}
+use lib.ListN.{getD, set, length}
+use Rattle.numbers.specs.declared.Profile.{Profile}
+use Rattle.run.specs.declared.Run.{Run}
+use Rattle.input.specs.declared.Input.{Input}
+use Rattle.input.specs.Record.{freshInput, withRun, inputBroughtTo, inputAtMoment}
+use Rattle.choice.specs.declared.Candidate.{Candidate}
+use Rattle.selector.specs.declared.Selector.{Selector}
+use Rattle.selector.specs.State.{candidateFor, candidatesOf}
+use Rattle.selector.proofs.Filled.{filled, filled-turn, filled-turn-in-place, filled-done}
+use Rattle.selector.proofs.Laws.{getD-past}
+use Rattle.selector.proofs.Ports.{getD-ports}
+use Rattle.due.specs.Next.{lesser, nextOf, nextAmong, nextOfAll, nextDue}
+use Rattle.due.proofs.Laws.{nextAmong-more, nextAmong-all}
+use Rattle.inplace.specs.Lists.{inputAt, selectorAt, withInputs, withInput}
+
+-- a state whose first inputs have been changed
+abbrev pub changed : (Input → Input) → ℕ → Selector → Selector
+changed f count state = withInputs state (filled f count (state .inputs) (state .inputs))
+
+pub inputs-length : (times small words : List ℕ) → length (selectorAt times small words .inputs) ≡ 16
+unfolding selectorAt
+inputs-length times small words = refl
+
+pub inputs-at : (times small words : List ℕ) (at : ℕ) (d : Input) → at < 16
+    → getD (selectorAt times small words .inputs) at d ≡ inputAt times small words at
+unfolding selectorAt
+inputs-at times small words at d h = getD-ports (inputAt times small words) d at h
+
+pub turn : (f : Input → Input) (first : Selector) (times small words : List ℕ) (after : Selector) (at : ℕ)
+    (input : Input)
+    → length (first .inputs) ≡ 16
+    → selectorAt times small words ≡ changed f at first
+    → after ≡ withInput (selectorAt times small words) at input
+    → input ≡ f (inputAt times small words at)
+    → at < 16
+    → after ≡ changed f (at + 1) first
+turn f first times small words after at input l e p q h =
+    let list : selectorAt times small words .inputs ≡ filled f at (first .inputs) (first .inputs) =
+    ap (λ (state : Selector). state .inputs) e in
+    let made : input ≡ f (getD (selectorAt times small words .inputs) at freshInput) =
+    q ∙ ap f (sym (inputs-at times small words at freshInput h)) in
+    let next : set (selectorAt times small words .inputs) at input ≡ filled f (at + 1) (first .inputs) (first .inputs) =
+    filled-turn-in-place f 16 at (first .inputs) (selectorAt times small words .inputs) freshInput input list made l
+    h in
+    p ∙ (λ j. withInputs (e j) (next j))
+
+pub done : (f : Input → Input) (first now : Selector) (at : ℕ) → length (first .inputs) ≡ 16
+    → now ≡ changed f at first → at ≤ 16 → 16 ≤ at
+    → now ≡ withInputs first (map f (first .inputs))
+done f first now at l e h k =
+    e ∙
+    ap (λ (inputs : List Input). withInputs first inputs)
+    (filled-done f 16 at (first .inputs) (first .inputs) (filled f at (first .inputs) (first .inputs)) refl l l h k)
+
+-- an input brought to a time, by its run
+pub brought : (input before after : Input) (time : ℕ) (mode : Bool) → before ≡ input
+    → after ≡ inputBroughtTo before time mode
+    → withRun input (after .run) ≡ inputBroughtTo input time mode
+unfolding inputBroughtTo
+brought input before after time mode p q = rw (q, p)
+
+-- at the moment of an event, by its run
+pub momentary : (input before after : Input) (time : ℕ) (mode clears : Bool) → before ≡ input
+    → after ≡ inputAtMoment before time mode clears
+    → withRun input (after .run) ≡ inputAtMoment input time mode clears
+unfolding inputAtMoment
+momentary input before after time mode clears p q = rw (q, p)
+
+-- ---- an input by its number
+
+pub inputAt-inside : (times small words : List ℕ) (number : ℕ) (found : Input) → number < 16
+    → found ≡ inputAt times small words number
+    → found ≡ getD (selectorAt times small words .inputs) number freshInput
+inputAt-inside times small words number found h e = e ∙ sym (inputs-at times small words number freshInput h)
+
+pub inputAt-past : (times small words : List ℕ) (number : ℕ) (found : Input) → 16 ≤ number → found ≡ freshInput
+    → found ≡ getD (selectorAt times small words .inputs) number freshInput
+inputAt-past times small words number found h e =
+    let l : length (selectorAt times small words .inputs) ≡ 16 = inputs-length times small words in
+    let m : length (selectorAt times small words .inputs) ≤ number = omega arith in
+    e ∙ sym (getD-past (selectorAt times small words .inputs) number freshInput m)
+
+set-past : {A : Type 0} (list : List A) (number : ℕ) (x : A) → length list ≤ number → set list number x ≡ list
+set-past [] number x h = refl
+set-past (y ∷ list) zero x h = absurd (omega arith)
+set-past (y ∷ list) (suc number) x h = ap (λ (rest : List _). y ∷ rest) (set-past list number x (omega arith))
+
+-- no input is stored where there is no such number
+pub stored-past : (times small words : List ℕ) (number : ℕ) (input : Input) → 16 ≤ number
+    → selectorAt times small words ≡ withInput (selectorAt times small words) number input
+stored-past times small words number input h =
+    let l : length (selectorAt times small words .inputs) ≡ 16 = inputs-length times small words in
+    let m : length (selectorAt times small words .inputs) ≤ number = omega arith in
+    ap (λ (list : List Input). withInputs (selectorAt times small words) list)
+    (sym (set-past (selectorAt times small words .inputs) number input m))
+
+-- ---- a loop that looks at one input after another
+
+module _ (times small words : List ℕ) (at : ℕ) (input : Input) (seen : input ≡ inputAt times small words at)
+    (h : at < 16) where
+  seen-at : (d : Input) → input ≡ getD (selectorAt times small words .inputs) at d
+  seen-at d = seen ∙ sym (inputs-at times small words at d h)
+
+  -- and fills a place
+  pub seen-turn : {B : Type 0} (g : Input → B) (into now : List B) (result : B)
+      → now ≡ filled g at (selectorAt times small words .inputs) into → result ≡ g input → length into ≡ 16
+      → set now at result ≡ filled g (at + 1) (selectorAt times small words .inputs) into
+  seen-turn g into now result e q l =
+      filled-turn g 16 at (selectorAt times small words .inputs) into now freshInput result e
+      (q ∙ ap g (seen-at freshInput))
+      (inputs-length times small words)
+      l
+      h
+
+  -- and reckons what is next due
+  pub due-turn : (mode : Bool) (time due one next : ℕ)
+      → due ≡ nextAmong (selectorAt times small words .inputs) mode time at
+      → one ≡ nextOf input mode time → next ≡ lesser due one
+      → next ≡ nextAmong (selectorAt times small words .inputs) mode time (at + 1)
+  due-turn mode time due one next d o n =
+      nextAmong-more (selectorAt times small words .inputs) mode time at due one next freshInput d
+      (o ∙ ap (λ (i : Input). nextOf i mode time) (seen-at freshInput))
+      n
+      (inputs-length times small words)
+      h
+
+pub seen-done : (times small words : List ℕ) {B : Type 0} (g : Input → B) (at : ℕ) (into now : List B)
+    → now ≡ filled g at (selectorAt times small words .inputs) into → length into ≡ 16 → at ≤ 16 → 16 ≤ at
+    → now ≡ map g (selectorAt times small words .inputs)
+seen-done times small words g at into now e l h k =
+    filled-done g 16 at (selectorAt times small words .inputs) into now e (inputs-length times small words) l h k
+
+pub candidates-done : (times small words : List ℕ) (profile : Profile) (mode : Bool) (at : ℕ)
+    (into now : List Candidate)
+    → now ≡ filled (candidateFor profile mode) at (selectorAt times small words .inputs) into → length into ≡ 16
+    → profile ≡ selectorAt times small words .profile → mode ≡ selectorAt times small words .mode → at ≤ 16 → 16 ≤ at
+    → now
+    ≡ candidatesOf (selectorAt times small words .profile) (selectorAt times small words .inputs)
+    (selectorAt times small words .mode)
+candidates-done times small words profile mode at into now e l p m h k =
+    seen-done times small words (candidateFor profile mode) at into now e l h k ∙
+    (λ j. candidatesOf (p j) (selectorAt times small words .inputs) (m j))
+
+pub due-done : (times small words : List ℕ) (mode : Bool) (time at due : ℕ)
+    → due ≡ nextAmong (selectorAt times small words .inputs) mode time at
+    → mode ≡ selectorAt times small words .mode → time ≡ selectorAt times small words .time → at ≤ 16 → 16 ≤ at
+    → due ≡ nextDue (selectorAt times small words)
+due-done times small words mode time at due e m t h k =
+    nextAmong-all (selectorAt times small words .inputs) mode time at due e h k ∙
+    (λ j. nextOfAll (selectorAt times small words .inputs) (m j) (t j))

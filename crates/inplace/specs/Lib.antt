@@ -1,0 +1,2 @@
+-- `Lists`: the state as three lists of numbers.
+pub mod Lists

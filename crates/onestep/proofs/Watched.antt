@@ -1,0 +1,250 @@
+-- The quick step in place, a law for each way through it. Assumes nothing.
+use Prim.Native.Nat.{ℕ, _%_, _<_, _≤_}
+use mathlib.Core.Bool.{Bool, true, false, not, cond, true≢false}
+use mathlib.Core.List.{List, [], _∷_}
+use mathlib.Core.Path.{_≡_, refl, sym, ap, _∙_, subst}
+use native.Mathlib.Omega.{arith}
+use native.Mathlib.Nat.{mod-eq-of-lt}
+use lib.Dec.{eqb}
+use lib.ListN.{getD, set, length}
+use lib.Seq.{getD-set-same, set-getD}
+use borrow.Author.Tests.{eqb-true}
+use Rattle.numbers.specs.declared.Answer.{Answer}
+use Rattle.numbers.specs.declared.Event.{Event}
+use Rattle.numbers.specs.declared.Profile.{Profile}
+use Rattle.numbers.specs.Inputs.{inputCount}
+use Rattle.numbers.specs.Profile.{limitsOf}
+use Rattle.numbers.specs.Refusal.{accepted}
+use Rattle.numbers.proofs.Truth.{byBool}
+use Rattle.frame.specs.declared.FrameRead.{FrameRead}
+use Rattle.input.specs.declared.Input.{Input}
+use Rattle.input.specs.Record.{freshInput}
+use Rattle.selector.specs.declared.Selector.{Selector}
+use Rattle.selector.specs.State.{decided}
+use Rattle.selector.specs.Answer.{answerOf}
+use Rattle.inplace.specs.Lists.{rest, selectorAt, withInput, withTime}
+use Rattle.inplace.proofs.Once.{onces-rest}
+use Rattle.events.specs.declared.Stepped.{Stepped}
+use Rattle.events.specs.Refusals.{earlyRefusal}
+use Rattle.events.specs.Step.{inputAfter, stepped, earlyNumber, stepRead}
+use Rattle.events.specs.Given.{recordedEvent}
+use Rattle.events.proofs.Refused.{accepted-input}
+use Rattle.quickstep.specs.declared.Left.{Left}
+use Rattle.quickstep.specs.declared.Left.the-variants.{Nothing, Choice, Service}
+use Rattle.quickstep.specs.declared.Own.{Own}
+use Rattle.quickstep.specs.declared.Watch.{Watch}
+use Rattle.quickstep.specs.Again.{ownOf, saysAgain, againOwn}
+use Rattle.quickstep.specs.Own.{isServed, seenAlike, ownTake, ownStep}
+use Rattle.quickstep.specs.Watch.{watchOf, numbered, movedTo, dueAnew, dueAfter, servedWatch, completed, ownPlace, ownPut, ownAt, takeStep, watchStep}
+use Rattle.onestep.specs.Watched.{sixValues, answerIn, watchHeld, watchAt}
+
+-- ---- what was answered
+
+pub told-number : (due told : List ℕ) (next number : ℕ) → length due ≡ 1 → length told ≡ 7
+    → (state : Selector)
+    → watchHeld state (set due 0 next) (set (set told 0 number) 6 0)
+    ≡ watchOf state next (numbered number (answerIn told)) 0
+told-number due told next number one seven state =
+    let ss : List (ℕ × ℕ) = (0, number) ∷ (6, 0) ∷ [] in
+    let same = onces-rest 0 7 ss told refl (omega arith) in
+    λ j. watchOf state (getD-set-same due 0 next 0 (omega arith) j) (sixValues (same j)) (same j 6)
+
+pub told-answer : (due told : List ℕ) (next : ℕ) (answer : Answer) (count : ℕ) → length due ≡ 1 → length told ≡ 7
+    → (state : Selector)
+    → watchHeld state (set due 0 next)
+    (set (set (set (set (set (set (set told 0 (answer .number)) 1 (answer .selected)) 2 (answer .state)) 3
+    (answer .quality))
+    4
+    (answer .switch))
+    5
+    (answer .on))
+    6
+    count)
+    ≡ watchOf state next answer count
+told-answer due told next answer count one seven state =
+    let ss : List (ℕ × ℕ) =
+    (0, answer .number) ∷ (1, answer .selected) ∷ (2, answer .state) ∷ (3, answer .quality) ∷ (4, answer .switch) ∷
+    (5, answer .on) ∷
+    (6, count) ∷
+    [] in
+    let same = onces-rest 0 7 ss told refl (omega arith) in
+    λ j. watchOf state (getD-set-same due 0 next 0 (omega arith) j) (sixValues (same j)) (same j 6)
+
+-- ---- the own input and the time
+
+pub own-moved : (state one after : Selector) (place : ℕ) (input : Input) (time : ℕ)
+    → one ≡ withInput state place input → after ≡ withTime one time
+    → after ≡ movedTo state (set (state .inputs) place input) time
+own-moved state one after place input time o a = a ∙ ap (λ (moved : Selector). withTime moved time) o
+
+-- ---- a choice made
+
+pub chosen-told : (state after : Selector) (next number : ℕ) (answer : Answer) (held : Watch)
+    → after ≡ decided state → answer ≡ answerOf number after → held ≡ watchOf after next answer 0
+    → held ≡ watchOf (decided state) next (answerOf number (decided state)) 0
+chosen-told state after next number answer held a r h =
+    h ∙
+    ap (λ (told : Answer). watchOf after next told 0) r ∙
+    ap (λ (chosen : Selector). watchOf chosen next (answerOf number chosen) 0) a
+
+-- ---- the plain step
+
+pub served-told : (state after : Selector) (next later number count : ℕ) (answer : Answer) (event : Event)
+    (read : FrameRead) (held : Watch)
+    → stepped number count after ≡ stepRead state event read
+    → later ≡ dueAfter next (event .time) after
+    → answer ≡ answerOf number after
+    → held ≡ watchOf after later answer count
+    → held ≡ servedWatch state next event read
+unfolding servedWatch
+served-told state after next later number count answer event read held s l a h =
+    h ∙
+    (λ j. watchOf after (l j) (a j) count) ∙
+    ap
+    (λ (one : Stepped). watchOf (one .state) (dueAfter next (event .time) (one .state))
+    (answerOf (one .number) (one .state)) (one .count))
+    s
+
+-- ---- what is left
+
+isService : Left → Bool
+isService Nothing = false
+isService Choice = false
+isService Service = true
+
+-- what is left to serve took nothing, and was not refused
+service-own : (before : Input) (profile : Profile) (mode : Bool) (time due : ℕ) (event : Event) (read : FrameRead)
+    → isService (ownStep before profile mode time due event read .left) ≡ true
+    → (ownStep before profile mode time due event read ≡ ownOf before time due accepted Service)
+    × (earlyRefusal (limitsOf profile) time (before .settings .kind) event read ≡ accepted)
+unfolding ownStep ownTake isService
+service-own before profile mode time due event read is =
+    let early = earlyRefusal (limitsOf profile) time (before .settings .kind) event read in
+    byBool (eqb early accepted)
+    (λ none.
+    byBool (isServed due (event .kind) (event .time))
+    (λ serves. (rw (none, serves), eqb-true early accepted none))
+    (λ other.
+    byBool (seenAlike before (inputAfter before (recordedEvent profile event read) mode))
+    (λ alike. absurd (true≢false (sym (rw (none, other, alike) at is))))
+    (λ seen. absurd (true≢false (sym (rw (none, other, seen) at is))))))
+    (λ refused. absurd (true≢false (sym (rw refused at is))))
+
+module _ (watch : Watch) (event : Event) (read : FrameRead) (before : Input) (profile : Profile) (mode : Bool)
+    (time next : ℕ) (own : Own)
+    (b : before ≡ ownAt (watch .state) event) (p : profile ≡ watch .state .profile) (m : mode ≡ watch .state .mode)
+    (t : time ≡ watch .state .time)
+    (n : next
+    ≡ dueAnew (watch .state .inputs) (watch .state .mode) (watch .state .time) (watch .due) (event .time))
+    (o : own ≡ ownStep before profile mode time next event read) where
+  taken-put : ownPut watch own event read ≡ takeStep watch event read
+  unfolding takeStep
+  taken-put =
+      ap (λ (one : Own). ownPut watch one event read)
+      (o ∙ (λ j. ownStep (b j) (p j) (m j) (t j) (n j) event read))
+
+  pub take-nothing : (after : Selector) (held : Watch) → own .left ≡ Nothing
+      → after ≡ movedTo (watch .state) (set (watch .state .inputs) (ownPlace event) (own .input)) (own .time)
+      → held ≡ watchOf after (own .due) (numbered (own .number) (watch .answer)) 0
+      → held ≡ takeStep watch event read
+  unfolding ownPut completed
+  take-nothing after held l a h =
+      h ∙
+      ap (λ (state : Selector). watchOf state (own .due) (numbered (own .number) (watch .answer)) 0) a ∙
+      ap
+      (λ (left : Left). completed
+      (movedTo (watch .state) (set (watch .state .inputs) (ownPlace event) (own .input)) (own .time))
+      (own .due) (numbered (own .number) (watch .answer)) left event read)
+      (sym l) ∙
+      taken-put
+
+  pub take-choice : (after : Selector) (held : Watch) → own .left ≡ Choice
+      → after ≡ movedTo (watch .state) (set (watch .state .inputs) (ownPlace event) (own .input)) (own .time)
+      → held ≡ watchOf (decided after) (own .due) (answerOf (own .number) (decided after)) 0
+      → held ≡ takeStep watch event read
+  unfolding ownPut completed
+  take-choice after held l a h =
+      h ∙
+      ap
+      (λ (state : Selector). watchOf (decided state) (own .due) (answerOf (own .number) (decided state)) 0)
+      a ∙
+      ap
+      (λ (left : Left). completed
+      (movedTo (watch .state) (set (watch .state .inputs) (ownPlace event) (own .input)) (own .time))
+      (own .due) (numbered (own .number) (watch .answer)) left event read)
+      (sym l) ∙
+      taken-put
+
+  module _ (l : own .left ≡ Service) where
+    is : isService (ownStep before profile mode time next event read .left) ≡ true
+    unfolding isService
+    is = ap (λ (one : Own). isService (one .left)) (sym o) ∙ ap isService l
+
+    -- nothing refuses it before its tick
+    pub service-accepted : earlyNumber (watch .state) event read ≡ accepted
+    service-accepted =
+        let none = service-own before profile mode time next event read is .1 in
+        let few : event .input < inputCount =
+        accepted-input (limitsOf profile) time (before .settings .kind) event read none in
+        let here : event .input % inputCount ≡ event .input = mod-eq-of-lt few in
+        (λ j. earlyRefusal (limitsOf (sym p j)) (sym t j)
+        ((ap (λ (place : ℕ). getD (watch .state .inputs) place freshInput) (sym here) ∙ sym b) j .settings .kind)
+        event read) ∙
+        none
+
+    -- and its own input is as it was
+    untouched : movedTo (watch .state) (set (watch .state .inputs) (ownPlace event) (own .input)) (own .time)
+        ≡ watch .state
+    untouched =
+        let whole : own ≡ ownOf before time next accepted Service =
+        o ∙ service-own before profile mode time next event read is .0 in
+        (λ j. movedTo (watch .state)
+        (set (watch .state .inputs) (ownPlace event)
+        ((ap (λ (one : Own). one .input) whole ∙ b) j))
+        ((ap (λ (one : Own). one .time) whole ∙ t) j)) ∙
+        (λ j. movedTo (watch .state) (set-getD (watch .state .inputs) (ownPlace event) freshInput j)
+        (watch .state .time))
+
+    pub take-service : (held : Watch) → held ≡ servedWatch (watch .state) (own .due) event read
+        → held ≡ takeStep watch event read
+    unfolding ownPut completed
+    take-service held h =
+        h ∙
+        ap (λ (state : Selector). servedWatch state (own .due) event read) (sym untouched) ∙
+        ap
+        (λ (left : Left). completed
+        (movedTo (watch .state) (set (watch .state .inputs) (ownPlace event) (own .input)) (own .time))
+        (own .due) (numbered (own .number) (watch .answer)) left event read)
+        (sym l) ∙
+        taken-put
+
+-- ---- any event
+
+module _ (watch : Watch) (event : Event) (read : FrameRead) (before : Input) (profile : Profile) (time : ℕ)
+    (again : Bool)
+    (b : before ≡ ownAt (watch .state) event) (p : profile ≡ watch .state .profile) (t : time ≡ watch .state .time)
+    (s : again ≡ saysAgain before profile time (watch .due) event read) where
+  says : again
+      ≡ saysAgain (ownAt (watch .state) event) (watch .state .profile) (watch .state .time) (watch .due) event read
+  says = s ∙ (λ j. saysAgain (b j) (p j) (t j) (watch .due) event read)
+
+  pub step-again : (own : Own) (after : Selector) (held : Watch) → again ≡ true
+      → own ≡ againOwn before (watch .due) event
+      → after ≡ movedTo (watch .state) (set (watch .state .inputs) (ownPlace event) (own .input)) (own .time)
+      → held ≡ watchOf after (own .due) (numbered (own .number) (watch .answer)) 0
+      → held ≡ watchStep watch event read
+  unfolding watchStep ownPut completed againOwn
+  step-again own after held y o a h =
+      h ∙
+      ap (λ (state : Selector). watchOf state (own .due) (numbered (own .number) (watch .answer)) 0) a ∙
+      ap
+      (λ (one : Own). watchOf
+      (movedTo (watch .state) (set (watch .state .inputs) (ownPlace event) (one .input)) (one .time)) (one .due)
+      (numbered (one .number) (watch .answer)) 0)
+      (o ∙ ap (λ (input : Input). againOwn input (watch .due) event) b) ∙
+      rw (← says, y)
+
+  pub step-taken : (held : Watch) → again ≡ false → held ≡ takeStep watch event read
+      → held ≡ watchStep watch event read
+  unfolding watchStep
+  step-taken held n h = h ∙ rw (← says, n)

@@ -1,0 +1,34 @@
+-- The watch of `quickstep` as lists of numbers: those of a state, a time before which nothing is due, and what was
+-- answered last with how many due moments were served. Cited by `src/watch.rt`. Assumes nothing.
+use Prim.Native.Nat.{ℕ}
+use mathlib.Core.List.{List}
+use lib.ListN.{getD}
+use Rattle.numbers.specs.declared.Answer.{Answer}
+use Rattle.selector.specs.declared.Selector.{Selector}
+use Rattle.inplace.specs.Lists.{rest, selectorAt}
+use Rattle.quickstep.specs.declared.Watch.{Watch}
+use Rattle.quickstep.specs.Watch.{watchOf}
+
+-- an answer, by its six values in the order of an answer line
+abbrev pub sixValues : (ℕ → ℕ) → Answer
+sixValues told =
+    record {
+      number = told 0;
+      selected = told 1;
+      state = told 2;
+      quality = told 3;
+      switch = told 4;
+      on = told 5;
+    }
+
+-- the answer that a list holds
+abbrev pub answerIn : List ℕ → Answer
+answerIn told = sixValues (rest told 0)
+
+-- the watch of a state that two lists hold; the count of due moments stands behind the answer
+abbrev pub watchHeld : Selector → List ℕ → List ℕ → Watch
+watchHeld state due told = watchOf state (getD due 0 0) (answerIn told) (getD told 6 0)
+
+-- the watch that five lists hold
+unfoldable pub watchAt : List ℕ → List ℕ → List ℕ → List ℕ → List ℕ → Watch
+watchAt times small words due told = watchHeld (selectorAt times small words) due told

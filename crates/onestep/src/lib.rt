@@ -1,0 +1,218 @@
+// One event on a state in place: what refuses it, its tick, what it does. The plain step of
+// `events` on the arrays of `inplace`, with no copy of the state; an early refusal is judged once
+// and a frame read once.
+//
+// Any numbers in the arrays are answered for. No public function has a `requires`.
+pub mod watch;
+
+use events::commanded;
+use events::early_refusal;
+use events::input_after;
+use events::late_refusal;
+use events::mode_after;
+use events::recorded_event;
+use frame::FrameRead;
+use frame::read_code;
+use inplace::SMALL;
+use inplace::TIMES;
+use inplace::WORDS;
+use inplace::candidates_at;
+use inplace::input_at;
+use inplace::inputs_at_moment;
+use inplace::make_choice;
+use inplace::mode_at;
+use inplace::profile_at;
+use inplace::put_command;
+use inplace::put_input;
+use inplace::serve;
+use inplace::switch_at;
+use inplace::time_at;
+use numbers::ACCEPTED;
+use numbers::Event;
+use numbers::InputNumber;
+use numbers::KIND_FORCED;
+use numbers::KIND_MANUAL;
+use numbers::KIND_QUALITY_MODE;
+use numbers::Profile;
+ghost use Prim.Native.Nat.{ℕ, _<_};
+ghost use mathlib.Core.Path.{_≡_};
+ghost use mathlib.Core.List.{List};
+ghost use Rattle.numbers.specs.Inputs.{inputCount};
+ghost use Rattle.numbers.specs.Recorded.{saidEvent};
+ghost use Rattle.numbers.specs.Refusal.{accepted};
+ghost use Rattle.inplace.specs.Lists.{selectorAt, withInputs};
+ghost use Rattle.events.specs.Step.{inputsAfter, atItsMoment, stepped, earlyNumber, lateNumber, stepTicked, stepRead, step};
+ghost use Rattle.onestep.specs.Late.{isJudgedLate};
+
+// An event that is refused before its tick has no due moment served.
+const NONE_SERVED: u8 = 0;
+
+// What an event is answered with, beside the state after it: its number, and how many due moments
+// its tick served.
+pub struct StepTold {
+    pub number: u8,
+    pub count: u8,
+}
+
+// All inputs after an event: its own, or all of them where it sets the quality mode.
+fn inputs_after(
+    times: &mut [u64; TIMES],
+    small: &mut [u8; SMALL],
+    words: &mut [u16; WORDS],
+    profile: Profile,
+    event: Event,
+    mode: bool,
+)
+    ensures { λ _. ⌜ selectorAt (now (times .exit)) (now (small .exit)) (now (words .exit)) ≡
+        withInputs (selectorAt (now (times .entry)) (now (small .entry)) (now (words .entry)))
+        (inputsAfter
+        (selectorAt (now (times .entry)) (now (small .entry)) (now (words .entry)) .inputs)
+        (saidEvent profile event) mode) ⌝ }
+{
+    if event.kind == KIND_QUALITY_MODE {
+        inputs_at_moment(times, small, words, event.time, mode);
+        return;
+    }
+    let before = input_at(times, small, words, InputNumber(event.input));
+    let after = input_after(before, profile, event, mode);
+    put_input(times, small, words, InputNumber(event.input), after);
+}
+
+// The state after an accepted event's own moment, once its tick has been made.
+fn at_its_moment(
+    times: &mut [u64; TIMES],
+    small: &mut [u8; SMALL],
+    words: &mut [u16; WORDS],
+    event: Event,
+)
+    requires { ⌜ event .input < inputCount ⌝ }
+    ensures { λ _. ⌜ selectorAt (now (times .exit)) (now (small .exit)) (now (words .exit)) ≡
+        atItsMoment (selectorAt (now (times .entry)) (now (small .entry)) (now (words .entry)))
+        (saidEvent
+        (selectorAt (now (times .entry)) (now (small .entry)) (now (words .entry)) .profile)
+        event) ⌝ }
+{
+    let earlier = mode_at(small);
+    let mode = mode_after(event.kind, event.argument, earlier);
+    let before = switch_at(small);
+    let switch = commanded(event.kind, InputNumber(event.input), before);
+    let profile = profile_at(small, words);
+    inputs_after(times, small, words, profile, event, mode);
+    put_command(small, mode, switch);
+    make_choice(times, small, words);
+}
+
+// Whether an event of a kind can be refused after its tick.
+fn is_judged_late(kind: u8) -> bool
+    ensures { λ answer. ⌜ answer ≡ isJudgedLate kind ⌝ }
+{
+    match kind {
+        KIND_FORCED => true,
+        KIND_MANUAL => true,
+        _ => false,
+    }
+}
+
+// Refusals 14 to 17 of an event on a state that has been ticked to its time; 0 where none applies.
+fn late_at(times: &[u64; TIMES], small: &[u8; SMALL], words: &[u16; WORDS], event: Event) -> u8
+    ensures { λ answer. ⌜ answer ≡
+        lateNumber (selectorAt (now (times .entry)) (now (small .entry)) (now (words .entry)))
+        event ⌝ }
+{
+    if is_judged_late(event.kind) {
+        let candidates = candidates_at(times, small, words);
+        let switch = switch_at(small);
+        return late_refusal(candidates, switch, event.kind, InputNumber(event.input));
+    }
+    ACCEPTED
+}
+
+// One event on a state that has been ticked to its time: refused, or the event itself.
+fn step_ticked(
+    times: &mut [u64; TIMES],
+    small: &mut [u8; SMALL],
+    words: &mut [u16; WORDS],
+    event: Event,
+    read: FrameRead,
+) -> u8
+    requires { ⌜ event .input < inputCount ⌝ }
+    ensures { λ number. ⌜ ((count : ℕ) → stepped number count
+        (selectorAt (now (times .exit)) (now (small .exit)) (now (words .exit))) ≡
+        stepTicked (selectorAt (now (times .entry)) (now (small .entry)) (now (words .entry)))
+        count event read) ⌝ }
+{
+    let late = late_at(times, small, words, event);
+    if late != ACCEPTED {
+        return late;
+    }
+    let recorded = recorded_event(event, read);
+    at_its_moment(times, small, words, recorded);
+    ACCEPTED
+}
+
+// One event that nothing refuses before its tick: the tick at its time, and then refused or the
+// event itself.
+fn step_accepted(
+    times: &mut [u64; TIMES],
+    small: &mut [u8; SMALL],
+    words: &mut [u16; WORDS],
+    event: Event,
+    read: FrameRead,
+) -> StepTold
+    requires { ⌜ earlyNumber (selectorAt (now times) (now small) (now words)) event read ≡
+        accepted ⌝ }
+    ensures { λ told. ⌜ stepped (told .number) (told .count)
+        (selectorAt (now (times .exit)) (now (small .exit)) (now (words .exit))) ≡
+        stepRead (selectorAt (now (times .entry)) (now (small .entry)) (now (words .entry)))
+        event read ⌝ }
+{
+    let count = serve(times, small, words, event.time);
+    let number = step_ticked(times, small, words, event, read);
+    StepTold { number, count }
+}
+
+// One event with its frame read: refused at once; or a tick at its time, and then refused or the
+// event itself.
+pub fn step_read(
+    times: &mut [u64; TIMES],
+    small: &mut [u8; SMALL],
+    words: &mut [u16; WORDS],
+    event: Event,
+    read: FrameRead,
+) -> StepTold
+    ensures { λ told. ⌜ stepped (told .number) (told .count)
+        (selectorAt (now (times .exit)) (now (small .exit)) (now (words .exit))) ≡
+        stepRead (selectorAt (now (times .entry)) (now (small .entry)) (now (words .entry)))
+        event read ⌝ }
+{
+    let input = input_at(times, small, words, InputNumber(event.input));
+    let settings = input.settings;
+    let at = settings.kind;
+    let profile = profile_at(small, words);
+    let time = time_at(times);
+    let early = early_refusal(profile, time, at, event, read);
+    if early != ACCEPTED {
+        return StepTold {
+            number: early,
+            count: NONE_SERVED,
+        };
+    }
+    step_accepted(times, small, words, event, read)
+}
+
+// One event with a lent frame, which counts for a frame event alone.
+pub fn step(
+    times: &mut [u64; TIMES],
+    small: &mut [u8; SMALL],
+    words: &mut [u16; WORDS],
+    event: Event,
+    frame: &[u8],
+) -> StepTold
+    ensures { λ told. ⌜ stepped (told .number) (told .count)
+        (selectorAt (now (times .exit)) (now (small .exit)) (now (words .exit))) ≡
+        step (selectorAt (now (times .entry)) (now (small .entry)) (now (words .entry)))
+        event (now (frame .entry)) ⌝ }
+{
+    let read = read_code(frame);
+    step_read(times, small, words, event, read)
+}

@@ -1,0 +1,283 @@
+// The quick step in place: beside the arrays of a state stand a time before which nothing is due
+// and what was answered last, with how many due moments were served. Before that time an event that
+// commands nothing looks at its own input alone. State, answers and counts are those of the watch
+// of `quickstep`, which tells what is quick from what is not.
+use crate::step_accepted;
+use due::lesser;
+use frame::FrameRead;
+use inplace::SMALL;
+use inplace::TIMES;
+use inplace::WORDS;
+use inplace::answer_at;
+use inplace::input_at;
+use inplace::make_choice;
+use inplace::mode_at;
+use inplace::next_due;
+use inplace::profile_at;
+use inplace::put_input;
+use inplace::put_time;
+use inplace::time_at;
+use input::Input;
+use numbers::Answer;
+use numbers::Event;
+use numbers::INPUT_COUNT;
+use numbers::InputNumber;
+use quickstep::Left;
+use quickstep::again_own;
+use quickstep::own_step;
+use quickstep::says_again;
+ghost use Prim.Native.Nat.{ℕ};
+ghost use mathlib.Core.Path.{_≡_};
+ghost use lib.ListN.{length, set};
+ghost use Rattle.numbers.specs.Refusal.{accepted};
+ghost use Rattle.selector.specs.declared.Selector.{Selector};
+ghost use Rattle.selector.specs.State.{decided};
+ghost use Rattle.selector.specs.Answer.{answerOf};
+ghost use Rattle.inplace.specs.Lists.{selectorAt};
+ghost use Rattle.events.specs.Step.{earlyNumber};
+ghost use Rattle.quickstep.specs.Watch.{watchOf, numbered, movedTo, dueAnew, dueAfter, servedWatch, ownAt, takeStep, watchStep};
+ghost use Rattle.onestep.specs.Watched.{answerIn, watchHeld, watchAt};
+
+// How many numbers each of the two arrays has.
+pub const DUE: usize = 1;
+
+pub const TOLD: usize = 7;
+
+// Where they stand: the answer's six as an answer line has them, and how many moments were served.
+const NEXT: usize = 0;
+
+const NUMBER: usize = 0;
+
+const SELECTED: usize = 1;
+
+const STATE: usize = 2;
+
+const QUALITY: usize = 3;
+
+const SWITCH: usize = 4;
+
+const ON: usize = 5;
+
+const COUNT: usize = 6;
+
+// An array that is lent does not tell a proof its length; one by value does. The copy is never
+// looked at.
+fn know_due(due: [u64; DUE])
+    ensures { λ _. ⌜ length due ≡ 1 ⌝ }
+{}
+
+fn know_told(told: [u8; TOLD])
+    ensures { λ _. ⌜ length told ≡ 7 ⌝ }
+{}
+
+// The number of an event stored that no moment was served for and that changes no other value of
+// the answer, with a time before which nothing is due.
+fn put_number(due: &mut [u64; DUE], told: &mut [u8; TOLD], next: u64, number: u8)
+    ensures { λ _. ⌜ ((state : Selector) →
+        watchHeld state (now (due .exit)) (now (told .exit)) ≡
+        watchOf state next (numbered number (answerIn (now (told .entry)))) 0) ⌝ }
+{
+    know_due(*due);
+    know_told(*told);
+    due[NEXT] = next;
+    told[NUMBER] = number;
+    told[COUNT] = 0;
+}
+
+// An answer stored, with how many moments were served and a time before which nothing is due.
+fn tell(due: &mut [u64; DUE], told: &mut [u8; TOLD], next: u64, answer: Answer, count: u8)
+    ensures { λ _. ⌜ ((state : Selector) →
+        watchHeld state (now (due .exit)) (now (told .exit)) ≡ watchOf state next answer count) ⌝ }
+{
+    know_due(*due);
+    know_told(*told);
+    due[NEXT] = next;
+    told[NUMBER] = answer.number;
+    told[SELECTED] = answer.selected;
+    told[STATE] = answer.state;
+    told[QUALITY] = answer.quality;
+    told[SWITCH] = answer.switch;
+    told[ON] = answer.on;
+    told[COUNT] = count;
+}
+
+// An event's own input stored, and the time.
+fn put_own(
+    times: &mut [u64; TIMES],
+    small: &mut [u8; SMALL],
+    words: &mut [u16; WORDS],
+    number: InputNumber,
+    input: Input,
+    time: u64,
+)
+    ensures { λ _. ⌜ selectorAt (now (times .exit)) (now (small .exit)) (now (words .exit)) ≡
+        movedTo (selectorAt (now (times .entry)) (now (small .entry)) (now (words .entry)))
+        (set (selectorAt (now (times .entry)) (now (small .entry)) (now (words .entry)) .inputs)
+        (number .0) input) time ⌝ }
+{
+    put_input(times, small, words, number, input);
+    put_time(times, time);
+}
+
+// A time before which nothing is due; once it has come, when something is next due.
+fn due_at(
+    times: &[u64; TIMES],
+    small: &[u8; SMALL],
+    words: &[u16; WORDS],
+    due: u64,
+    time: u64,
+) -> u64
+    ensures { λ answer. ⌜ answer ≡ dueAnew
+        (selectorAt (now (times .entry)) (now (small .entry)) (now (words .entry)) .inputs)
+        (selectorAt (now (times .entry)) (now (small .entry)) (now (words .entry)) .mode)
+        (selectorAt (now (times .entry)) (now (small .entry)) (now (words .entry)) .time)
+        due time ⌝ }
+{
+    if time < due {
+        return due;
+    }
+    next_due(times, small, words)
+}
+
+// Such a time of the state that an event left: till it has come it is only lessened.
+fn due_left(
+    times: &[u64; TIMES],
+    small: &[u8; SMALL],
+    words: &[u16; WORDS],
+    due: u64,
+    time: u64,
+) -> u64
+    ensures { λ answer. ⌜ answer ≡ dueAfter due time
+        (selectorAt (now (times .entry)) (now (small .entry)) (now (words .entry))) ⌝ }
+{
+    let next = next_due(times, small, words);
+    if time < due {
+        return lesser(due, next);
+    }
+    next
+}
+
+// A choice made, and what is answered then.
+fn choose(
+    times: &[u64; TIMES],
+    small: &mut [u8; SMALL],
+    words: &[u16; WORDS],
+    due: &mut [u64; DUE],
+    told: &mut [u8; TOLD],
+    next: u64,
+    number: u8,
+)
+    ensures { λ _. ⌜
+        watchAt (now (times .entry)) (now (small .exit)) (now (words .entry)) (now (due .exit))
+        (now (told .exit)) ≡
+        watchOf
+        (decided (selectorAt (now (times .entry)) (now (small .entry)) (now (words .entry))))
+        next
+        (answerOf number
+        (decided (selectorAt (now (times .entry)) (now (small .entry)) (now (words .entry)))))
+        0 ⌝ }
+{
+    make_choice(times, small, words);
+    let answer = answer_at(times, small, words, number);
+    tell(due, told, next, answer, 0);
+}
+
+// The plain step of an event that nothing refuses before its tick, and what is answered then.
+fn serve_event(
+    times: &mut [u64; TIMES],
+    small: &mut [u8; SMALL],
+    words: &mut [u16; WORDS],
+    due: &mut [u64; DUE],
+    told: &mut [u8; TOLD],
+    next: u64,
+    event: Event,
+    read: FrameRead,
+)
+    requires { ⌜ earlyNumber (selectorAt (now times) (now small) (now words)) event read ≡
+        accepted ⌝ }
+    ensures { λ _. ⌜
+        watchAt (now (times .exit)) (now (small .exit)) (now (words .exit)) (now (due .exit))
+        (now (told .exit)) ≡
+        servedWatch (selectorAt (now (times .entry)) (now (small .entry)) (now (words .entry)))
+        next event read ⌝ }
+{
+    let after = step_accepted(times, small, words, event, read);
+    let later = due_left(times, small, words, next, event.time);
+    let answer = answer_at(times, small, words, after.number);
+    tell(due, told, later, answer, after.count);
+}
+
+// One event with its frame read, taken by its own input as far as nothing is due and it commands
+// nothing; a choice is made only where it would see that input otherwise than before.
+fn take(
+    times: &mut [u64; TIMES],
+    small: &mut [u8; SMALL],
+    words: &mut [u16; WORDS],
+    due: &mut [u64; DUE],
+    told: &mut [u8; TOLD],
+    before: Input,
+    event: Event,
+    read: FrameRead,
+)
+    requires { ⌜ before ≡ ownAt (selectorAt (now times) (now small) (now words)) event ⌝ }
+    ensures { λ _. ⌜
+        watchAt (now (times .exit)) (now (small .exit)) (now (words .exit)) (now (due .exit))
+        (now (told .exit)) ≡
+        takeStep
+        (watchAt (now (times .entry)) (now (small .entry)) (now (words .entry))
+        (now (due .entry)) (now (told .entry)))
+        event read ⌝ }
+{
+    let profile = profile_at(small, words);
+    let mode = mode_at(small);
+    let time = time_at(times);
+    let next = due_at(times, small, words, due[NEXT], event.time);
+    let own = own_step(before, profile, mode, time, next, event, read);
+    let input = own.input;
+    let left = own.left;
+    match left {
+        Left::Nothing => {
+            let place = InputNumber(event.input % INPUT_COUNT);
+            put_own(times, small, words, place, input, own.time);
+            put_number(due, told, own.due, own.number);
+        }
+        Left::Choice => {
+            let place = InputNumber(event.input % INPUT_COUNT);
+            put_own(times, small, words, place, input, own.time);
+            choose(times, small, words, due, told, own.due, own.number);
+        }
+        Left::Service => serve_event(times, small, words, due, told, own.due, event, read),
+    }
+}
+
+// One event with its frame read: one that says again what was said before is taken at once.
+pub fn step_watch(
+    times: &mut [u64; TIMES],
+    small: &mut [u8; SMALL],
+    words: &mut [u16; WORDS],
+    due: &mut [u64; DUE],
+    told: &mut [u8; TOLD],
+    event: Event,
+    read: FrameRead,
+)
+    ensures { λ _. ⌜
+        watchAt (now (times .exit)) (now (small .exit)) (now (words .exit)) (now (due .exit))
+        (now (told .exit)) ≡
+        watchStep
+        (watchAt (now (times .entry)) (now (small .entry)) (now (words .entry))
+        (now (due .entry)) (now (told .entry)))
+        event read ⌝ }
+{
+    let place = InputNumber(event.input % INPUT_COUNT);
+    let before = input_at(times, small, words, place);
+    let profile = profile_at(small, words);
+    let time = time_at(times);
+    if says_again(before, profile, time, due[NEXT], event, read) {
+        let own = again_own(before, due[NEXT], event);
+        let input = own.input;
+        put_own(times, small, words, place, input, own.time);
+        put_number(due, told, own.due, own.number);
+        return;
+    }
+    take(times, small, words, due, told, before, event, read);
+}
