@@ -7,6 +7,7 @@ use std::io::{self, Write};
 use std::process::{Command, Stdio};
 
 use crate::generate::{self, LogSource, Numbers, OPTION_ONE, OPTION_TWO, WITH_WORDS};
+use crate::line;
 use crate::naive_verdict;
 use crate::random::Random;
 use crate::replay::Replay;
@@ -19,6 +20,8 @@ pub struct Case {
     question: Question,
     pub stream: Vec<u8>,
     right: Vec<bool>,
+    /// By how it was made no line is trouble.
+    sound: bool,
 }
 
 /// What a card does to the right tellings of a lane.
@@ -33,7 +36,7 @@ enum Card {
 pub fn case(seed: u64, piece: u64) -> Case {
     let mut random = Random::new(seed, piece);
     let (numbers, start) = option(&mut random);
-    let log = log(&mut random, numbers);
+    let mut log = log(&mut random, numbers);
     let form = form(&mut random);
     let late = if random.percent(60) {
         random.below(401)
@@ -47,6 +50,12 @@ pub fn case(seed: u64, piece: u64) -> Case {
     };
     let read: Vec<&str> = start.iter().map(String::as_str).collect();
     let start_read = Start::read(&read).expect("a start").expect("a place");
+    let said = random.percent(90);
+    let before_shown = if said {
+        say_option(&mut random, numbers, start_read, &mut log)
+    } else {
+        0
+    };
     let taken = taken(&log, start_read);
     let last = taken
         .iter()
@@ -69,7 +78,7 @@ pub fn case(seed: u64, piece: u64) -> Case {
         shown.extend(told.into_iter().map(|telling| (telling, lane)));
     }
     shuffle_lanes(&mut random, &mut shown);
-    let mut lines = merged(&mut random, &question, &taken, &shown);
+    let mut lines = merged(&mut random, &question, &taken, before_shown, &shown);
     let spoilt = random.percent(3);
     if spoilt {
         spoil(&mut random, &mut lines);
@@ -93,6 +102,7 @@ pub fn case(seed: u64, piece: u64) -> Case {
         question,
         stream,
         right: right.collect(),
+        sound: said && !spoilt,
     }
 }
 
@@ -143,16 +153,11 @@ fn end(random: &mut Random, last: Time) -> Time {
 
 // ---- logs
 
-/// A short log, line by line. The first line that sets the profile is a tick at 0 where it is of
-/// option II, so that what is right before any other event has one reading.
+/// A short log, line by line.
 fn log(random: &mut Random, numbers: &'static Numbers) -> Vec<Vec<u8>> {
-    let byte = std::str::from_utf8(numbers.byte).expect("digits");
     let mut lines: Vec<Vec<u8>> = Vec::new();
-    if numbers.byte != OPTION_ONE.byte {
-        lines.push(format!("0f{byte}000000000000000000").into_bytes());
-    }
     if random.percent(60) {
-        busy(random, numbers, byte, &mut lines);
+        busy(random, numbers, &mut lines);
         return lines;
     }
     let kind = random.pick(&["realistic", "nasty", "sparse"]);
@@ -169,9 +174,21 @@ fn log(random: &mut Random, numbers: &'static Numbers) -> Vec<Vec<u8>> {
     lines
 }
 
-/// Few inputs with no waits that change often within a few seconds.
-fn busy(random: &mut Random, numbers: &Numbers, byte: &str, lines: &mut Vec<Vec<u8>>) {
-    let mut time = 0;
+/// Few inputs with no waits that change often within a few seconds, from 0 on or later; now and then
+/// behind lines that are nearly formed.
+fn busy(random: &mut Random, numbers: &Numbers, lines: &mut Vec<Vec<u8>>) {
+    let byte = digits(numbers.byte);
+    if random.percent(20) {
+        for _ in 0..random.between(1, 3) {
+            lines.push(nearly_formed(random, byte));
+        }
+    }
+    let begin = if random.percent(50) {
+        random.below(400)
+    } else {
+        0
+    };
+    let mut time = begin;
     let mut put = |kind: u8, time: Time, input: u64, argument: u64| {
         let line = format!("{kind:02x}{byte}{time:012x}{input:02x}{argument:04x}");
         lines.push(line.into_bytes());
@@ -180,9 +197,9 @@ fn busy(random: &mut Random, numbers: &Numbers, byte: &str, lines: &mut Vec<Vec<
         .map(|_| random.below(16))
         .collect();
     for input in &inputs {
-        put(0x04, 0, *input, random.between(1, 3));
-        put(0x07, 0, *input, 0);
-        put(0x01, 0, *input, 0);
+        put(0x04, begin, *input, random.between(1, 3));
+        put(0x07, begin, *input, 0);
+        put(0x01, begin, *input, 0);
     }
     for _ in 0..random.between(1, 25) {
         time += if random.percent(30) {
@@ -208,6 +225,48 @@ fn busy(random: &mut Random, numbers: &Numbers, byte: &str, lines: &mut Vec<Vec<
             _ => put(random.pick(&[0x0f, 0x04, 0x13]), time, 0, random.below(4)),
         }
     }
+}
+
+fn digits(byte: &[u8; 2]) -> &str {
+    std::str::from_utf8(byte).expect("digits")
+}
+
+/// A tick at 0 with a digit too few, a byte too many, a byte of no option, or a capital; or nothing.
+fn nearly_formed(random: &mut Random, byte: &str) -> Vec<u8> {
+    let line = match random.below(5) {
+        0 => format!("0f{byte}00000000000000000"),
+        1 => format!("0f{byte}00000000000000000000"),
+        2 => format!("0f{}000000000000000000", random.pick(&["00", "03", "ff"])),
+        3 => format!("0F{byte}000000000000000000"),
+        _ => String::new(),
+    };
+    line.into_bytes()
+}
+
+fn formed(line: &[u8]) -> bool {
+    line::read(line).is_some()
+}
+
+/// How many lines stand before anything is shown: those up to the first formed one. Where that is an
+/// event later than 0, or there is none, a tick at 0 or a line that is refused says the option before.
+fn say_option(
+    random: &mut Random,
+    numbers: &Numbers,
+    start: Start,
+    log: &mut Vec<Vec<u8>>,
+) -> usize {
+    let first = log.iter().position(|line| formed(line));
+    let time = first.map(|first| taken(log, start)[first].1);
+    if let (Some(first), Some(None | Some(0))) = (first, time) {
+        return first + 1;
+    }
+    let place = random.below(first.unwrap_or(log.len()) as u64 + 1) as usize;
+    let (kind, byte) = (random.pick(&["0f", "ff"]), digits(numbers.byte));
+    log.insert(
+        place,
+        format!("{kind}{byte}000000000000000000").into_bytes(),
+    );
+    place + 1
 }
 
 /// Each line with the state's time after it, where it was not refused with 1 to 13.
@@ -410,11 +469,12 @@ fn shuffle_lanes(random: &mut Random, shown: &mut [(Telling, usize)]) {
 // ---- streams
 
 /// Shown lines stand behind all events that are not later than they with EARLY, and before all that
-/// are; lines that are refused may stand anywhere.
+/// are; lines that are refused may stand anywhere. So many lines of the log stand before all shown ones.
 fn merged(
     random: &mut Random,
     question: &Question,
     log: &[(Vec<u8>, Option<Time>)],
+    before_shown: usize,
     shown: &[(Telling, usize)],
 ) -> Vec<Vec<u8>> {
     let (mut lines, mut done) = (Vec::new(), 0);
@@ -425,7 +485,7 @@ fn merged(
             .unwrap_or(Time::MAX);
         let accepted = log[place].1.is_some();
         while done < shown.len() && shown[done].0.time + question.early < next {
-            if !accepted && random.percent(30) {
+            if place < before_shown || !accepted && random.percent(30) {
                 break;
             }
             lines.push(shown_line(random, question.form, shown[done]));
@@ -532,6 +592,10 @@ struct Counts {
     passed: u64,
     silent: u64,
     trouble: u64,
+    /// Of these, by a line shown before the log has said its option.
+    unsaid: u64,
+    /// Sound streams with trouble.
+    spurned: u64,
     by_millisecond: u64,
     asked: u64,
 }
@@ -539,8 +603,12 @@ struct Counts {
 impl Counts {
     fn take(&mut self, case: &Case, ours: &str) {
         self.runs += 1;
-        if ours.starts_with("trouble ") {
+        if let Some(line) = ours.strip_prefix("trouble ") {
+            let before = line.trim_end().parse::<usize>().expect("a number") - 1;
+            let said = crate::log::lines(&case.stream).take(before).any(formed);
             self.trouble += 1;
+            self.unsaid += u64::from(!said);
+            self.spurned += u64::from(case.sound);
             return;
         }
         let ends = ours.lines().filter_map(|line| line.strip_prefix(". "));
@@ -559,7 +627,8 @@ impl Counts {
 }
 
 /// Random histories RUNS times from `SEED`: this program's judges, and another program where one is
-/// named, have to say the same; a card that is right within the tolerance is never accused.
+/// named, have to say the same; a card that is right within the tolerance is never accused, and no
+/// stream is trouble that was made sound.
 pub fn try_verdict(
     seed: u64,
     runs: u64,
@@ -591,7 +660,7 @@ pub fn try_verdict(
                 return write!(output, "independent:\n{ours}{name}:\n{theirs}");
             }
         }
-        if counts.accused > 0 {
+        if counts.accused + counts.spurned > 0 {
             writeln!(
                 output,
                 "ACCUSED: history {seed}.{piece}: {}",
@@ -609,12 +678,13 @@ pub fn try_verdict(
         passed,
         silent,
         trouble,
+        unsaid,
         ..
     } = counts;
     writeln!(
         output,
         "{histories} shown histories in {runs} streams, 0 differ, {accused} right cards accused ({right} right, {found} wrong \
-         found, {passed} changed with no effect, {silent} silent; {trouble} streams with trouble; {} by each millisecond, {} by the program)",
+         found, {passed} changed with no effect, {silent} silent; {trouble} streams with trouble, {unsaid} of them shown before the option; {} by each millisecond, {} by the program)",
         counts.by_millisecond, counts.asked
     )
 }
