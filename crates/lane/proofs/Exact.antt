@@ -530,7 +530,8 @@ record Agrees (tolerance : Tolerance) (happenings : Happenings) (stretch : Stret
 abbrev AgreesNext : Tolerance → Happenings → Judged → List Stretch → Type 0
 AgreesNext tolerance happenings judged rest = Agrees tolerance happenings (judged .lane .stretch) (judged .ended ∷ rest)
 
-agrees-mark : (tolerance : Tolerance) (before after : Happenings) (lane : Lane) (from until value : ℕ) (rest : List Stretch)
+agrees-mark : (tolerance : Tolerance) (before after : Happenings) (lane : Lane) (from until value : ℕ)
+    (rest : List Stretch)
     (a : Agrees tolerance before (lane .stretch) rest) → lane .stretch .from ≤ from
     → nextBy tolerance before ≤ nextBy tolerance after
     → until ≤ min (nextBy tolerance after) (suc (tolerance .end))
@@ -613,7 +614,8 @@ module _ (tolerance : Tolerance) (near : Near tolerance) where
         → WrongIn tolerance (isRight from to right ∷ earlier) time
     wrong-still time n w = (w .0, w .1, λ g. w .2 (good-before time (w .0) n g))
 
-    module _ (lane : Lane) (last : ℕ) (after : lane .after ≡ afterBy earlier) (reached : lane .reached ≡ reachedBy earlier)
+    module _ (lane : Lane) (last : ℕ) (after : lane .after ≡ afterBy earlier)
+        (reached : lane .reached ≡ reachedBy earlier)
         (value : lane .value ≡ lastShown earlier)
         (kept : last ≡ lastRight earlier (lastShown earlier)) where
       abbrev begin : ℕ
@@ -634,7 +636,8 @@ module _ (tolerance : Tolerance) (near : Near tolerance) where
           byBool (eqb (lane .value) right) (λ t. rw t (o .1)) (λ t. rw t (omega arith))
 
       -- a wrong millisecond that is judged now is marked
-      wrong-marked : (time : ℕ) → nextBy tolerance earlier ≤ time → time < nextBy tolerance (isRight from to right ∷ earlier)
+      wrong-marked : (time : ℕ) → nextBy tolerance earlier ≤ time
+          → time < nextBy tolerance (isRight from to right ∷ earlier)
           → time ≤ tolerance .end
           → WrongIn tolerance (isRight from to right ∷ earlier) time
           → Between begin over time
@@ -656,7 +659,8 @@ module _ (tolerance : Tolerance) (near : Near tolerance) where
           (sym (eqb-true (lane .value) right q) ∙ value ∙ sym same) (omega arith))))))
           (λ q. rw q (omega arith)) in
           between-in (max (lane .after) (lane .reached - tolerance .early)) (badFrom (tolerance .late) last)
-          (overAt (lane .value) from to right - tolerance .early) (tolerance .end) time (rw (after, reached) n) bad until
+          (overAt (lane .value) from to right - tolerance .early) (tolerance .end) time
+          (rw (after, reached) n) bad until
           e (near .end)
 
       -- and what is marked now is wrong
@@ -668,7 +672,8 @@ module _ (tolerance : Tolerance) (near : Near tolerance) where
           between-out (max (lane .after) (lane .reached - tolerance .early)) (badFrom (tolerance .late) last)
           (overAt (lane .value) from to right - tolerance .early) (tolerance .end) time b in
           let start = max-out (lane .after) (lane .reached - tolerance .early) time (is .begun) in
-          let known : reachedBy earlier ≤ time + tolerance .early = rw (← reached) (sub-out (lane .reached) (tolerance .early) time (start .1)) in
+          let known : reachedBy earlier ≤ time + tolerance .early =
+          rw (← reached) (sub-out (lane .reached) (tolerance .early) time (start .1)) in
           let stands = last-stands tolerance earlier time (o .4) (rw (← after) (start .0)) told in
           let bad : badFrom (tolerance .late) last ≤ time = is .past in
           let limit : time < overAt (lane .value) from to right - tolerance .early = is .before in (
@@ -725,7 +730,8 @@ module _ (tolerance : Tolerance) (near : Near tolerance) where
       (behind-start (lane .stretch) (nextBy tolerance earlier) (tolerance .end) start
       (badFrom (tolerance .late) last) (a .ends) (sym same))
       (next-more earlier from to right o)
-      (limit-most (overAt (lane .value) from to right) to (afterBy earlier) (tolerance .early) (tolerance .end) far (near .end))
+      (limit-most (overAt (lane .value) from to right) to (afterBy earlier) (tolerance .early)
+      (tolerance .end) far (near .end))
       (λ time t e w. byLess time (nextBy tolerance earlier)
       (λ n. inl (a .accused time n e (wrong-before earlier from to right o time n w)))
       (λ n. inr (wrong-marked earlier from to right o lane last after reached value kept time n t e w)))
@@ -823,7 +829,8 @@ module _ (tolerance : Tolerance) (near : Near tolerance) where
 
       -- the milliseconds marked for what is shown: its own, or none
       abbrev Now : ℕ → Type 0
-      Now time = Between (max when (badFrom (tolerance .late) last)) (min (capped when 1) (capped (tolerance .end) 1)) time
+      Now time = Between (max when (badFrom (tolerance .late) last))
+          (min (capped when 1) (capped (tolerance .end) 1)) time
 
       now-only : (time : ℕ) → Now time → (when ≡ time) × (badFrom (tolerance .late) last ≤ when)
       now-only time b =
@@ -865,7 +872,8 @@ module _ (tolerance : Tolerance) (near : Near tolerance) where
             let most = after-now in (
               w .0,
               ⊎-elim (λ s. inl (inr s))
-                  (λ s. let there = told-there tolerance earlier when (omega arith) in absurd (s .0 (there .0) (there .1)))
+                  (λ s. let there = told-there tolerance earlier when (omega arith) in
+                  absurd (s .0 (there .0) (there .1)))
                   (w .1),
               w .2,
             )
@@ -895,7 +903,8 @@ module _ (tolerance : Tolerance) (near : Near tolerance) where
   shown-agrees earlier when shown o lane last rest kept a =
       let next = next-now earlier when shown o in
       let far = when-most earlier when shown o in
-      agrees-mark tolerance earlier (isShown when shown ∷ earlier) (toldLane lane when (capped when 1) shown) _ _ shown rest a
+      agrees-mark tolerance earlier (isShown when shown ∷ earlier) (toldLane lane when (capped when 1) shown)
+      _ _ shown rest a
       (let some = a .ends .some in let most = a .ends .most in omega arith)
       (omega arith)
       (now-most when (tolerance .end) (nextBy tolerance (isShown when shown ∷ earlier)) (omega arith))
@@ -957,7 +966,8 @@ module _ (tolerance : Tolerance) (near : Near tolerance) where
       let lane = laneAfter tolerance earlier in
       let ends = agrees earlier (o .1) .ends in
       let next = next-now earlier when shown o in
-      shown-tidy tolerance lane (lastRight earlier shown) when shown (min (nextBy tolerance earlier) (suc (tolerance .end))) ends
+      shown-tidy tolerance lane (lastRight earlier shown) when shown
+      (min (nextBy tolerance earlier) (suc (tolerance .end))) ends
       (let k = near .end in omega arith)
       (omega arith)
       (tidy earlier (o .1))

@@ -1,5 +1,5 @@
--- What is shown within a tolerance, by each millisecond: what stands, what is good and what is wrong, for any values and
--- whatever is right when. Assumes nothing.
+-- What is shown within a tolerance, by each millisecond: what stands, what is good and what is wrong, for any values
+-- and whatever is right when. Assumes nothing.
 use Prim.Native.Nat.{ℕ, _+_, _≤_, _<_}
 use mathlib.Core.List.{List, [], _∷_}
 use mathlib.Core.Logic.{_⊎_}

@@ -89,7 +89,8 @@ module _ (selected state quality switch : ℕ) where
   unfolding fourPlace
   fourPlace-selected h = record { value = rw (lt-ltb 16 selected h); bound = omega arith }
 
-  pub fourPlace-state : selected ≤ 16 → 3 < state → Placed (fourPlace selected state quality switch) placeCount placeCount
+  pub fourPlace-state : selected ≤ 16 → 3 < state
+      → Placed (fourPlace selected state quality switch) placeCount placeCount
   unfolding fourPlace
   fourPlace-state a h = record { value = rw (le-ltb 16 selected a, lt-ltb 3 state h); bound = omega arith }
 
@@ -109,7 +110,8 @@ module _ (selected state quality switch : ℕ) where
       }
 
   pub fourPlace-all : selected ≤ 16 → state ≤ 3 → quality ≤ 15 → switch ≤ 33
-      → Placed (fourPlace selected state quality switch) placeCount (((selected * 4 + state) * 16 + quality) * 34 + switch)
+      → Placed (fourPlace selected state quality switch) placeCount
+      (((selected * 4 + state) * 16 + quality) * 34 + switch)
   unfolding fourPlace
   fourPlace-all a b c d =
       record {

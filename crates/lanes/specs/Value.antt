@@ -36,7 +36,8 @@ codeValue codes lane = cond (ltb lane 16) (getD codes lane 0) 0
 
 -- what a state shows in a lane: the code of a port, or what is judged of the answer
 unfoldable pub valueOf : View → Selector → ℕ → ℕ
-valueOf view state lane = cond (view .codes) (codeValue (outgoingCodes state) lane) (answerValue view (answerOf 0 state))
+valueOf view state lane =
+    cond (view .codes) (codeValue (outgoingCodes state) lane) (answerValue view (answerOf 0 state))
 
 -- how many numbers have a place
 abbrev pub placeCount : ℕ

@@ -1,5 +1,5 @@
--- The spans of a state are right: `specs/Spans`. Between two due moments a tick changes the time alone, and from the next
--- on it is the tick of the state that was ticked there. Assumes nothing.
+-- The spans of a state are right: `specs/Spans`. Between two due moments a tick changes the time alone, and from the
+-- next on it is the tick of the state that was ticked there. Assumes nothing.
 use Prim.Native.Nat.{ℕ, zero, suc, _+_, _-_, _≤_, _<_, min}
 use mathlib.Core.Bool.{Bool, true, false, cond}
 use mathlib.Core.List.{List, [], _∷_}
@@ -182,7 +182,8 @@ module _ (view : View) (lane until : ℕ) (ever : until < never) where
       let few-then : dueIn (until - tickedOnce state (nextDue state) .time) (tickedOnce state (nextDue state)) ≤ left =
       subst (λ (n : ℕ). dueIn (until - n) (tickedOnce state (nextDue state)) ≤ left) (sym there)
       (few-next state until calm (omega arith) ever (omega arith) left few) in
-      let rest = whole-from left (tickedOnce state (nextDue state)) calm-then (omega arith) few-then time (omega arith) most in
+      let rest = whole-from left (tickedOnce state (nextDue state)) calm-then (omega arith)
+      few-then time (omega arith) most in
       let on = ap (λ (s : Selector). valueOf view s lane)
       (ticked-on state time calm from (omega arith) due) in
       inr (rw (lt-leb until (min until (nextDue state - 1)) less)
@@ -217,7 +218,8 @@ spans-right view lane events until below after =
     ∙ value-by view (tickAt time following events) lane in
     record {
       sound = λ time value most i.
-          let k = sound-from view lane until (omega arith) 48 (stateAfter events) calm (omega arith) time value most i in
+          let k = sound-from view lane until (omega arith) 48 (stateAfter events) calm (omega arith)
+          time value most i in
           (rw (← same) (k .0), tt, k .1 ∙ by time (k .0) most);
       whole = λ time value most r.
           let from : stateAfter events .time ≤ time = rw same (r .0) in
@@ -296,7 +298,8 @@ parts-right : (view : View) (lane : ℕ) (events : Sequence) (until : ℕ) → u
 parts-right view lane (started profile) until below after moment value =
     let right = spans-right view lane (started profile) until below after in (
       λ r. right .whole moment value (r .1) (r .0, tt, r .2),
-      λ i. let most = spans-most (λ (state : Selector). value ≡ valueOf view state lane) 48 (spanOf (stateAfter (started profile)) until) until moment (omega arith) i in
+      λ i. let most = spans-most (λ (state : Selector). value ≡ valueOf view state lane) 48
+          (spanOf (stateAfter (started profile)) until) until moment (omega arith) i in
           let k = right .sound moment value most i in
           (k .0, most, k .2),
     )
@@ -305,13 +308,15 @@ parts-right view lane (given following earlier) until below after moment value =
     let same : stateAfter (given following earlier) .time ≡ timeOf (recorded (given following earlier)) =
     happened (given following earlier) .time in
     let rest =
-    parts-right view lane earlier (stateAfter (given following earlier) .time) (sequence-below (given following earlier))
+    parts-right view lane earlier (stateAfter (given following earlier) .time)
+    (sequence-below (given following earlier))
     (sequence-later given earlier) moment value in (
       ⊎-elim
           (λ r. inl (right .whole moment value (r .1) (r .0, tt, r .2)))
           (λ r. inr (rest .0 (rw same r))),
       ⊎-elim
-          (λ i. let most = spans-most (λ (state : Selector). value ≡ valueOf view state lane) 48 (spanOf (stateAfter (given following earlier)) until) until moment (omega arith) i in
+          (λ i. let most = spans-most (λ (state : Selector). value ≡ valueOf view state lane) 48
+          (spanOf (stateAfter (given following earlier)) until) until moment (omega arith) i in
           let k = right .sound moment value most i in
           inl (k .0, most, k .2))
           (λ i. inr (rw (← same) (rest .1 i))),

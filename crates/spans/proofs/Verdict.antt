@@ -41,10 +41,16 @@ judged-by-law tolerance view lane events happenings told =
     → ((time ≤ tolerance .end) × Wrong tolerance (RightBy view lane events) (tellings happenings) time)
     ↔ InAny (stretchesAfter tolerance happenings) time =
     λ time. (
-      λ w. exact .wrong time .0
-          (w .0, wrong-as tolerance (RightBy view lane events) (RightIn happenings) (tellings happenings) back time (w .0) (w .1)),
-      λ i. let w = exact .wrong time .1 i in
-          (w .0, wrong-as tolerance (RightIn happenings) (RightBy view lane events) (tellings happenings) to time (w .0) (w .1)),
+      λ w. exact .wrong time .0 (
+        w .0,
+        wrong-as tolerance (RightBy view lane events) (RightIn happenings)
+            (tellings happenings) back time (w .0) (w .1),
+      ),
+      λ i. let w = exact .wrong time .1 i in (
+        w .0,
+        wrong-as tolerance (RightIn happenings) (RightBy view lane events)
+            (tellings happenings) to time (w .0) (w .1),
+      ),
     ) in
     record {
       wrong = wrong;

@@ -1,5 +1,6 @@
--- A lane that is told what the spans of the events show is judged by the law: its stretches are exactly the milliseconds
--- at which something stands that was right, by the events, at no millisecond within the tolerance. Assumes nothing.
+-- A lane that is told what the spans of the events show is judged by the law: its stretches are exactly the
+-- milliseconds at which something stands that was right, by the events, at no millisecond within the tolerance.
+-- Assumes nothing.
 use Prim.Native.Nat.{ℕ, _+_, _≤_, _<_}
 use mathlib.Core.Logic.{_↔_}
 use Rattle.numbers.specs.Inputs.{timeLimit}
