@@ -16,7 +16,7 @@ SHAPES = (
 )
 # What no longer holds, by the words that the prover has for it.
 FACTS = (
-    ("a promise is not kept", r"`search`: no proof of `\S*\.Reads\.Post\b"),
+    ("a promise is not kept", r"`search`: no proof of `\S*\.Reads\.Post\b|it is not proved that what the function ensures holds when it returns"),
     ("what a callee asks is not met", r"`search`: no proof of `\S*\.Reads\.Asked\b"),
     ("a number or an order does not follow", r"`omega`: the goal does not follow"),
     ("two things are not the same", r"the two (?:types|values|terms|sides) (?:first )?differ|expected type .* but this has type"
