@@ -5,7 +5,7 @@
 all), `programs` (the proved ones), `words` and `answers` (the language of docs/WORDS.md),
 `captures` (capture files), `logs` (a log in hand), `inputs` (what is known of each input, and
 why it isn't selected), `timeline` (what is right and known at any time), `answered` (a card's
-answer lines), `shown` (a table of what a card shows over time), `verdicts` (the proved verdict on
+answer lines), `shown` (a table of what a card shows over time), `verdicts` (the program's verdict on
 it), `findings` (what is wrong with a card, and why), `lanes` and `pictures` (lanes over time, and
 pages of them), `progress` (what a terminal is told), `faults` (the known faults), `reach` (which of
 them a log can show at all), `jitter` (how late a bench is), `sequences` (the bench's set),

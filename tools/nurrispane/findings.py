@@ -98,7 +98,7 @@ class ByAnswers:
 
 
 class ByShown:
-    """What a card shows over time beside what is right, and the wrong stretches: the verdict is the proved program's."""
+    """What a card shows over time beside what is right, and the wrong stretches: the verdict is the program `verdict`'s."""
 
     def __init__(self, log, options):
         self.log, self.right = log, programs.replayed(log)

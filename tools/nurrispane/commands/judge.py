@@ -7,7 +7,7 @@ known faults that would give exactly these answers are named: candidates, never 
 
 --shown has a table of what the card shows from when on: selected, state, quality, switch, or some of them. It is judged at every
 millisecond, from the first row to --end: what is shown has to have been right at most --tolerance before, or to be right at most --early
-after. The verdict is the proved program's. --times is the same for lines of "TIME INPUT".
+after. The verdict is the program `verdict`'s. --times is the same for lines of "TIME INPUT".
 
 --all tells every stretch that is wrong, --csv has them as rows. Exit status 0: all is right; 1: something is wrong, lost or too many;
 2: trouble, also where there is nothing to judge."""
