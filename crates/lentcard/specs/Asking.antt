@@ -71,3 +71,25 @@ pub record AskLent
   pub answered : answer ≡ heartbeatTold (lentAsked sender state port time source buffer .heartbeat)
   pub content : after
       ≡ contentBy (lentAsked sender state port time source buffer .heartbeat) (codeOfPort state port) source buffer
+
+-- a question to a port's sender
+abbrev pub askedBy : Sender → Question → AskedOne
+askedBy sender question =
+    lentAsked sender (question .state) (question .port) (question .time) (question .source) (question .buffer)
+
+-- what C holds of a port after questions in a row, each to its port's own sender, the latest first
+unfoldable pub senderAfter : Questions → ℕ → Sender
+senderAfter [] port = freshSender
+senderAfter (question ∷ earlier) port =
+    cond (eqb (question .port) port) (askedBy (senderAfter earlier port) question .sender) (senderAfter earlier port)
+
+-- sixteen senders, each asked by itself, are the senders, so that all that is stated of these holds of what C holds
+pub record SenderRight (earlier : Questions) (question : Question) : Type 0 where
+  -- what C holds of a port is the port's sender
+  pub sender : (port : ℕ) → port ≤ lastInput → senderAfter earlier port ≡ senderAt (sendersAfter earlier) port
+  -- the arrays that a question leaves hold the sender after it
+  pub held : (port : ℕ) → senderIn (senderTimes (senderAfter earlier port)) (senderNumbers (senderAfter earlier port))
+      ≡ senderAfter earlier port
+  -- and a question to a port is answered as document 02 says
+  pub heartbeat : question .port ≤ lastInput
+      → askedBy (senderAfter earlier (question .port)) question .heartbeat ≡ heartbeatBy earlier question
