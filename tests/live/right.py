@@ -25,7 +25,7 @@ def replayed(log, start=None):
 def replayed_unit(events, *start):
     """The proved answers of a station clock unit."""
     programs.ready("replay_unit")
-    call = [str(ROOT / ".ci" / "program"), "replay_unit", *map(str, start)]
+    call = [str(ROOT / "tools" / "program"), "replay_unit", *map(str, start)]
     return subprocess.run(call, input=events, capture_output=True, check=True).stdout
 
 
@@ -40,7 +40,7 @@ def outgoing(log, start=None):
 def proved_frames():
     """The sixty octets of each code, without and with the event flag, as the proved writer has them."""
     programs.ready("frames")
-    run = subprocess.run([str(ROOT / ".ci" / "program"), "frames"], capture_output=True, check=True)
+    run = subprocess.run([str(ROOT / "tools" / "program"), "frames"], capture_output=True, check=True)
     frames = [bytes.fromhex(line) for line in run.stdout.decode().split()]
     return {(code, event): frames[16 * event + code] for event in (0, 1) for code in range(16)}
 
