@@ -16,7 +16,7 @@ from nurrispane.files import FINE, ROOT, read, write
 
 SUMMARY = "an event log's answers, by the proved program"
 EXAMPLES = [
-    "./replay examples/whole-replay.log",
+    "./nurrispane replay examples/whole-replay.log",
     "./nurrispane replay --words examples/whole-replay.log",
     "./nurrispane replay --summary examples/whole-replay.log",
 ]
