@@ -23,7 +23,7 @@ class Console(OnWire):
             self.assertEqual(card.say("foo"), "cannot: column 1: no such word: foo")
             self.assertRegex(card.say("explain 4"), r"^ok \d+ - free 4; input 4 raw failed passed failed priority 1 signal fail floor 4")
             self.assertRegex(card.say("explain 16"), "^cannot")
-            self.assertRegex(card.say("code 4 2"), r"^ok")
+            self.assertRegex(card.say("code 4 0010"), r"^ok")
             self.assertRegex(card.say("fresh"), r"^ok 0 - free 4$")
             self.assertEqual(card.say("x" * 5000), "cannot: the line is too long")
             self.assertRegex(card.say("event 02 4 0 " + "00" * 1514), r"^refused 7 ")
