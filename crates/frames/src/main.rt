@@ -1,5 +1,5 @@
 // Frames for an outside dissector, in hexadecimal, one a line: each of the sixteen codes without
-// the event flag, then each with it. `tests/dissect-frames` has them decoded.
+// the event flag, then each with it. `tests/programs/dissect-frames` has them decoded.
 use frame::write_frame;
 use libc::STDOUT_FILENO;
 
