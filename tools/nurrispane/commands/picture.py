@@ -42,7 +42,8 @@ def run(options):
         logs.judged_by(log)
     picture, found = over(log, options) if over_time else by_lines(log, options)
     write(options.out, FORMS[form](picture).encode())
-    write_out(("%d lines in %d lanes are in %s%s\n" % (len(log.lines), len(picture.lanes), name_of(options.out), picture.summary.partition(" lines")[2])).encode())
+    summary = picture.summary.partition(" lines")[2]
+    write_out(f"{len(log.lines)} lines in {len(picture.lanes)} lanes are in {name_of(options.out)}{summary}\n".encode())
     return FINDING if found else FINE
 
 
