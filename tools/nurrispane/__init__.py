@@ -2,7 +2,7 @@
 
 `front` takes the first word of ./nurrispane and hands the rest to the module of that name in
 `commands`. The other modules are what these share: `files` (read and written whole, or not at
-all), `programs` (the proved ones), `words` and `answers` (the language of docs/WORDS.md),
+all), `programs` (the proved ones), `words` and `answers` (the language of docs/LABORATORY.md),
 `captures` (capture files), `logs` (a log in hand), `inputs` (what is known of each input, and
 why it isn't selected), `timeline` (what is right and known at any time), `answered` (a card's
 answer lines), `shown` (a table of what a card shows over time), `verdicts` (the program's verdict on
