@@ -1,6 +1,6 @@
 """The laboratory's tools beside the proved programs, in Python's own library alone.
 
-`front` takes the first word of ./nurrispane and hands the rest to the module of that name in
+`front` takes the name of a tool behind ./nurrispane and hands the rest to the module of that name in
 `commands`. The other modules are what these share: `files` (read and written whole, or not at
 all), `programs` (the proved ones), `words` and `answers` (the language of docs/LABORATORY.md),
 `captures` (capture files), `logs` (a log in hand), `inputs` (what is known of each input, and
