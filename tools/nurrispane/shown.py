@@ -99,7 +99,7 @@ def question(shown, options, last):
         raise Trouble("%s shows nothing up to %s ms, so there is no verdict" % (shown.name, format(end, ",")))
     late = sum(row.time > end for row in shown.rows)
     if late:
-        shown.said.append("%d rows are behind the end and not judged" % late)
+        shown.said.append("%d %s behind the end and not judged" % (late, "row is" if late == 1 else "rows are"))
     return verdicts.Question(shown.form, *tolerance(options), end)
 
 
