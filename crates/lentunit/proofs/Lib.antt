@@ -1,0 +1,2 @@
+-- `Laws`: the code's definitions, way by way.
+pub mod Laws
