@@ -1,3 +1,3 @@
--- `Lent`: what each call leaves in the arrays that C lends. `Calls`: what they hold after calls in a row. `Read`: calls
--- that only read a card, on a unit's. `Range`: what C may index by.
+-- `Lent`: what each call leaves in the arrays that C lends. `Calls`: what they hold after calls in a row.
 pub mod Lent
+pub mod Calls
