@@ -79,7 +79,7 @@
  * A fresh input is a line, off, and its signal failing: an input that is to be followed gets its kind,
  * its priority and its signal. on_timer() is to be called at the time that timer_at() was last given: what
  * is next due, or the next look at the senders, which no event puts off.
- * tests/examples takes the lines above out, compiles them and runs them.
+ * tests/firmware/examples takes the lines above out, compiles them and runs them.
  *
  * What C owes
  *
@@ -125,8 +125,8 @@
  * one sender 96; a unit 1,368, aligned to 8. There is no padding in any of them, so cards and senders can be compared by memcmp() and summed by a checksum.
  *
  * No call takes more stack than NURRISPANE_STACK, whatever it is lent: no function calls itself or one by a
- * pointer, and tests/stack-bounds derives the most from the machine code. docs/BENCHMARKS.md has what each
- * takes, and tests/card measures it anew.
+ * pointer, and tests/firmware/stack-bounds derives the most from the machine code. docs/BENCHMARKS.md has what each
+ * takes, and tests/firmware/card measures it anew.
  */
 #ifndef NURRISPANE_H
 #define NURRISPANE_H

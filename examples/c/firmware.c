@@ -6,7 +6,7 @@
  *     firmware LOG ANSWERS <EVENTS
  *
  * LOG gets every event that it made, its own ticks too, ANSWERS what it was answered. The replay of
- * LOG gives ANSWERS: tests/card compares. On every 50th event it restarts from the card that it kept.
+ * LOG gives ANSWERS: tests/firmware/card compares. On every 50th event it restarts from the card that it kept.
  */
 #include <stdio.h>
 #include <string.h>

@@ -8,12 +8,12 @@ why it isn't selected), `timeline` (what is right and known at any time), `answe
 answer lines), `shown` (a table of what a card shows over time), `verdicts` (the program's verdict on
 it), `findings` (what is wrong with a card, and why), `lanes` and `pictures` (lanes over time, and
 pages of them), `progress` (what a terminal is told), `faults` (the known faults), `reach` (which of
-them a log can show at all), `jitter` (how late a bench is), `sequences` (the bench's set),
-`meetings` (which rules meet in a log). For a card on a wire: `wires` (packet sockets), `hooks`
-(commands to a card), `plays` (a sequence played), `records` (what passed), `courses` (what is right
-when, and races), `heartbeats` (frames by themselves), `wirefindings`, `judgements`, `stalls` (when
-the bench itself stood still), `wirepictures`, `reports`, `durations` (times on the command line),
-`wiresets` (sequences made for a wire).
+them a log can show at all), `jitter` (how late a bench is), `sequences` (the bench's set). For a
+card on a wire: `wires` (packet sockets), `hooks` (commands to a card), `plays` (a sequence played),
+`records` (what passed), `courses` (what is right when, and races), `heartbeats` (frames by
+themselves), `wirefindings`, `judgements`, `stalls` (when the bench itself stood still),
+`wirepictures`, `reports`, `durations` (times on the command line), `wiresets` (sequences made for a
+wire).
 
 No rule of the selector stands here: what a line is answered with is asked of the proved
 programs, and what a fault does of the wrong copies of the independent program.

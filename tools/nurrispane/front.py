@@ -1,6 +1,6 @@
 """The front command: ./nurrispane WORD .., a module of `commands` for each word.
 
-Such a module has SUMMARY (a line), EXAMPLES (calls that work), `arguments(parser)` and
+A word with a hyphen is the module with an underline. Such a module has SUMMARY (a line), EXAMPLES (calls that work), `arguments(parser)` and
 `run(options)`, which gives the exit status. With LIVE set its calls need interfaces, and work
 where these are; with PROGRESS set a terminal is told what is being done where that takes long.
 """
@@ -23,16 +23,16 @@ STATUS = "exit status: 0 fine, 1 a finding, 2 trouble; a file is written whole o
 def words():
     """The words there are."""
     here = pathlib.Path(__file__).resolve().parent / "commands"
-    return sorted(path.stem for path in here.glob("[a-z]*.py"))
+    return sorted(path.stem.replace("_", "-") for path in here.glob("[a-z]*.py"))
 
 
 def module(word):
-    return importlib.import_module("nurrispane.commands." + word)
+    return importlib.import_module("nurrispane.commands." + word.replace("-", "_"))
 
 
 def overview():
     lines = ["usage: ./nurrispane WORD ..", ""]
-    lines += ["  %-9s %s" % (word, module(word).SUMMARY) for word in words()]
+    lines += ["  %-15s %s" % (word, module(word).SUMMARY) for word in words()]
     lines += ["", "./nurrispane WORD --help says more. " + STATUS]
     return "".join(line + "\n" for line in lines)
 

@@ -229,15 +229,17 @@ Table = collections.namedtuple("Table", "made_of finds entries under out_of_reac
 
 
 def digest(texts=None):
-    """A name made of all that the table is made of and of the set: its files, or these texts by their names."""
+    """A name made of all that the table is made of and of the set: its files, or these texts by their names. Of a log in words its
+    name, what it shows and its lines count; comments and other words for the same line don't."""
     if texts is None:
         texts = {path.stem: path.read_text() for path in (HERE / "known").glob("*.words")}
     made_of = sorted(path for folder in (BY_HAND, LOOKED, ETHERNET) for path in (HERE / folder).glob("*.words"))
     made_of.append(STORED / "hand-made.txt")
+    told = [(path.name, path.read_text()) for path in made_of] + sorted(texts.items())
     parts = [part for named in faults.sources(faults.RIGHT).items() for part in named]
     parts += [repr(fault) for fault in faults.known()]
-    parts += [part for path in made_of for part in (path.name, path.read_text())]
-    parts += [part for named in sorted(texts.items()) for part in named]
+    for name, text in told:
+        parts += [name, *(part for log in words.logs(text, name) for part in (str(log.name), log.shows, log.data().decode("latin-1")))]
     parts.append(repr((jitter.LEVELS, jitter.SEEDS)))
     return hashlib.sha256("\0".join(parts).encode()).hexdigest()[:24]
 

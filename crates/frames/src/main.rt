@@ -1,6 +1,6 @@
 // Frames for an outside dissector, in hexadecimal, one a line: each of the sixteen codes without
-// the event flag, then each with it. `tests/dissect-frames` has them decoded. Where they can't be
-// written, it says so on standard error.
+// the event flag, then each with it. `tests/programs/dissect-frames` has them decoded. Where they
+// can't be written, it says so on standard error.
 use calls::Ending;
 use calls::Stream;
 use calls::is_whole;
