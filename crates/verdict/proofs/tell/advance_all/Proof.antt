@@ -1,29 +1,28 @@
--- `verdict::advance_all` meets its contract: it ends, and no sum wraps.
+-- `verdict::tell::advance_all` meets its contract: what is left of the spans leads to what all of them lead to.
 -- Assumes nothing.
-use Prim.Native.Nat.{_≤_, _-_}
-use native.Mathlib.Omega.{arith}
-use lib.ListN.{length}
+use mathlib.Core.Path.{refl}
+use Rattle.verdict.proofs.Laws.{GoingAll, going-all-laws}
 use borrow.Author.Needs.{needs}
-use Rattle.verdict.proofs.advance_all.Statement.{statement}
-use Rattle.verdict.proofs.advance_all.Tie as tie
+use Rattle.verdict.proofs.tell.advance_all.Statement.{statement}
+use Rattle.verdict.proofs.tell.advance_all.Tie as tie
 
 abbrev Inv-loop : tie.InvT-loop
-Inv-loop question room₀ until stopped₀ lanes₀ span₀ left₀ room stopped lanes span left = left ≤ left
+Inv-loop question room₀ since until stopped₀ lanes₀ span₀ left₀ room stopped lanes span left = GoingAll question until span₀ lanes₀ room₀ left span lanes room
 
 abbrev μ-loop : tie.MeasureT-loop
-μ-loop question room₀ until stopped₀ lanes₀ span₀ left₀ room stopped lanes span left = left
+μ-loop question room₀ since until stopped₀ lanes₀ span₀ left₀ room stopped lanes span left = left
 
-span-of-requires : tie.Need-span-of-requires Inv-loop μ-loop
-span-of-requires c κs = search needs
+span-since-requires : tie.Need-span-since-requires Inv-loop μ-loop
+span-since-requires c κs = search needs
 
 loop-holds : tie.Need-loop-holds Inv-loop μ-loop
-loop-holds c = search needs
+loop-holds c = refl
 
 push-all-requires : tie.Need-push-all-requires Inv-loop μ-loop
 push-all-requires c κs = search needs
 
 returns : tie.Need-returns Inv-loop μ-loop
-returns c = search needs
+returns c = search going-all-laws
 
 next-span-requires : tie.Need-next-span-requires Inv-loop μ-loop
 next-span-requires c κs = search needs
@@ -35,10 +34,10 @@ loop-less : tie.Need-loop-less Inv-loop μ-loop
 loop-less c = search needs
 
 loop-again : tie.Need-loop-again Inv-loop μ-loop
-loop-again c = search needs
+loop-again c = search going-all-laws
 
 returns-2 : tie.Need-returns-2 Inv-loop μ-loop
-returns-2 c = search needs
+returns-2 c = search going-all-laws
 
 pub advance-all-spec : {M : Type 1} → statement M
 advance-all-spec =
@@ -46,7 +45,7 @@ advance-all-spec =
     (tie.spec
     Inv-loop
     μ-loop
-    span-of-requires
+    span-since-requires
     loop-holds
     push-all-requires
     returns

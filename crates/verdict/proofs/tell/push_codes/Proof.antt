@@ -1,20 +1,21 @@
--- `verdict::push_codes` meets its contract: it ends, and no sum wraps.
+-- `verdict::tell::push_codes` meets its contract: what is left of the ports leads to what all of them lead to.
 -- Assumes nothing.
-use Prim.Native.Nat.{_≤_, _-_}
-use native.Mathlib.Omega.{arith}
-use lib.ListN.{length}
+use Prim.Native.Nat.{_-_, _≤_}
+use mathlib.Core.Path.{refl}
+use Rattle.verdict.specs.Told.{portsTold}
+use Rattle.verdict.proofs.Laws.{Ports, ports-laws}
 use borrow.Author.Needs.{needs}
-use Rattle.verdict.proofs.push_codes.Statement.{statement}
-use Rattle.verdict.proofs.push_codes.Tie as tie
+use Rattle.verdict.proofs.tell.push_codes.Statement.{statement}
+use Rattle.verdict.proofs.tell.push_codes.Tie as tie
 
 abbrev Inv-loop : tie.InvT-loop
-Inv-loop question room₀ from to stopped₀ codes lanes₀ number₀ room stopped lanes number = number ≤ 16
+Inv-loop question room₀ from to stopped₀ codes lanes₀ number₀ room stopped lanes number = (number ≤ 16) × Ports question from to codes (portsTold question from to codes 16 0 lanes₀ room₀) number lanes room
 
 abbrev μ-loop : tie.MeasureT-loop
 μ-loop question room₀ from to stopped₀ codes lanes₀ number₀ room stopped lanes number = 16 - number
 
 loop-holds : tie.Need-loop-holds Inv-loop μ-loop
-loop-holds c = search needs
+loop-holds c = (search needs, refl)
 
 mul-lane : tie.Need-mul-lane Inv-loop μ-loop
 mul-lane c = search needs
@@ -44,10 +45,10 @@ loop-less : tie.Need-loop-less Inv-loop μ-loop
 loop-less c = search needs
 
 loop-again : tie.Need-loop-again Inv-loop μ-loop
-loop-again c = search needs
+loop-again c = (search needs, search ports-laws)
 
 returns : tie.Need-returns Inv-loop μ-loop
-returns c = search needs
+returns c = search ports-laws
 
 pub push-codes-spec : {M : Type 1} → statement M
 push-codes-spec =
