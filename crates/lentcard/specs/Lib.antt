@@ -1,7 +1,7 @@
 -- `Lent`: what each call leaves in the arrays that C lends. `Known`: what is known of one input. `Sound`: whether a kept
 -- card can have come from a fresh one. `SelfTest`: the power-on self-test. `Asking`: one sender. `Calls`: what
 -- C holds after calls in a row. `Ports`: what is written for a port. `Range`: what C may
--- index by.
+-- index by. `Part`: a tick in portions.
 pub mod Lent
 pub mod Known
 pub mod Sound
@@ -10,3 +10,4 @@ pub mod Asking
 pub mod Calls
 pub mod Ports
 pub mod Range
+pub mod Part

@@ -4,6 +4,7 @@
 use crate::card_frame;
 use crate::known::ends_at;
 use crate::known::known_at;
+use crate::part::tick_part;
 use crate::self_test::self_test;
 use crate::sound::is_sound;
 use crate::start_lent;
@@ -24,6 +25,7 @@ ghost use Rattle.inplace.specs.Lists.{isSet, selectorAt};
 ghost use Rattle.onestep.specs.Watched.{watchAt};
 ghost use Rattle.lentcard.specs.Lent.{headerVersion, cardOctets, sendersOctets, startLent, stepLent, frameTold, WritePort};
 ghost use Rattle.lentcard.specs.Known.{endsKnown, inputKnown};
+ghost use Rattle.lentcard.specs.Part.{partLent, moreLent};
 ghost use Rattle.lentcard.specs.SelfTest.{selfTest};
 ghost use Rattle.lentcard.specs.Sound.{isSound};
 
@@ -129,6 +131,34 @@ pub extern "C" fn nurrispane_step_in(
         argument,
         frame,
     );
+}
+
+// A portion of a tick: serves at most `most` of the moments that are due by a time, one where `most`
+// is 0, and where none is left makes the tick at that time. 1 where more is to come, 0 where not.
+// `told` has the answer of the last tick that was made.
+#[no_mangle]
+pub extern "C" fn nurrispane_tick_part_in(
+    times: &mut [u64; TIMES],
+    small: &mut [u8; SMALL],
+    words: &mut [u16; WORDS],
+    due: &mut [u64; DUE],
+    told: &mut [u8; TOLD],
+    time: u64,
+    most: u8,
+) -> u32
+    ensures { λ more. ⌜
+        (watchAt (now (times .exit)) (now (small .exit)) (now (words .exit)) (now (due .exit))
+        (now (told .exit)) ≡
+        partLent most
+        (watchAt (now (times .entry)) (now (small .entry)) (now (words .entry))
+        (now (due .entry)) (now (told .entry)))
+        time) ×
+        (more ≡ moreLent most
+        (watchAt (now (times .entry)) (now (small .entry)) (now (words .entry))
+        (now (due .entry)) (now (told .entry)))
+        time) ⌝ }
+{
+    tick_part(times, small, words, due, told, time, most)
 }
 
 // When something is next due: no answer changes before it but by an event.
