@@ -86,7 +86,7 @@ unfolding namesOption
 names-two option two = rw (eq-eqb option optionTwo two, or-true (eqb option optionOne))
 
 -- a number that is neither option's names none
-names-neither : (option : ℕ) → option ≢ optionOne → option ≢ optionTwo → namesOption option ≡ false
+pub names-neither : (option : ℕ) → option ≢ optionOne → option ≢ optionTwo → namesOption option ≡ false
 unfolding namesOption
 names-neither option one two = rw (ne-eqb option optionOne one, ne-eqb option optionTwo two)
 

@@ -33,6 +33,7 @@ use Rattle.events.specs.Sequence.{stateAfter}
 use Rattle.events.proofs.Refused.{accepted-limit}
 use Rattle.events.proofs.Calm.{accepted-or-not, stepRead-refused, stepRead-barred, stepRead-taken, brought-time, sequence-calm}
 use Rattle.events.proofs.Extra.{sequence-ever}
+use Rattle.quickstep.specs.declared.Watch.{Watch}
 use Rattle.onestep.specs.Watched.{answerIn, watchAt}
 use Rattle.inplace.specs.Lists.{selectorAt}
 use Rattle.lentcard.specs.Sound.{sameRun, sameAmong, sameRuns, sameOnce, sameAnswer, isSound}
@@ -103,28 +104,37 @@ stays sequence =
     ticked-each state (state .time) (sequence-calm sequence) (omega arith) (sequence-ever sequence) ∙
     ap (λ (count : ℕ). each count state) none
 
-sound-reached : (sequence : Sequence) → isSound (lentAfter sequence) ≡ 1
+-- whatever holds the state after a sequence, with an answer of it and a time before which nothing is due
+pub sound-held : (sequence : Sequence) (watch : Watch) (number : ℕ) → watch .state ≡ stateAfter sequence
+    → watch .answer ≡ answerOf number (stateAfter sequence)
+    → watch .state .time < watch .due
+    → watch .due ≤ nextDue (watch .state)
+    → isSound watch ≡ 1
 unfolding isSound
-sound-reached sequence =
-    let right = lent-right sequence in
-    let watch = lentAfter sequence in
+sound-held sequence watch number is answer ahead due =
     let state = watch .state in
     let here : ticked state (state .time) ≡ state =
-    subst (λ (one : Selector). ticked one (one .time) ≡ one) (sym (right .state)) (stays sequence) in
+    subst (λ (one : Selector). ticked one (one .time) ≡ one) (sym is) (stays sequence) in
     let below : state .time < timeLimit =
-    subst (λ (one : Selector). one .time < timeLimit) (sym (right .state)) (sequence-below sequence) in
+    subst (λ (one : Selector). one .time < timeLimit) (sym is) (sequence-below sequence) in
     let told : sameAnswer (watch .answer) (answerOf accepted state) ≡ true =
-    (λ j. sameAnswer (right .answer j) (answerOf accepted (right .state j))) ∙
-    sameAnswer-itself (latestNumber sequence) accepted (stateAfter sequence) in
+    (λ j. sameAnswer (answer j) (answerOf accepted (is j))) ∙
+    sameAnswer-itself number accepted (stateAfter sequence) in
     rw (
       lt-ltb _ _ below,
       here,
       sameAmong-itself (state .inputs) 16,
       sameOnce-itself state,
-      lt-ltb _ _ (right .ahead),
-      le-leb _ _ (right .due),
+      lt-ltb _ _ ahead,
+      le-leb _ _ due,
       told,
     )
+
+sound-reached : (sequence : Sequence) → isSound (lentAfter sequence) ≡ 1
+sound-reached sequence =
+    let right = lent-right sequence in
+    sound-held sequence (lentAfter sequence) (latestNumber sequence) (right .state) (right .answer) (right .ahead)
+    (right .due)
 
 -- ---- a card that passes
 
