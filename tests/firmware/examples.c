@@ -2,6 +2,7 @@
  * Runs an example of the documents, which tests/firmware/examples has taken out into EXAMPLE, on a clock of its own: a source
  * that tells PRC once a second on input 3, then silence, then the source again. The example has on_start(), on_frame()
  * and on_timer(); what it calls of the firmware around it is below. With SENDS it sends heartbeats, and asks for its timer.
+ * With FIVE_LINES it has on_event() and clock_input() in place of on_timer(), and its settings are made here.
  */
 #include <stdio.h>
 #include <stdlib.h>
@@ -42,6 +43,17 @@ void clock_hold(void)
         held_at = now;
     followed = NURRISPANE_NO_INPUT;
 }
+
+#ifdef FIVE_LINES
+static void on_timer(uint64_t ms)
+{
+    on_event(ms, NURRISPANE_EVENT_TICK, 0, 0);
+    if (clock_input() == NURRISPANE_NO_INPUT)
+        clock_hold();
+    else
+        clock_follow(clock_input());
+}
+#endif
 
 #ifdef SENDS
 static uint64_t sent_at[NURRISPANE_INPUTS];
@@ -104,6 +116,11 @@ int main(void)
         return 2;
     frame[27] = (uint8_t)((frame[27] & 0xf0) | 2);
     on_start();
+#ifdef FIVE_LINES
+    on_event(0, NURRISPANE_EVENT_INPUT_KIND, INPUT, NURRISPANE_INPUT_ETHERNET);
+    on_event(0, NURRISPANE_EVENT_PRIORITY, INPUT, 1);
+    on_event(0, NURRISPANE_EVENT_SIGNAL, INPUT, NURRISPANE_SIGNAL_GOOD);
+#endif
     timer();
     run(GOOD_FOR, frame);
     expect(followed == INPUT, "a good source is not followed");

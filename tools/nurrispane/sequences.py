@@ -8,6 +8,7 @@ makes them."""
 
 import collections
 import hashlib
+import re
 
 from nurrispane import faults, jitter, words
 from nurrispane.files import ROOT, Trouble, read_text
@@ -269,20 +270,23 @@ def is_stale(table):
     return table.made_of != [digest()]
 
 
-# ---- the page on jitter
+# ---- the guide's table on jitter
+
+GUIDE = ROOT / "docs" / "LABORATORY.md"
+MARKED = re.compile(r"(<!-- the table, by sequences/make -->\n).*(<!-- end -->\n)", re.S)
 
 
-def jitter_page(table):
-    """docs/JITTER.md: how many logs of the set that is written by default find each known fault, the least and the most of
-    all seeds, for each amount of jitter."""
+def jitter_table(table):
+    """How many logs of the set that is written by default find each known fault, the least and the most of all seeds, for
+    each amount of jitter."""
     amounts = ["%d ms" % amount for amount in jitter.LEVELS]
-    yield "# What the set finds under jitter"
-    yield ""
-    yield "`sequences/make` makes this page. The set is what `./nurrispane bench DIR` writes, for a jitter of %d ms. A cell says how many of" % jitter.DEFAULT
-    yield "its logs find the fault: the least and the most of %d seeds. 0 at the least: with some seed no log finds it. docs/BENCH.md says" % jitter.SEEDS
-    yield "what jitter is, and why a fault of a millisecond is lost."
-    yield ""
     yield "| Known fault | %s |" % " | ".join(amounts)
     yield "|---|%s" % ("---|" * len(amounts))
     for fault, cells in table.under.items():
         yield "| %s | %s |" % (fault, " | ".join("%d" % least if least == most else "%d to %d" % (least, most) for least, most in cells))
+
+
+def guide(table):
+    """docs/LABORATORY.md with that table in it."""
+    made = "".join(line + "\n" for line in jitter_table(table))
+    return MARKED.sub(lambda found: found.group(1) + made + found.group(2), GUIDE.read_text())

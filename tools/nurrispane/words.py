@@ -1,4 +1,4 @@
-"""The words of an event log, both ways: docs/WORDS.md has the language.
+"""The words of an event log, both ways: docs/LABORATORY.md has the language.
 
 `logs` reads words, `log_in_words` writes them. Line N of what it writes is line N of the log.
 """

@@ -47,7 +47,7 @@ use Rattle.quickstep.specs.declared.Watch.{Watch}
 use Rattle.lentcard.specs.Lent.{namesOption, readFor}
 use Rattle.lentcard.specs.Sound.{isSound}
 use Rattle.lentcard.proofs.Range.{stepRead-readFor}
-use Rattle.lentcard.proofs.Calls.{names-neither}
+use Rattle.lentcard.proofs.Calls.{names-neither, lent-right}
 use Rattle.lentcard.proofs.Kept.{sound-held}
 use Rattle.lentunit.specs.Lent.{LentUnit, stationHalf, halfIn, numberOfTo, watchIn, squelchedIn, sourceIn, halfHeld, sentBy, unitIn, unitHeld, withNumbers, startLentUnit, steppedUnit, stepLentUnit}
 use Rattle.lentunit.specs.Calls.{calledUnit, unitLentAfter, halfLatestNumber, halfLatestBy, UnitStartRight, UnitLentRight, HalfLentRight, OutputLentRight, SameLent}
@@ -234,6 +234,7 @@ half-lent-right minimum half sequence =
           ap (λ (number : ℕ). answerBy number (ownPast half sequence)) (latest-by minimum half sequence);
       codes = ap outgoingCodes state ∙ told .outgoing;
       words = ap outgoingWords state ∙ told .words;
+      alone = state ∙ sym (lent-right (ownEvents half sequence) .state);
       next =
           subst (NextRight (recorded (ownEvents half sequence))) (sym (ap nextDue state))
           (next-right (ownEvents half sequence));

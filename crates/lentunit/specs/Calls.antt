@@ -25,6 +25,7 @@ use Rattle.unit.specs.Claims.{HalfRight, OneTime, RefusalsLeave, OutputRight}
 use Rattle.unit.specs.Kept.{freshUnit}
 use Rattle.lentcard.specs.Lent.{namesOption}
 use Rattle.lentcard.specs.Sound.{isSound}
+use Rattle.lentcard.specs.Calls.{lentAfter}
 use Rattle.lentunit.specs.Lent.{LentUnit, stationHalf, numberOfTo, watchIn, squelchedIn, sourceIn, unitIn, unitHeld, withNumbers, startLentUnit, stepLentUnit}
 
 -- a unit after a call
@@ -80,6 +81,9 @@ pub record HalfLentRight (minimum : Quality) (half : Half) (sequence : UnitSeque
       answerBy (halfLatestBy half sequence) (ownPast half sequence)
   pub codes : outgoingCodes (watchIn half (unitLentAfter minimum sequence) .state) ≡ codesBy (ownPast half sequence)
   pub words : outgoingWords (watchIn half (unitLentAfter minimum sequence) .state) ≡ wordsBy (ownPast half sequence)
+  -- it is the state of a card by itself after the half's own events: what is shown of the calls that only read a card
+  -- holds of either half
+  pub alone : watchIn half (unitLentAfter minimum sequence) .state ≡ lentAfter (ownEvents half sequence) .state
   -- document 02, L3: when something is next due of that half
   pub next : NextRight (recorded (ownEvents half sequence)) (nextDue (watchIn half (unitLentAfter minimum sequence) .state))
   -- a half that was kept is told to be sound

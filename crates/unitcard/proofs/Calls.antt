@@ -25,7 +25,7 @@ use Rattle.due.proofs.Jump.{nextDue-later}
 use Rattle.frame.specs.Read.{readCode}
 use Rattle.events.specs.Step.{step}
 use Rattle.events.specs.Sequence.{stateAfter}
-use Rattle.events.specs.Past.{pastOf, recorded}
+use Rattle.events.specs.Past.{recorded}
 use Rattle.events.specs.Told.{answerBy}
 use Rattle.events.specs.NextDue.{NextRight}
 use Rattle.events.proofs.Demand2.{demand-2-answers}
@@ -34,14 +34,14 @@ use Rattle.events.proofs.NextDue.{next-right}
 use Rattle.unit.specs.declared.Half.{Half}
 use Rattle.unit.specs.declared.Half.the-variants as H
 use Rattle.unit.specs.declared.Unit.{Unit}
-use Rattle.unit.specs.Unit.{Addressed, UnitSequence, Telling, isMinimum, unitStartNumber, goesTo, ownEvents, ownPast, outputBy}
+use Rattle.unit.specs.Unit.{Addressed, UnitSequence, Telling, Output, isMinimum, unitStartNumber, goesTo, ownEvents, ownPast}
 use Rattle.unit.specs.Kept.{halfStep, stepUnitRead, stepUnit, isSquelched, sourceOf}
-use Rattle.unit.specs.Sequence.{unitAfter, halfAfter, halfNumber, tellings}
+use Rattle.unit.specs.Sequence.{unitAfter, halfAfter, halfNumber, tellings, stationOutput}
 use Rattle.unit.specs.Claims.{otherHalf, DifferOnlyIn, SameOf}
-use Rattle.unit.proofs.Halves.{half-after, half-number-own, half-right}
+use Rattle.unit.proofs.Halves.{half-after, half-number-own, minimum-after, half-right}
 use Rattle.unit.proofs.Times.{one-time, refusals-leave}
 use Rattle.unit.proofs.Output.{squelched-by, source-by, output-right}
-use Rattle.unit.proofs.Runs.{independence}
+use Rattle.unit.proofs.Runs.{output-as, independence}
 use Rattle.card.specs.declared.Card.{Card}
 use Rattle.card.specs.Flat.{flatAnswer, selectorOf, cardOf}
 use Rattle.card.specs.Card.{namesOption, readFor, cardCodes, cardWords, cardDue}
@@ -308,20 +308,26 @@ same-cards minimum half one two same =
     record {
       card =
           half-card minimum half one ∙
-          (λ j. halfCard (number j) (stateAfter (same .events j))) ∙
+          (λ j. halfCard (number j) (own j)) ∙
           sym (half-card minimum half two);
       squelched = λ station.
-          output-card-right minimum one .squelched ∙
-          (λ j. flag (outputBy minimum (pastOf (stationed station j)) .squelched)) ∙
-          sym (output-card-right minimum two .squelched);
+          squelched-of minimum one ∙
+          ap (λ (output : Output). flag (output .squelched)) (sent station) ∙
+          sym (squelched-of minimum two);
       source = λ station.
-          output-card-right minimum one .source ∙
-          (λ j. outputBy minimum (pastOf (stationed station j)) .source) ∙
-          sym (output-card-right minimum two .source);
+          source-of minimum one ∙
+          ap (λ (output : Output). output .source) (sent station) ∙
+          sym (source-of minimum two);
     }
   where
-    stationed : half ≡ H.Station → ownEvents H.Station one ≡ ownEvents H.Station two
-    stationed station = subst (λ (part : Half). ownEvents part one ≡ ownEvents part two) station (same .events)
+    own : stateAfter (ownEvents half one) ≡ stateAfter (ownEvents half two)
+    own = sym (half-right minimum half one .state) ∙ same .state ∙ half-right minimum half two .state
+
+    sent : half ≡ H.Station → stationOutput (unitAfter minimum one) ≡ stationOutput (unitAfter minimum two)
+    sent station =
+        output-as (unitAfter minimum one) (unitAfter minimum two)
+        (subst (λ (part : Half). halfAfter minimum part one ≡ halfAfter minimum part two) station (same .state))
+        (minimum-after minimum one ∙ sym (minimum-after minimum two))
 
 -- INDEPENDENCE IN C'S HANDS: commands to one selector change nothing in the other's card, nor in the station's output
 -- where they are the equipment's.

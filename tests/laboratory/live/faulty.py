@@ -18,8 +18,13 @@ CALL = [os.environ.get("CC", "cc"), "-std=c11", "-D_GNU_SOURCE", "-O2", "-I", st
 Fields = collections.namedtuple("Fields", "name patch flags rule by")
 
 
-# The sequences of which it is known whether they show a fault; of others it is not said.
-LOOKED_AT = ("codes", "burst", "silence", "outputs", "forced-short", "equals", "floors", "wait")
+# The sequences of which it is known whether they show a fault, the short set; of others it is not said.
+LOOKED_AT = (ROOT / "sequences" / "wire" / "short.txt").read_text().split()
+OPTION_II = "option-2"
+# What a card of option II is started with: PROV just below STU, ports 2 and 3 of the first generation.
+PLACE, MARKS = "2", "0f0f"
+# The patch of a card that is built right and started otherwise, with its flags.
+NONE = "-"
 
 
 class Faulty(Fields):
@@ -30,6 +35,23 @@ class Faulty(Fields):
     def silent_in(self, names):
         """Those of some sequences that can't show it."""
         return [name for name in names if name in LOOKED_AT and name not in self.shown_by(names)]
+
+    def played(self):
+        """The sequences that it is played: the short set of its option, and what else has to show it."""
+        option = [name for name in LOOKED_AT if name.startswith(OPTION_II) == is_of_option_two(self.name)]
+        return [*option, *(name for name in self.by if name not in (*option, "all"))]
+
+
+def is_of_option_two(name):
+    return name.endswith(OPTION_II)
+
+
+def started(name):
+    """What a card of this name is started with."""
+    one = cards().get(name)
+    if one and one.patch == NONE:
+        return one.flags
+    return ["--option", "2", "--place", PLACE, "--marks", MARKS] if is_of_option_two(name) else []
 
 
 def cards():
@@ -47,7 +69,9 @@ def key(one):
 
 
 def build(one):
-    """The built program of a faulty card; livecard/build has made the libraries."""
+    """The built program of a faulty card, None for the right one; livecard/build has made the libraries."""
+    if one.patch == NONE:
+        return None
     program = BUILT / f"{one.name}-{key(one)}"
     if program.exists():
         return program

@@ -1,7 +1,7 @@
 """A log with marks, by the proved program: what is known of the sixteen inputs at each mark.
 
 A mark is the character ?; it may stand anywhere. The log without its marks is answered as `replay` does, and
-each mark with a line of twelve numbers for each input: docs/FACTS.md. `explain` puts them into words."""
+each mark with a line of twelve numbers for each input: docs/LABORATORY.md. `explain` puts them into words."""
 
 from nurrispane import profiles, programs
 from nurrispane.files import FINE

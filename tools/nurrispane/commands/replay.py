@@ -25,7 +25,7 @@ EXAMPLES = [
 def arguments(parser):
     parser.add_argument("log", nargs="?", help="an event log; - or nothing for standard input")
     profiles.argument(parser)
-    parser.add_argument("--words", action="store_true", help="answers in words: docs/WORDS.md")
+    parser.add_argument("--words", action="store_true", help="answers in words: docs/LABORATORY.md")
     parser.add_argument("--summary", action="store_true", help="how many lines were accepted and refused, on standard error")
     parser.add_argument("--out", metavar="FILE", help="write to FILE, whole or not at all")
 
