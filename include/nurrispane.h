@@ -194,20 +194,20 @@ extern "C" {
  * No call takes more stack than NURRISPANE_STACK, and each no more than is said of it, on any of the machines,
  * what it is handed and what its inline function takes included.
  */
-#define NURRISPANE_STACK                4096U
-#define NURRISPANE_STACK_SELF_TEST      4096U
-#define NURRISPANE_STACK_FRESH          4096U
-#define NURRISPANE_STACK_STEP           4096U
-#define NURRISPANE_STACK_TICK_PART      4096U
-#define NURRISPANE_STACK_NEXT_DUE       4096U
-#define NURRISPANE_STACK_IS_SOUND       4096U
-#define NURRISPANE_STACK_INPUT_STATUS   4096U
-#define NURRISPANE_STACK_OUTGOING_CODES 4096U
-#define NURRISPANE_STACK_OUTGOING_WORDS 4096U
-#define NURRISPANE_STACK_READ_FRAME     4096U
-#define NURRISPANE_STACK_WRITE_FRAME    4096U
-#define NURRISPANE_STACK_FRESH_SENDER   4096U
-#define NURRISPANE_STACK_ASK            4096U
+#define NURRISPANE_STACK                3328U
+#define NURRISPANE_STACK_SELF_TEST      3328U
+#define NURRISPANE_STACK_FRESH          512U
+#define NURRISPANE_STACK_STEP           1792U
+#define NURRISPANE_STACK_TICK_PART      1792U
+#define NURRISPANE_STACK_NEXT_DUE       512U
+#define NURRISPANE_STACK_IS_SOUND       1792U
+#define NURRISPANE_STACK_INPUT_STATUS   512U
+#define NURRISPANE_STACK_OUTGOING_CODES 768U
+#define NURRISPANE_STACK_OUTGOING_WORDS 512U
+#define NURRISPANE_STACK_READ_FRAME     512U
+#define NURRISPANE_STACK_WRITE_FRAME    768U
+#define NURRISPANE_STACK_FRESH_SENDER   256U
+#define NURRISPANE_STACK_ASK            768U
 
 /*
  * The profile, chosen once, with nurrispane_fresh(). Of option II the place of PROV, 0 for none and
