@@ -26,7 +26,7 @@ use Rattle.due.proofs.Jump.{nextDue-later}
 use Rattle.frame.specs.Read.{readCode}
 use Rattle.events.specs.Step.{step}
 use Rattle.events.specs.Sequence.{stateAfter}
-use Rattle.events.specs.Past.{pastOf, recorded}
+use Rattle.events.specs.Past.{recorded}
 use Rattle.events.specs.Told.{answerBy}
 use Rattle.events.specs.NextDue.{NextRight}
 use Rattle.events.proofs.Demand2.{demand-2-answers}
@@ -35,11 +35,11 @@ use Rattle.events.proofs.NextDue.{next-right}
 use Rattle.unit.specs.declared.Half.{Half}
 use Rattle.unit.specs.declared.Half.the-variants as H
 use Rattle.unit.specs.declared.Unit.{Unit}
-use Rattle.unit.specs.Unit.{Addressed, UnitSequence, Telling, isMinimum, unitStartNumber, goesTo, ownEvents, ownPast, outputBy}
+use Rattle.unit.specs.Unit.{Addressed, UnitSequence, Telling, isMinimum, unitStartNumber, goesTo, ownEvents, ownPast}
 use Rattle.unit.specs.Kept.{halfStep, stepUnitRead, stepUnit, isSquelched, sourceOf}
 use Rattle.unit.specs.Sequence.{unitAfter, halfAfter, halfNumber, tellings}
 use Rattle.unit.specs.Claims.{otherHalf, DifferOnlyIn, SameOf}
-use Rattle.unit.proofs.Halves.{half-after, half-number-own, half-right}
+use Rattle.unit.proofs.Halves.{half-after, half-number-own, minimum-after, half-right}
 use Rattle.unit.proofs.Times.{one-time, refusals-leave}
 use Rattle.unit.proofs.Output.{squelched-by, source-by, output-right}
 use Rattle.unit.proofs.Runs.{independence}
@@ -247,7 +247,7 @@ half-lent-right minimum half sequence =
 -- ---- the station output
 
 module _ (minimum : Quality) (sequence : UnitSequence) where
-  sent-of : unitLentAfter minimum sequence .sent
+  pub sent-of : unitLentAfter minimum sequence .sent
       ≡ sentBy (unitAfter minimum sequence .station) (unitAfter minimum sequence .minimum)
   unfolding unitHeld
   sent-of = ap (λ (lent : LentUnit). lent .sent) (after-whole minimum sequence)
@@ -282,12 +282,6 @@ unfolding tellings halfLatestNumber answerOf
 latest-told minimum half (started profile) = refl
 latest-told minimum half (addressed following earlier) = refl
 
--- the minimum stays what it was at the start
-minimum-stays : (minimum : Quality) (sequence : UnitSequence) → unitAfter minimum sequence .minimum ≡ minimum
-unfolding unitAfter stepUnit stepUnitRead
-minimum-stays minimum (started profile) = refl
-minimum-stays minimum (addressed following earlier) = minimum-stays minimum earlier
-
 same-lent : (minimum : Quality) (half : Half) (one two : UnitSequence) → SameOf minimum half one two
     → SameLent minimum half one two
 same-lent minimum half one two same =
@@ -298,22 +292,23 @@ same-lent minimum half one two same =
     record {
       watch =
           half-held minimum half one ∙
-          (λ j. halfHeld (number j) (stateAfter (same .events j))) ∙
+          (λ j. halfHeld (number j) (own-state j)) ∙
           sym (half-held minimum half two);
       sent = λ station.
-          by-events minimum one ∙
-          (λ j. sentBy (stateAfter (stationed station j)) minimum) ∙
-          sym (by-events minimum two);
+          sent-of minimum one ∙
+          (λ j. sentBy (stationed station j) (least j)) ∙
+          sym (sent-of minimum two);
     }
   where
-    stationed : half ≡ H.Station → ownEvents H.Station one ≡ ownEvents H.Station two
-    stationed station = subst (λ (part : Half). ownEvents part one ≡ ownEvents part two) station (same .events)
+    own-state : stateAfter (ownEvents half one) ≡ stateAfter (ownEvents half two)
+    own-state = sym (half-right minimum half one .state) ∙ same .state ∙ half-right minimum half two .state
 
-    by-events : (least : Quality) (sequence : UnitSequence)
-        → unitLentAfter least sequence .sent ≡ sentBy (stateAfter (ownEvents H.Station sequence)) least
-    by-events least sequence =
-        sent-of least sequence ∙
-        (λ j. sentBy (half-after least sequence H.Station j) (minimum-stays least sequence j))
+    stationed : half ≡ H.Station → halfAfter minimum H.Station one ≡ halfAfter minimum H.Station two
+    stationed station =
+        subst (λ (part : Half). halfAfter minimum part one ≡ halfAfter minimum part two) station (same .state)
+
+    least : unitAfter minimum one .minimum ≡ unitAfter minimum two .minimum
+    least = minimum-after minimum one ∙ sym (minimum-after minimum two)
 
 -- INDEPENDENCE IN C'S HANDS: commands to one selector change nothing of what is held of the other, nor in the station's
 -- output where they are the equipment's.
