@@ -71,3 +71,20 @@ pub record AskLent
   pub answered : answer ≡ heartbeatTold (lentAsked sender state port time source buffer .heartbeat)
   pub content : after
       ≡ contentBy (lentAsked sender state port time source buffer .heartbeat) (codeOfPort state port) source buffer
+
+-- the sender of a port after questions in a row, each with what the last question to its port left lent
+unfoldable pub portSender : ℕ → Questions → Sender
+portSender port [] = freshSender
+portSender port (question ∷ earlier) =
+    let sender = portSender port earlier in
+    cond (eqb (question .port) port)
+    (askedOne sender port (question .time) (codeAsked question) (question .source) (question .buffer) .sender)
+    sender
+
+-- questions in a row, to senders lent one by one, are the senders' own, so that all that is stated of these holds of what
+-- C holds; for a port above 15 any sender may be lent
+pub record SendersLentRight (earlier : Questions) (question : Question) (lent : Sender) : Type 0 where
+  pub sender : (port : ℕ) → port ≤ lastInput → portSender port earlier ≡ senderAt (sendersAfter earlier) port
+  pub heartbeat : (question .port ≤ lastInput → lent ≡ portSender (question .port) earlier)
+      → askedOne lent (question .port) (question .time) (codeAsked question) (question .source) (question .buffer) .heartbeat
+      ≡ heartbeatBy earlier question
