@@ -1,0 +1,82 @@
+// What is known of one input of a card: its raw and its passed quality, whether it is eligible,
+// when its timer and its frame end, and of its settings those that a choice looks at. Any card is
+// answered for, and any number of an input.
+use inplace::SMALL;
+use inplace::TIMES;
+use inplace::WORDS;
+use inplace::input_at;
+use inplace::mode_at;
+use inplace::profile_at;
+use inplace::time_at;
+use numbers::ACCEPTED;
+use numbers::INPUT_OUT_OF_RANGE;
+use numbers::InputNumber;
+use numbers::LAST_INPUT;
+use numbers::paper_number;
+use status::Status;
+use status::status_of;
+ghost use mathlib.Core.Path.{_≡_};
+ghost use Rattle.status.specs.Kept.{inputStatus};
+ghost use Rattle.inplace.specs.Lists.{selectorAt};
+ghost use Rattle.card.specs.Known.{endsKnown, inputKnown};
+
+// What is known of an input, of a fresh one where there is no such number.
+fn status_at(times: &[u64; TIMES], small: &[u8; SMALL], words: &[u16; WORDS], input: u8) -> Status
+    ensures { λ answer. ⌜ answer ≡ inputStatus
+        (selectorAt (now (times .entry)) (now (small .entry)) (now (words .entry))) input ⌝ }
+{
+    let profile = profile_at(small, words);
+    let mode = mode_at(small);
+    let time = time_at(times);
+    let one = input_at(times, small, words, InputNumber(input));
+    status_of(profile, one, mode, time)
+}
+
+// When its timer and its frame end; 0 where nothing is still to end, and where there is no such
+// input.
+pub fn ends_at(
+    times: &[u64; TIMES],
+    small: &[u8; SMALL],
+    words: &[u16; WORDS],
+    input: u8,
+) -> [u64; 2]
+    ensures { λ answer. ⌜ answer ≡ endsKnown
+        (selectorAt (now (times .entry)) (now (small .entry)) (now (words .entry))) input ⌝ }
+{
+    if LAST_INPUT < input {
+        return [0, 0];
+    }
+    let status = status_at(times, small, words, input);
+    [status.timer, status.frame]
+}
+
+// The number of the refusal or 0, raw and passed quality by their numbers on paper, whether it is
+// eligible and its signal good, priority, whether it is locked, and the floor in force.
+pub fn known_at(
+    times: &[u64; TIMES],
+    small: &[u8; SMALL],
+    words: &[u16; WORDS],
+    input: u8,
+) -> [u8; 8]
+    ensures { λ answer. ⌜ answer ≡ inputKnown
+        (selectorAt (now (times .entry)) (now (small .entry)) (now (words .entry))) input ⌝ }
+{
+    if LAST_INPUT < input {
+        return [INPUT_OUT_OF_RANGE, 0, 0, 0, 0, 0, 0, 0];
+    }
+    let profile = profile_at(small, words);
+    let status = status_at(times, small, words, input);
+    let priority = status.priority;
+    let raw = paper_number(profile, status.raw);
+    let passed = paper_number(profile, status.passed);
+    [
+        ACCEPTED,
+        raw,
+        passed,
+        status.eligible as u8,
+        status.signal as u8,
+        priority.0,
+        status.locked as u8,
+        status.floor,
+    ]
+}
