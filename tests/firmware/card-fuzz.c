@@ -1,8 +1,8 @@
 /*
  * Calls the library with anything: cards, senders, frames, lengths and numbers of chance, as include/nurrispane.h allows them. Everything
  * that is lent lies against a page that faults, before it or behind it by chance, with a pattern on the other side; what is lent by a
- * pointer to const lies in memory that can't be written; and the calls run on a stack of exactly NURRISPANE_STACK octets with a page that
- * faults under it. What the header promises of any card, and of a card that events led to, is looked at after each call.
+ * pointer to const lies in memory that can't be written; and each call runs on a stack of NURRISPANE_STACK octets, and OWN_STACK for the
+ * function that makes it, with a page that faults under it. What the header promises of any card, and of a card that events led to, is looked at after each call.
  *
  *   card-fuzz [ROUNDS [SEED]]    1,000,000 rounds and seed 1 unless told
  */
@@ -14,27 +14,25 @@
 #include <unistd.h>
 
 #include "nurrispane.h"
+#include "places.h"
 
 #define PAGE 65536 /* as large as any machine's here */
 #define PATTERN 0xc3
 #define LOOKED_AT 64
+#define OWN_STACK 256
 
 static unsigned long rounds = 1000000, checks, steps, numbers[18], served;
 static uint64_t seed = 88172645463325252u;
 static ucontext_t here, there;
-static const char *failed_text;
-static int failed_line;
 
 #define CHECK(fact) check(fact, #fact, __LINE__)
 
-/* The stack in use is too small to print on: the other one does. */
 static void check(int fact, const char *text, int line)
 {
     checks++;
     if (!fact) {
-        failed_text = text;
-        failed_line = line;
-        swapcontext(&there, &here);
+        printf("tests/firmware/card-fuzz.c:%d: not so: %s\n", line, text);
+        exit(1);
     }
 }
 
@@ -130,12 +128,12 @@ static struct nurrispane_card busy_card(void)
 
     fill(&made, sizeof made);
     for (unsigned i = 0; i < NURRISPANE_INPUTS; i++) {
-        made.inputs[i].framed = 1 + below(100000);
-        made.inputs[i].start = below(100000);
-        made.inputs[i].kind = (uint8_t)below(3);
+        made.times[AT_FRAMED + i] = 1 + below(100000);
+        made.times[AT_START + i] = below(100000);
+        made.small[AT_KIND + i] = (uint8_t)below(3);
     }
-    made.time = below(2) ? 0 : below(100000);
-    made.due = below(10);
+    made.times[AT_TIME] = below(2) ? 0 : below(100000);
+    made.due[0] = below(10);
     return made;
 }
 
@@ -150,8 +148,8 @@ static struct nurrispane_card any_card(void)
     if (below(2)) {
         fill(&made, sizeof made);
         if (below(2)) {
-            made.time >>= 24;
-            made.due = made.time + below(800);
+            made.times[AT_TIME] >>= 24;
+            made.due[0] = made.times[AT_TIME] + below(800);
         }
         return made;
     }
@@ -200,7 +198,7 @@ static struct call any_call(const struct nurrispane_card *to)
     struct call call;
 
     call.kind = (uint8_t)(below(3) == 0 ? NURRISPANE_EVENT_FRAME : below(50) ? below(19) : below(256));
-    call.time = any_time(to->time);
+    call.time = any_time(nurrispane_time(to));
     call.input = (uint8_t)(below(3) ? below(4) : below(30) ? below(16) : below(256));
     if (call.kind == NURRISPANE_EVENT_TICK || call.kind == NURRISPANE_EVENT_QUALITY_MODE || call.kind == NURRISPANE_EVENT_CLEAR_SWITCH)
         call.input = below(10) ? 0 : call.input;
@@ -208,6 +206,108 @@ static struct call any_call(const struct nurrispane_card *to)
     if (below(2) && (call.kind == NURRISPANE_EVENT_SIGNAL || call.kind == NURRISPANE_EVENT_WAIT || call.kind == NURRISPANE_EVENT_LOCKOUT))
         call.argument = 0; /* so that some inputs are eligible */
     return call;
+}
+
+/* ---- the stack */
+
+/* What the next call is made with. */
+static struct {
+    struct nurrispane_card *card;
+    const struct nurrispane_card *of;
+    struct nurrispane_senders *senders;
+    struct nurrispane_status *status;
+    struct nurrispane_codes *codes;
+    struct nurrispane_words *words;
+    struct nurrispane_frame *told;
+    const uint8_t *frame, *source;
+    uint8_t *buffer;
+    size_t frame_length, source_length, room;
+    uint64_t time, due;
+    uint32_t answer;
+    uint16_t argument;
+    uint8_t kind, input, option, place, event, most;
+} with;
+
+static void (*next_call)(void);
+
+static void make_step(void)
+{
+    nurrispane_step(with.card, with.kind, with.time, with.input, with.argument, with.frame, with.frame_length);
+}
+
+static void make_part(void)
+{
+    with.answer = nurrispane_tick_part(with.card, with.time, with.most);
+}
+
+static void make_fresh(void)
+{
+    nurrispane_fresh(with.card, with.option, with.place, with.argument);
+}
+
+static void make_due(void)
+{
+    with.due = nurrispane_next_due(with.of);
+}
+
+static void make_sound(void)
+{
+    with.answer = nurrispane_is_sound(with.of);
+}
+
+static void make_status(void)
+{
+    nurrispane_input_status(with.of, with.input, with.status);
+}
+
+static void make_codes(void)
+{
+    nurrispane_outgoing_codes(with.of, with.codes);
+}
+
+static void make_words(void)
+{
+    nurrispane_outgoing_words(with.of, with.words);
+}
+
+static void make_read(void)
+{
+    nurrispane_read_frame(with.frame, with.frame_length, with.told);
+}
+
+static void make_written(void)
+{
+    with.answer = nurrispane_write_frame(with.of, with.input, with.event, with.source, with.source_length, with.buffer, with.room);
+}
+
+static void make_ask(void)
+{
+    nurrispane_ask(with.senders, with.of, with.input, with.time, with.source, with.source_length, with.buffer, with.room);
+}
+
+static void make_fresh_senders(void)
+{
+    nurrispane_fresh_senders(with.senders);
+}
+
+static void make_self_test(void)
+{
+    with.answer = nurrispane_self_test();
+}
+
+/* Runs on the promised stack, and makes the calls one by one. */
+static void make_calls(void)
+{
+    for (;;) {
+        next_call();
+        swapcontext(&there, &here);
+    }
+}
+
+static void on_stack(void (*call)(void))
+{
+    next_call = call;
+    swapcontext(&here, &there);
 }
 
 /* ---- the calls */
@@ -219,13 +319,15 @@ static int is_input(unsigned number)
 
 static void check_answer(const struct nurrispane_card *after)
 {
-    CHECK(after->answer.number != 1 && after->answer.number < 18);
-    CHECK(is_input(after->answer.selected) && is_input(after->answer.switch_input));
-    CHECK(after->answer.clock_state < 3 && after->answer.switch_kind < 3 && after->served <= 48);
+    unsigned number = nurrispane_number(after);
+
+    CHECK(number != 1 && number < 18);
+    CHECK(is_input(nurrispane_selected(after)) && is_input(nurrispane_switch_input(after)));
+    CHECK(nurrispane_clock_state(after) < 3 && nurrispane_switch_kind(after) < 3 && nurrispane_served(after) <= 48);
     steps++;
-    numbers[after->answer.number]++;
-    if (after->served > served)
-        served = after->served;
+    numbers[number]++;
+    if (nurrispane_served(after) > served)
+        served = nurrispane_served(after);
 }
 
 /* A step on a card that events led to, which takes its place, or on any card. */
@@ -235,50 +337,85 @@ static void call_step(int led)
     struct call call = any_call(&before);
     size_t length = call.kind == NURRISPANE_EVENT_FRAME || below(8) == 0 ? any_frame() : 0;
     const uint8_t *frame = lay(&frame_at, octets, length);
-    struct nurrispane_card *lent = lay(&card_at, &before, sizeof before);
+    uint8_t number;
 
-    nurrispane_step(lent, call.kind, call.time, call.input, call.argument, length == 0 && below(2) ? NULL : frame, length);
+    with.card = lay(&card_at, &before, sizeof before);
+    with.kind = call.kind;
+    with.time = call.time;
+    with.input = call.input;
+    with.argument = call.argument;
+    with.frame = length == 0 && below(2) ? NULL : frame;
+    with.frame_length = length;
+    on_stack(make_step);
     check_beside(&card_at);
     check_beside(&frame_at);
     memcpy(&after, card_at.at, sizeof after);
     check_answer(&after);
     if (below(8) == 0) { /* the same again, elsewhere */
-        lent = lay(&twin_at, &before, sizeof before);
-        nurrispane_step(lent, call.kind, call.time, call.input, call.argument, frame, length);
+        with.card = lay(&twin_at, &before, sizeof before);
+        on_stack(make_step);
         CHECK(memcmp(twin_at.at, &after, sizeof after) == 0);
     }
     if (!led)
         return;
     card = after;
-    CHECK(after.option == before.option && after.place == before.place && after.marks == before.marks);
-    CHECK(after.selected == after.answer.selected && after.switch_input == after.answer.switch_input);
-    if (after.answer.number < 2 || after.answer.number > 13) {
-        CHECK(after.time == call.time);
+    number = nurrispane_number(&after);
+    CHECK(nurrispane_option(&after) == nurrispane_option(&before) && nurrispane_place(&after) == nurrispane_place(&before));
+    CHECK(nurrispane_marks(&after) == nurrispane_marks(&before) && after.version == NURRISPANE_VERSION);
+    CHECK(after.small[AT_SELECTED] == nurrispane_selected(&after) && after.small[AT_SWITCH_INPUT] == nurrispane_switch_input(&after));
+    if (number < 2 || number > 13) {
+        CHECK(nurrispane_time(&after) == call.time);
         return;
     }
-    before.answer.number = after.answer.number;
-    before.served = 0;
+    before.told[TOLD_NUMBER] = number;
+    before.told[TOLD_SERVED] = 0;
+    before.due[0] = after.due[0]; /* a bound, which may be made anew */
     CHECK(memcmp(&before, &after, sizeof after) == 0);
+}
+
+/* A part of a tick, on a card that events led to, which takes its place, or on any card. */
+static void call_part(int led)
+{
+    struct nurrispane_card before = led ? card : any_card(), after;
+
+    with.card = lay(&card_at, &before, sizeof before);
+    with.time = any_time(nurrispane_time(&before));
+    with.most = (uint8_t)below(below(4) ? 4 : 256);
+    on_stack(make_part);
+    check_beside(&card_at);
+    memcpy(&after, card_at.at, sizeof after);
+    CHECK(with.answer < 2 && nurrispane_served(&after) <= 48);
+    CHECK(nurrispane_number(&after) == NURRISPANE_ACCEPTED || nurrispane_number(&after) == NURRISPANE_REFUSED_TIME_TOO_LARGE ||
+          nurrispane_number(&after) == NURRISPANE_REFUSED_TIME_BEFORE_STATE);
+    CHECK(is_input(nurrispane_selected(&after)) && is_input(nurrispane_switch_input(&after)));
+    CHECK(nurrispane_clock_state(&after) < 3 && nurrispane_switch_kind(&after) < 3);
+    if (!led)
+        return;
+    card = after;
+    CHECK(nurrispane_served(&after) <= 1 && nurrispane_time(&after) >= nurrispane_time(&before));
 }
 
 /* A start, on any card; where it is accepted it is the card that further events lead on. */
 static void call_fresh(void)
 {
-    uint8_t option = (uint8_t)(below(8) ? 1 + below(2) : below(256)), place = (uint8_t)below(below(4) ? 9 : 256);
     struct nurrispane_card before = any_card(), after;
-    struct nurrispane_card *lent = lay(&card_at, &before, sizeof before);
 
-    nurrispane_fresh(lent, option, place, (uint16_t)random_number());
+    with.option = (uint8_t)(below(8) ? 1 + below(2) : below(256));
+    with.place = (uint8_t)below(below(4) ? 9 : 256);
+    with.argument = (uint16_t)random_number();
+    with.card = lay(&card_at, &before, sizeof before);
+    on_stack(make_fresh);
     check_beside(&card_at);
     memcpy(&after, card_at.at, sizeof after);
-    if (option == NURRISPANE_OPTION_1 || (option == NURRISPANE_OPTION_2 && place <= 8)) {
-        CHECK(after.answer.number == NURRISPANE_ACCEPTED && after.time == 0 && after.option == option);
+    if (with.option == NURRISPANE_OPTION_1 || (with.option == NURRISPANE_OPTION_2 && with.place <= 8)) {
+        CHECK(nurrispane_number(&after) == NURRISPANE_ACCEPTED && nurrispane_time(&after) == 0);
+        CHECK(nurrispane_option(&after) == with.option && after.version == NURRISPANE_VERSION);
         card = after;
         return;
     }
-    CHECK(after.answer.number == NURRISPANE_REFUSED_ARGUMENT_OUT_OF_RANGE && after.served == 0);
-    before.answer.number = after.answer.number;
-    before.served = 0;
+    CHECK(nurrispane_number(&after) == NURRISPANE_REFUSED_ARGUMENT_OUT_OF_RANGE && nurrispane_served(&after) == 0);
+    before.told[TOLD_NUMBER] = after.told[TOLD_NUMBER];
+    before.told[TOLD_SERVED] = 0;
     CHECK(memcmp(&before, &after, sizeof after) == 0);
 }
 
@@ -286,24 +423,27 @@ static void call_fresh(void)
 static void call_questions(int led)
 {
     struct nurrispane_card of = led ? card : any_card();
-    const struct nurrispane_card *lent = lay(&const_card_at, &of, sizeof of);
-    uint8_t input = (uint8_t)below(below(4) ? 16 : 256);
     struct nurrispane_status status;
-    uint64_t due = nurrispane_next_due(lent);
-    uint32_t sound = nurrispane_is_sound(lent);
 
+    with.of = lay(&const_card_at, &of, sizeof of);
+    with.input = (uint8_t)below(below(4) ? 16 : 256);
+    on_stack(make_due);
+    on_stack(make_sound);
     fill(&status, sizeof status);
-    nurrispane_input_status(lent, input, lay(&status_at, &status, sizeof status));
+    with.status = lay(&status_at, &status, sizeof status);
+    on_stack(make_status);
     memcpy(&status, status_at.at, sizeof status);
-    nurrispane_outgoing_codes(lent, lay(&codes_at, octets, sizeof(struct nurrispane_codes)));
-    nurrispane_outgoing_words(lent, lay(&words_at, octets, sizeof(struct nurrispane_words)));
+    with.codes = lay(&codes_at, octets, sizeof(struct nurrispane_codes));
+    on_stack(make_codes);
+    with.words = lay(&words_at, octets, sizeof(struct nurrispane_words));
+    on_stack(make_words);
     check_beside(&status_at);
     check_beside(&codes_at);
     check_beside(&words_at);
-    CHECK(sound < 2 && (!led || (sound == 1 && due > of.time)));
+    CHECK(with.answer < 2 && (!led || (with.answer == 1 && with.due > nurrispane_time(&of))));
     CHECK(status.eligible < 2 && status.signal < 2 && status.locked < 2);
-    CHECK(status.number == (input < NURRISPANE_INPUTS ? NURRISPANE_ACCEPTED : NURRISPANE_REFUSED_INPUT_OUT_OF_RANGE));
-    CHECK(input < NURRISPANE_INPUTS || (status.timer == 0 && status.raw == 0 && status.floor == 0));
+    CHECK(status.number == (with.input < NURRISPANE_INPUTS ? NURRISPANE_ACCEPTED : NURRISPANE_REFUSED_INPUT_OUT_OF_RANGE));
+    CHECK(with.input < NURRISPANE_INPUTS || (status.timer == 0 && status.raw == 0 && status.floor == 0));
     for (unsigned port = 0; port < NURRISPANE_INPUTS; port++)
         CHECK(((const struct nurrispane_codes *)(const void *)codes_at.at)->codes[port] < 16);
 }
@@ -314,7 +454,10 @@ static void call_read(void)
     const uint8_t *frame = lay(&frame_at, octets, length);
     struct nurrispane_frame told;
 
-    nurrispane_read_frame(length == 0 && below(2) ? NULL : frame, length, lay(&told_at, octets, sizeof told));
+    with.frame = length == 0 && below(2) ? NULL : frame;
+    with.frame_length = length;
+    with.told = lay(&told_at, octets, sizeof told);
+    on_stack(make_read);
     memcpy(&told, told_at.at, sizeof told);
     check_beside(&told_at);
     CHECK(told.number == 0 || (told.number >= 8 && told.number <= 13));
@@ -326,46 +469,51 @@ static void call_read(void)
 static void call_write(int asks, int led)
 {
     struct nurrispane_card of = led ? card : any_card();
-    size_t source_length = below(8) ? 6 : below(9), room = below(8) ? 60 + below(41) : below(60);
-    uint8_t port = (uint8_t)below(below(8) ? 16 : 256), kept[101];
-    const struct nurrispane_card *lent = lay(&const_card_at, &of, sizeof of);
-    const uint8_t *source;
-    uint8_t *buffer;
+    uint8_t kept[101];
     uint32_t number, written = 1;
 
+    with.source_length = below(8) ? 6 : below(9);
+    with.room = below(8) ? 60 + below(41) : below(60);
+    with.input = (uint8_t)below(below(8) ? 16 : 256);
+    with.event = (uint8_t)below(256);
     fill(kept, sizeof kept);
-    source = lay(&source_at, octets, source_length);
-    buffer = lay(&buffer_at, kept, room);
+    with.of = lay(&const_card_at, &of, sizeof of);
+    with.source = lay(&source_at, octets, with.source_length);
+    with.buffer = lay(&buffer_at, kept, with.room);
     if (asks) {
-        struct nurrispane_senders *asked = lay(&senders_at, &senders, sizeof senders);
-
-        nurrispane_ask(asked, lent, port, any_time(port < 16 ? senders.ports[port].asked : 0), source, source_length, buffer, room);
+        with.senders = lay(&senders_at, &senders, sizeof senders);
+        with.time = any_time(with.input < 16 ? senders.ports[with.input].times[10] : 0);
+        on_stack(make_ask);
         check_beside(&senders_at);
         memcpy(&senders, senders_at.at, sizeof senders);
         number = senders.number;
         written = senders.frame;
         CHECK(number < 20 && written < 3 && (number == 0 || written == 0));
     } else {
-        number = nurrispane_write_frame(lent, port, (uint8_t)below(256), source, source_length, buffer, room);
-        CHECK(number == (port > 15 ? 5U : source_length != 6 ? 19U : room < 60 ? 18U : 0U));
+        on_stack(make_written);
+        number = with.answer;
+        CHECK(number == (with.input > 15 ? 5U : with.source_length != 6 ? 19U : with.room < 60 ? 18U : 0U));
     }
     check_beside(&buffer_at);
     if (number != 0 || written == 0)
-        CHECK(memcmp(buffer_at.at, kept, room) == 0);
+        CHECK(memcmp(buffer_at.at, kept, with.room) == 0);
     else
-        CHECK(memcmp(buffer_at.at + 60, kept + 60, room - 60) == 0 && memcmp(buffer_at.at + 6, octets, 6) == 0);
+        CHECK(memcmp(buffer_at.at + 60, kept + 60, with.room - 60) == 0 && memcmp(buffer_at.at + 6, octets, 6) == 0);
 }
 
 static void fuzz_rounds(void)
 {
     nurrispane_fresh(&card, NURRISPANE_OPTION_1, 0, 0);
-    nurrispane_fresh_senders(lay(&senders_at, octets, sizeof senders));
+    with.senders = lay(&senders_at, octets, sizeof senders);
+    on_stack(make_fresh_senders);
     memcpy(&senders, senders_at.at, sizeof senders);
     for (unsigned long round = 0; round < rounds; round++) {
         unsigned which = below(16), led = below(4) != 0;
 
-        if (which < 10)
-            call_step(which < 9);
+        if (which < 9)
+            call_step(which < 8);
+        else if (which == 9)
+            call_part((int)led);
         else if (which < 12)
             call_questions((int)led);
         else if (which == 12)
@@ -374,9 +522,11 @@ static void fuzz_rounds(void)
             call_write(which == 13, (int)led);
         else if (below(20) == 0)
             call_fresh();
-        if (round % 20000 == 0)
-            CHECK(nurrispane_self_test() == 1);
-        if (card.time > UINT64_C(1) << 47)
+        if (round % 20000 == 0) {
+            on_stack(make_self_test);
+            CHECK(with.answer == 1);
+        }
+        if (nurrispane_time(&card) > UINT64_C(1) << 47)
             nurrispane_fresh(&card, (uint8_t)(1 + below(2)), (uint8_t)below(9), 5);
         if (below(5000) == 0) {
             fill(&senders, sizeof senders);
@@ -413,14 +563,10 @@ int main(int argc, char **argv)
         make_place(constant[i], 1);
     getcontext(&there);
     there.uc_stack.ss_sp = make_stack();
-    there.uc_stack.ss_size = NURRISPANE_STACK;
+    there.uc_stack.ss_size = NURRISPANE_STACK + OWN_STACK;
     there.uc_link = &here;
-    makecontext(&there, fuzz_rounds, 0);
-    swapcontext(&here, &there);
-    if (failed_text != NULL) {
-        printf("tests/firmware/card-fuzz.c:%d: not so: %s\n", failed_line, failed_text);
-        return 1;
-    }
+    makecontext(&there, make_calls, 0);
+    fuzz_rounds();
     for (int number = 2; number < 18; number++) {
         if (rounds >= 100000 && numbers[number] == 0) {
             printf("tests/firmware/card-fuzz.c: no step was refused with %d\n", number);

@@ -14,6 +14,7 @@
 #include <ucontext.h>
 
 #include "nurrispane.h"
+#include "places.h"
 
 #define RANDOM_EVENTS 100000
 #define RANDOM_CARDS 20000
@@ -66,29 +67,31 @@ static void check_fresh_of(uint8_t option, uint8_t place, uint16_t marks)
 
     memset(&card, 0xa5, sizeof card);
     nurrispane_fresh(&card, option, place, marks);
-    CHECK(card.option == (two ? NURRISPANE_OPTION_2 : NURRISPANE_OPTION_1));
-    CHECK(card.place == (two ? place : 0) && card.marks == (two ? marks : 0) && card.spare == 0);
+    CHECK(nurrispane_option(&card) == (two ? NURRISPANE_OPTION_2 : NURRISPANE_OPTION_1));
+    CHECK(nurrispane_place(&card) == (two ? place : 0) && nurrispane_marks(&card) == (two ? marks : 0));
+    CHECK(card.version == NURRISPANE_VERSION);
+    for (unsigned i = 0; i < sizeof card.spare; i++)
+        CHECK(card.spare[i] == 0);
     for (unsigned i = 0; i < NURRISPANE_INPUTS; i++) {
-        const struct nurrispane_input *input = &card.inputs[i];
-
-        CHECK(input->framed == 0 && input->start == 0);
-        CHECK(input->holdoff == 300 && input->wait == 5 && input->priority == 0);
-        CHECK(input->fixed == 0 && input->kind == NURRISPANE_INPUT_LINE && input->locked == 0);
-        CHECK(input->sending == 1 && input->frame == FAILED && input->line == FAILED);
-        CHECK(input->last == 0 && input->count == 0 && input->signal == 0);
-        CHECK(input->good == FAILED && input->failed == 1 && input->up == 0);
-        CHECK(input->floor == 0 && input->spare2 == 0 && input->spare4 == 0);
+        CHECK(card.times[AT_FRAMED + i] == 0 && card.times[AT_START + i] == 0);
+        CHECK(card.words[AT_HOLDOFF + i] == 300 && card.small[AT_WAIT + i] == 5 && card.small[AT_PRIORITY + i] == 0);
+        CHECK(card.small[AT_FIXED + i] == 0 && card.small[AT_KIND + i] == NURRISPANE_INPUT_LINE);
+        CHECK(card.small[AT_LOCKED + i] == 0 && card.small[AT_SENDING + i] == 1);
+        CHECK(card.small[AT_FRAME + i] == FAILED && card.small[AT_LINE + i] == FAILED);
+        CHECK(card.words[AT_LAST + i] == 0 && card.small[AT_COUNT + i] == 0 && card.small[AT_SIGNAL + i] == 0);
+        CHECK(card.small[AT_GOOD + i] == FAILED && card.small[AT_FAILED + i] == 1 && card.small[AT_UP + i] == 0);
+        CHECK(card.small[AT_FLOOR + i] == 0);
     }
-    CHECK(card.time == 0 && card.due == 300 && card.mode == 1 && card.held == 0);
-    CHECK(card.switch_kind == NURRISPANE_SWITCH_NONE);
-    CHECK(card.switch_input == NURRISPANE_NO_INPUT);
-    CHECK(card.selection == 0 && card.selected == NURRISPANE_NO_INPUT && card.served == 0);
-    CHECK(card.answer.number == NURRISPANE_ACCEPTED);
-    CHECK(card.answer.selected == NURRISPANE_NO_INPUT);
-    CHECK(card.answer.clock_state == NURRISPANE_FREE_RUN);
-    CHECK(card.answer.clock_quality == (two ? 6 : 4));
-    CHECK(card.answer.switch_kind == NURRISPANE_SWITCH_NONE);
-    CHECK(card.answer.switch_input == NURRISPANE_NO_INPUT);
+    CHECK(nurrispane_time(&card) == 0 && card.due[0] == 300 && card.small[AT_MODE] == 1 && card.small[AT_HELD] == 0);
+    CHECK(card.small[AT_SWITCH_KIND] == NURRISPANE_SWITCH_NONE);
+    CHECK(card.small[AT_SWITCH_INPUT] == NURRISPANE_NO_INPUT);
+    CHECK(card.small[AT_SELECTION] == 0 && card.small[AT_SELECTED] == NURRISPANE_NO_INPUT);
+    CHECK(nurrispane_number(&card) == NURRISPANE_ACCEPTED && nurrispane_served(&card) == 0);
+    CHECK(nurrispane_selected(&card) == NURRISPANE_NO_INPUT);
+    CHECK(nurrispane_clock_state(&card) == NURRISPANE_FREE_RUN);
+    CHECK(nurrispane_clock_quality(&card) == (two ? 6 : 4));
+    CHECK(nurrispane_switch_kind(&card) == NURRISPANE_SWITCH_NONE);
+    CHECK(nurrispane_switch_input(&card) == NURRISPANE_NO_INPUT);
 }
 
 /* An option that is neither, and option II with a place above 8, are refused, and of the card only its number and its count change. */
@@ -109,9 +112,9 @@ static void check_fresh(void)
                 ((uint8_t *)&card)[at] = (uint8_t)below(256);
             kept = card;
             nurrispane_fresh(&card, (uint8_t)option, (uint8_t)place, marks);
-            CHECK(card.answer.number == NURRISPANE_REFUSED_ARGUMENT_OUT_OF_RANGE && card.served == 0);
-            card.answer.number = kept.answer.number;
-            card.served = kept.served;
+            CHECK(nurrispane_number(&card) == NURRISPANE_REFUSED_ARGUMENT_OUT_OF_RANGE && nurrispane_served(&card) == 0);
+            card.told[TOLD_NUMBER] = kept.told[TOLD_NUMBER];
+            card.told[TOLD_SERVED] = kept.told[TOLD_SERVED];
             CHECK(same(&card, &kept));
         }
     }
@@ -174,7 +177,6 @@ static void check_fields(void)
 {
     static const uint8_t source[NURRISPANE_SOURCE_OCTETS] = {0x02, 0, 0, 0, 0, 1};
     uint8_t frame[NURRISPANE_FRAME_OCTETS];
-    const struct nurrispane_input *line = &card.inputs[3], *ethernet = &card.inputs[9];
     struct nurrispane_card other;
 
     card = fresh();
@@ -182,59 +184,59 @@ static void check_fields(void)
     event(NURRISPANE_EVENT_HOLDOFF, 20, 3, 1800);
     event(NURRISPANE_EVENT_WAIT, 30, 3, 12);
     event(NURRISPANE_EVENT_SENDING, 40, 3, 0);
-    CHECK(line->priority == 7 && line->holdoff == 1800 && line->wait == 12 && line->sending == 0);
+    CHECK(card.small[AT_PRIORITY + 3] == 7 && card.words[AT_HOLDOFF + 3] == 1800 && card.small[AT_WAIT + 3] == 12 && card.small[AT_SENDING + 3] == 0);
     event(NURRISPANE_EVENT_SIGNAL, 1000, 3, 0);
-    CHECK(line->signal == 1 && line->failed == 1 && line->start == 0);
+    CHECK(card.small[AT_SIGNAL + 3] == 1 && card.small[AT_FAILED + 3] == 1 && card.times[AT_START + 3] == 0);
     event(NURRISPANE_EVENT_LINE_CODE, 1100, 3, 4);
     event(NURRISPANE_EVENT_LINE_CODE, 1101, 3, 4);
-    CHECK(line->last == 4 && line->count == 2 && line->line == FAILED && line->good == FAILED);
+    CHECK(card.words[AT_LAST + 3] == 4 && card.small[AT_COUNT + 3] == 2 && card.small[AT_LINE + 3] == FAILED && card.small[AT_GOOD + 3] == FAILED);
     event(NURRISPANE_EVENT_LINE_CODE, 1102, 3, 4);
-    CHECK(line->last == 4 && line->count == 3 && line->line == 2 && line->good == 2);
-    CHECK(line->failed == 0 && line->up == 0 && line->start == 1102 && line->framed == 0);
+    CHECK(card.words[AT_LAST + 3] == 4 && card.small[AT_COUNT + 3] == 3 && card.small[AT_LINE + 3] == 2 && card.small[AT_GOOD + 3] == 2);
+    CHECK(card.small[AT_FAILED + 3] == 0 && card.small[AT_UP + 3] == 0 && card.times[AT_START + 3] == 1102 && card.times[AT_FRAMED + 3] == 0);
     event(NURRISPANE_EVENT_LINE_CODE, 1200, 3, 8);
-    CHECK(line->last == 8 && line->count == 1 && line->line == 2 && line->frame == FAILED);
+    CHECK(card.words[AT_LAST + 3] == 8 && card.small[AT_COUNT + 3] == 1 && card.small[AT_LINE + 3] == 2 && card.small[AT_FRAME + 3] == FAILED);
     event(NURRISPANE_EVENT_FIXED_QUALITY, 1300, 3, 3);
-    CHECK(line->fixed == 3 && line->good == 3 && line->locked == 0 && line->kind == 0);
+    CHECK(card.small[AT_FIXED + 3] == 3 && card.small[AT_GOOD + 3] == 3 && card.small[AT_LOCKED + 3] == 0 && card.small[AT_KIND + 3] == 0);
     event(NURRISPANE_EVENT_LOCKOUT, 1400, 3, 1);
-    CHECK(line->locked == 1);
+    CHECK(card.small[AT_LOCKED + 3] == 1);
     event(NURRISPANE_EVENT_LOCKOUT, 1500, 3, 0);
     event(NURRISPANE_EVENT_FLOOR, 1600, 3, 2);
-    CHECK(line->floor == 2 && line->fixed == 3 && line->good == 3 && line->priority == 7);
+    CHECK(card.small[AT_FLOOR + 3] == 2 && card.small[AT_FIXED + 3] == 3 && card.small[AT_GOOD + 3] == 3 && card.small[AT_PRIORITY + 3] == 7);
     event(NURRISPANE_EVENT_FLOOR, 1700, 3, 4);
 
     event(NURRISPANE_EVENT_INPUT_KIND, 2000, 9, 1);
     event(NURRISPANE_EVENT_SIGNAL, 2100, 9, 0);
     event(NURRISPANE_EVENT_PRIORITY, 2200, 9, 2);
-    CHECK(ethernet->kind == NURRISPANE_INPUT_ETHERNET && ethernet->signal == 1 && ethernet->priority == 2);
+    CHECK(card.small[AT_KIND + 9] == NURRISPANE_INPUT_ETHERNET && card.small[AT_SIGNAL + 9] == 1 && card.small[AT_PRIORITY + 9] == 2);
     /* a fresh card tells SEC: the frame says 4 */
     other = fresh();
     CHECK(nurrispane_write_frame(&other, 0, 1, source, sizeof source, frame, sizeof frame) ==
           NURRISPANE_ACCEPTED);
     nurrispane_step(&card, NURRISPANE_EVENT_FRAME, 2345, 9, 0, frame, sizeof frame);
-    CHECK(card.answer.number == NURRISPANE_ACCEPTED);
-    CHECK(ethernet->framed == 2345 && ethernet->start == 2345 && ethernet->frame == 4);
-    CHECK(ethernet->line == FAILED && ethernet->good == 4 && ethernet->up == 0);
+    CHECK(nurrispane_number(&card) == NURRISPANE_ACCEPTED);
+    CHECK(card.times[AT_FRAMED + 9] == 2345 && card.times[AT_START + 9] == 2345 && card.small[AT_FRAME + 9] == 4);
+    CHECK(card.small[AT_LINE + 9] == FAILED && card.small[AT_GOOD + 9] == 4 && card.small[AT_UP + 9] == 0);
     event(NURRISPANE_EVENT_CLEAR_WAIT, 2400, 9, 0);
-    CHECK(ethernet->up == 1 && ethernet->failed == 0 && ethernet->start == 2345);
-    CHECK(card.time == 2400 && card.selection == 1 && card.selected == 9 && card.held == 1);
-    CHECK(card.answer.selected == 9 && card.answer.clock_state == NURRISPANE_LOCKED);
-    CHECK(card.answer.clock_quality == 4 && card.switch_kind == NURRISPANE_SWITCH_NONE);
+    CHECK(card.small[AT_UP + 9] == 1 && card.small[AT_FAILED + 9] == 0 && card.times[AT_START + 9] == 2345);
+    CHECK(nurrispane_time(&card) == 2400 && card.small[AT_SELECTION] == 1 && card.small[AT_SELECTED] == 9 && card.small[AT_HELD] == 1);
+    CHECK(nurrispane_selected(&card) == 9 && nurrispane_clock_state(&card) == NURRISPANE_LOCKED);
+    CHECK(nurrispane_clock_quality(&card) == 4 && card.small[AT_SWITCH_KIND] == NURRISPANE_SWITCH_NONE);
 
     event(NURRISPANE_EVENT_MANUAL, 2500, 9, 0);
-    CHECK(card.switch_kind == NURRISPANE_SWITCH_MANUAL && card.switch_input == 9);
-    CHECK(card.answer.switch_kind == NURRISPANE_SWITCH_MANUAL && card.answer.switch_input == 9);
+    CHECK(card.small[AT_SWITCH_KIND] == NURRISPANE_SWITCH_MANUAL && card.small[AT_SWITCH_INPUT] == 9);
+    CHECK(nurrispane_switch_kind(&card) == NURRISPANE_SWITCH_MANUAL && nurrispane_switch_input(&card) == 9);
     event(NURRISPANE_EVENT_FORCED, 2600, 3, 0);
-    CHECK(card.switch_kind == NURRISPANE_SWITCH_FORCED && card.switch_input == 3);
-    CHECK(card.selected == 3 && card.answer.selected == 3);
-    CHECK(card.answer.clock_state == NURRISPANE_HOLDOVER && card.mode == 1);
+    CHECK(card.small[AT_SWITCH_KIND] == NURRISPANE_SWITCH_FORCED && card.small[AT_SWITCH_INPUT] == 3);
+    CHECK(card.small[AT_SELECTED] == 3 && nurrispane_selected(&card) == 3);
+    CHECK(nurrispane_clock_state(&card) == NURRISPANE_HOLDOVER && card.small[AT_MODE] == 1);
     event(NURRISPANE_EVENT_QUALITY_MODE, 2700, 0, 0);
-    CHECK(card.mode == 0 && card.answer.clock_quality == 0 && card.time == 2700);
+    CHECK(card.small[AT_MODE] == 0 && nurrispane_clock_quality(&card) == 0 && nurrispane_time(&card) == 2700);
     event(NURRISPANE_EVENT_TICK, 2699, 0, 0);
-    CHECK(card.answer.number == NURRISPANE_REFUSED_TIME_BEFORE_STATE && card.time == 2700);
-    CHECK(card.answer.selected == 3 && card.answer.switch_input == 3);
+    CHECK(nurrispane_number(&card) == NURRISPANE_REFUSED_TIME_BEFORE_STATE && nurrispane_time(&card) == 2700);
+    CHECK(nurrispane_selected(&card) == 3 && nurrispane_switch_input(&card) == 3);
     event(NURRISPANE_EVENT_PRIORITY, 2800, 3, 0);
     event(NURRISPANE_EVENT_PRIORITY, 2900, 9, 0);
-    CHECK(card.selection == 0 && card.selected == NURRISPANE_NO_INPUT && card.held == 1);
+    CHECK(card.small[AT_SELECTION] == 0 && card.small[AT_SELECTED] == NURRISPANE_NO_INPUT && card.small[AT_HELD] == 1);
 }
 
 /* ---- what is known of an input */
@@ -309,7 +311,7 @@ static void check_known(uint8_t option, uint8_t told, uint8_t invalid, uint8_t f
 /* On paper invalid and failed are 6 and 7 in option I. */
 static uint8_t on_paper(uint8_t quality)
 {
-    if (card.option == NURRISPANE_OPTION_1 && quality >= INVALID)
+    if (nurrispane_option(&card) == NURRISPANE_OPTION_1 && quality >= INVALID)
         return (uint8_t)(quality - INVALID + 6);
     return quality;
 }
@@ -320,22 +322,21 @@ static void check_statuses(void)
     int eligible = 0;
 
     for (uint8_t i = 0; i < NURRISPANE_INPUTS; i++) {
-        const struct nurrispane_input *input = &card.inputs[i];
-        uint64_t timer = input->start + (input->failed ? input->holdoff : (uint64_t)input->wait * 60000);
-        uint64_t frame = input->frame == FAILED ? 0 : input->framed + 5000;
+        uint64_t timer = card.times[AT_START + i] + (card.small[AT_FAILED + i] ? card.words[AT_HOLDOFF + i] : (uint64_t)card.small[AT_WAIT + i] * 60000);
+        uint64_t frame = card.small[AT_FRAME + i] == FAILED ? 0 : card.times[AT_FRAMED + i] + 5000;
         struct nurrispane_status status = status_of(&card, i);
 
-        CHECK(is_known(i, on_paper(input->failed ? FAILED : input->good), on_paper(input->up ? input->good : FAILED),
-                       status.eligible, timer > card.time ? timer : 0, frame > card.time ? frame : 0));
-        CHECK(status.signal == input->signal && status.priority == input->priority && status.locked == input->locked);
-        CHECK(status.floor == (input->floor ? input->floor : card.option == NURRISPANE_OPTION_1 ? 4 : 6));
+        CHECK(is_known(i, on_paper(card.small[AT_FAILED + i] ? FAILED : card.small[AT_GOOD + i]), on_paper(card.small[AT_UP + i] ? card.small[AT_GOOD + i] : FAILED),
+                       status.eligible, timer > nurrispane_time(&card) ? timer : 0, frame > nurrispane_time(&card) ? frame : 0));
+        CHECK(status.signal == card.small[AT_SIGNAL + i] && status.priority == card.small[AT_PRIORITY + i] && status.locked == card.small[AT_LOCKED + i]);
+        CHECK(status.floor == (card.small[AT_FLOOR + i] ? card.small[AT_FLOOR + i] : nurrispane_option(&card) == NURRISPANE_OPTION_1 ? 4 : 6));
         CHECK(status.eligible < 2 && (!status.eligible || (status.priority && !status.locked)));
         CHECK(!status.eligible || status.passed != on_paper(FAILED));
         eligible |= status.eligible;
     }
-    if (card.answer.switch_kind == NURRISPANE_SWITCH_NONE) {
-        CHECK(eligible == (card.answer.selected != NURRISPANE_NO_INPUT));
-        CHECK(!eligible || status_of(&card, card.answer.selected).eligible);
+    if (nurrispane_switch_kind(&card) == NURRISPANE_SWITCH_NONE) {
+        CHECK(eligible == (nurrispane_selected(&card) != NURRISPANE_NO_INPUT));
+        CHECK(!eligible || status_of(&card, nurrispane_selected(&card)).eligible);
     }
 }
 
@@ -351,7 +352,6 @@ static void check_words(void)
 {
     for (uint8_t place = 0; place <= 8; place++) {
         for (uint8_t quality = 1; quality <= 10; quality++) {
-            const struct nurrispane_input *input = &card.inputs[5];
             int usable = quality == 9 ? place > 0 && place < 8 : quality <= 8;
             int marked = quality == 4 || quality == 5;
             struct nurrispane_words words;
@@ -359,11 +359,11 @@ static void check_words(void)
 
             nurrispane_fresh(&card, NURRISPANE_OPTION_2, place, 0x0006);
             event(NURRISPANE_EVENT_WORD, 1, 5, word_of[quality]);
-            CHECK(card.answer.number == NURRISPANE_REFUSED_WRONG_INPUT_KIND);
+            CHECK(nurrispane_number(&card) == NURRISPANE_REFUSED_WRONG_INPUT_KIND);
             event(NURRISPANE_EVENT_INPUT_KIND, 2, 5, NURRISPANE_INPUT_WORDS);
-            CHECK(input->kind == NURRISPANE_INPUT_WORDS);
+            CHECK(card.small[AT_KIND + 5] == NURRISPANE_INPUT_WORDS);
             event(NURRISPANE_EVENT_LINE_CODE, 3, 5, 1);
-            CHECK(card.answer.number == NURRISPANE_REFUSED_WRONG_INPUT_KIND);
+            CHECK(nurrispane_number(&card) == NURRISPANE_REFUSED_WRONG_INPUT_KIND);
             event(NURRISPANE_EVENT_PRIORITY, 4, 5, 1);
             event(NURRISPANE_EVENT_FLOOR, 5, 5, 8);
             event(NURRISPANE_EVENT_WAIT, 6, 5, 0);
@@ -371,11 +371,11 @@ static void check_words(void)
             event(NURRISPANE_EVENT_SENDING, 8, 7, 0);
             event(NURRISPANE_EVENT_WORD, 10, 5, word_of[quality]);
             event(NURRISPANE_EVENT_WORD, 11, 5, word_of[quality]);
-            CHECK(input->last == word_of[quality] && input->count == 2 && input->line == FAILED);
+            CHECK(card.words[AT_LAST + 5] == word_of[quality] && card.small[AT_COUNT + 5] == 2 && card.small[AT_LINE + 5] == FAILED);
             event(NURRISPANE_EVENT_WORD, 12, 5, word_of[quality]);
-            CHECK(input->line == quality && input->good == quality && input->count == 3);
-            CHECK(card.answer.selected == (usable ? 5 : NURRISPANE_NO_INPUT));
-            CHECK(card.answer.clock_quality == (usable ? quality : 6));
+            CHECK(card.small[AT_LINE + 5] == quality && card.small[AT_GOOD + 5] == quality && card.small[AT_COUNT + 5] == 3);
+            CHECK(nurrispane_selected(&card) == (usable ? 5 : NURRISPANE_NO_INPUT));
+            CHECK(nurrispane_clock_quality(&card) == (usable ? quality : 6));
             words = outgoing_words(&card);
             codes = outgoing_codes(&card);
             for (unsigned port = 0; port < NURRISPANE_INPUTS; port++) {
@@ -403,12 +403,12 @@ static void check_words(void)
     event(NURRISPANE_EVENT_SIGNAL, 2, 5, 0);
     for (int i = 0; i < 3; i++)
         event(NURRISPANE_EVENT_WORD, 3, 5, 0x1234);
-    CHECK(card.inputs[5].line == INVALID && card.inputs[5].last == 0x1234);
+    CHECK(card.small[AT_LINE + 5] == INVALID && card.words[AT_LAST + 5] == 0x1234);
     card = fresh();
     event(NURRISPANE_EVENT_INPUT_KIND, 1, 5, NURRISPANE_INPUT_WORDS);
-    CHECK(card.answer.number == NURRISPANE_REFUSED_ARGUMENT_OUT_OF_RANGE);
+    CHECK(nurrispane_number(&card) == NURRISPANE_REFUSED_ARGUMENT_OUT_OF_RANGE);
     event(NURRISPANE_EVENT_WORD, 2, 5, 0x04ff);
-    CHECK(card.answer.number == NURRISPANE_REFUSED_KIND_UNKNOWN);
+    CHECK(nurrispane_number(&card) == NURRISPANE_REFUSED_KIND_UNKNOWN);
 }
 
 /* ---- what a frame says */
@@ -535,7 +535,7 @@ static struct call any_call(const struct nurrispane_card *from)
     call.kind = (uint8_t)(below(50) ? below(19) : below(256));
     call.input = (uint8_t)(below(20) ? below(4) : below(256));
     call.argument = arguments[below(sizeof arguments / sizeof *arguments)];
-    call.time = from->time + (below(30) ? below(400) : below(400000));
+    call.time = nurrispane_time(from) + (below(30) ? below(400) : below(400000));
     if (below(40) == 0)
         call.time = random_number() >> below(64);
     if (below(8) == 0 && call.kind >= 0x0c)
@@ -570,22 +570,70 @@ static void check_due(uint64_t due)
     struct nurrispane_words words = outgoing_words(&card), said;
     uint64_t most = due < (uint64_t)1 << 48 ? due - 1 : ((uint64_t)1 << 48) - 1;
 
-    CHECK(due > card.time);
+    CHECK(due > nurrispane_time(&card));
     nurrispane_step(&early, NURRISPANE_EVENT_TICK, most, 0, 0, NURRISPANE_NO_FRAME, 0);
     then = outgoing_codes(&early);
-    CHECK(early.answer.number == NURRISPANE_ACCEPTED && early.served == 0);
-    CHECK(memcmp(&early.answer.selected, &card.answer.selected, 5) == 0);
+    CHECK(nurrispane_number(&early) == NURRISPANE_ACCEPTED && nurrispane_served(&early) == 0);
+    CHECK(memcmp(early.told + TOLD_SELECTED, card.told + TOLD_SELECTED, 5) == 0);
     said = outgoing_words(&early);
     CHECK(memcmp(&codes, &then, sizeof codes) == 0 && memcmp(&words, &said, sizeof words) == 0);
-    early.time = card.time;
-    early.due = card.due;
-    early.answer = card.answer;
-    early.served = card.served;
+    early.times[AT_TIME] = nurrispane_time(&card);
+    early.due[0] = card.due[0];
+    memcpy(early.told, card.told, sizeof early.told);
     CHECK(same(&early, &card));
     if (due >> 48)
         return;
     nurrispane_step(&there, NURRISPANE_EVENT_TICK, due, 0, 0, NURRISPANE_NO_FRAME, 0);
-    CHECK(there.answer.number == NURRISPANE_ACCEPTED && there.served == 1);
+    CHECK(nurrispane_number(&there) == NURRISPANE_ACCEPTED && nurrispane_served(&there) == 1);
+}
+
+static int is_sound(struct nurrispane_card kept)
+{
+    struct nurrispane_card lent = kept;
+    uint32_t sound = nurrispane_is_sound(&lent);
+
+    CHECK(sound < 2 && same(&lent, &kept));
+    return sound == 1;
+}
+
+/* What is due up to a time, in portions: they end where one tick does, and an event then finds nothing due. */
+static void check_parts(uint64_t due)
+{
+    struct nurrispane_card once = card, parts = card, kept = card;
+    uint64_t time = due >> 48 == 0 && below(4) ? due + below(2000) : nurrispane_time(&card) + below(400000);
+    uint8_t most = (uint8_t)below(6);
+    unsigned portion = most ? most : 1, calls = 0;
+
+    if (time >> 48)
+        return;
+    nurrispane_step(&once, NURRISPANE_EVENT_TICK, time, 0, 0, NURRISPANE_NO_FRAME, 0);
+    for (uint32_t more = 1; more; calls++) {
+        unsigned left = nurrispane_served(&once) > calls * portion ? nurrispane_served(&once) - calls * portion : 0;
+
+        more = nurrispane_tick_part(&parts, time, most);
+        CHECK(more == (left > portion) && nurrispane_number(&parts) == NURRISPANE_ACCEPTED);
+        CHECK(nurrispane_served(&parts) == more && is_sound(parts));
+        CHECK(more ? nurrispane_next_due(&parts) <= time : nurrispane_time(&parts) == time);
+        /* as many ticks at what is next due, one by one */
+        for (unsigned i = 0; i < portion && i < left; i++)
+            nurrispane_step(&kept, NURRISPANE_EVENT_TICK, nurrispane_next_due(&kept), 0, 0, NURRISPANE_NO_FRAME, 0);
+        if (!more)
+            nurrispane_step(&kept, NURRISPANE_EVENT_TICK, time, 0, 0, NURRISPANE_NO_FRAME, 0);
+        CHECK(same(&parts, &kept));
+    }
+    CHECK(nurrispane_next_due(&parts) == nurrispane_next_due(&once));
+    parts.told[TOLD_SERVED] = once.told[TOLD_SERVED];
+    CHECK(parts.due[0] > time && parts.due[0] <= nurrispane_next_due(&parts));
+    parts.due[0] = once.due[0]; /* a bound, that may be nearer or farther */
+    CHECK(same(&parts, &once));
+
+    /* a time that is refused serves nothing */
+    parts = kept = once;
+    time = below(2) || time == 0 ? random_number() | (uint64_t)1 << (48 + below(16)) : random_number() % time;
+    CHECK(nurrispane_tick_part(&parts, time, most) == 0);
+    CHECK(nurrispane_number(&parts) == (time >> 48 ? NURRISPANE_REFUSED_TIME_TOO_LARGE : NURRISPANE_REFUSED_TIME_BEFORE_STATE));
+    nurrispane_step(&kept, NURRISPANE_EVENT_TICK, time, 0, 0, NURRISPANE_NO_FRAME, 0);
+    CHECK(same(&parts, &kept) && is_sound(parts));
 }
 
 /* A fresh card of any profile with two inputs that are eligible, the first of lower quality. */
@@ -598,16 +646,7 @@ static void begin(void)
         event(NURRISPANE_EVENT_FIXED_QUALITY, 0, input, (uint16_t)(1 + input));
         event(NURRISPANE_EVENT_SIGNAL, 0, input, 0);
     }
-    CHECK(card.answer.selected == 0 && card.answer.clock_quality == 1);
-}
-
-static int is_sound(struct nurrispane_card kept)
-{
-    struct nurrispane_card lent = kept;
-    uint32_t sound = nurrispane_is_sound(&lent);
-
-    CHECK(sound < 2 && same(&lent, &kept));
-    return sound == 1;
+    CHECK(nurrispane_selected(&card) == 0 && nurrispane_clock_quality(&card) == 1);
 }
 
 /* A copy of the card with one number in it that no start and no events lead to. */
@@ -625,54 +664,42 @@ static void check_sound(void)
 {
     struct nurrispane_card other = card, there = card;
     uint64_t due = nurrispane_next_due(&card);
-    unsigned at = below(NURRISPANE_INPUTS);
 
     CHECK(is_sound(card));
-    other.answer.number = (uint8_t)below(256);
-    other.served = (uint32_t)random_number();
+    other.told[TOLD_NUMBER] = (uint8_t)below(256);
+    other.told[TOLD_SERVED] = (uint8_t)below(256);
     CHECK(is_sound(other));
     /* at a later time: just where what was due till then changes nothing */
     if (due >> 48 == 0) {
         nurrispane_step(&there, NURRISPANE_EVENT_TICK, due, 0, 0, NURRISPANE_NO_FRAME, 0);
         other = card;
-        other.time = due;
-        other.due = there.due;
-        other.answer.number = there.answer.number;
-        other.served = there.served;
+        other.times[AT_TIME] = due;
+        other.due[0] = there.due[0];
+        other.told[TOLD_NUMBER] = there.told[TOLD_NUMBER];
+        other.told[TOLD_SERVED] = there.told[TOLD_SERVED];
         later[is_sound(other)]++;
         CHECK(is_sound(other) == same(&other, &there));
     }
-    UNSOUND(time, (uint64_t)1 << 48);
-    UNSOUND(time, UINT64_MAX);
-    UNSOUND(due, card.time);
+    UNSOUND(times[AT_TIME], (uint64_t)1 << 48);
+    UNSOUND(times[AT_TIME], UINT64_MAX);
+    UNSOUND(due[0], nurrispane_time(&card));
     if (due != NURRISPANE_NEVER)
-        UNSOUND(due, due + 1);
-    UNSOUND(mode, 2);
-    UNSOUND(held, 255);
-    UNSOUND(switch_kind, 3);
-    UNSOUND(switch_input, 16);
-    UNSOUND(selection, 2);
-    UNSOUND(selected, 17);
-    UNSOUND(option, 0);
-    UNSOUND(option, 3);
-    UNSOUND(spare, 1);
-    UNSOUND(answer.selected, card.answer.selected ^ 1);
-    UNSOUND(answer.clock_state, 3);
-    UNSOUND(answer.clock_quality, (uint8_t)(card.answer.clock_quality + 1));
-    UNSOUND(answer.switch_kind, 3);
-    UNSOUND(answer.switch_input, 16);
-    UNSOUND(inputs[at].kind, 3);
-    UNSOUND(inputs[at].locked, 2);
-    UNSOUND(inputs[at].sending, 2);
-    UNSOUND(inputs[at].signal, 2);
-    UNSOUND(inputs[at].failed, 2);
-    UNSOUND(inputs[at].up, 2);
-    UNSOUND(inputs[at].spare2, 1);
-    UNSOUND(inputs[at].spare4, 1);
-    if (card.option == NURRISPANE_OPTION_1) {
-        UNSOUND(place, 1);
-        UNSOUND(marks, 0x8000);
-    }
+        UNSOUND(due[0], due + 1);
+    UNSOUND(told[TOLD_SELECTED], nurrispane_selected(&card) ^ 1);
+    UNSOUND(told[TOLD_STATE], 3);
+    UNSOUND(told[TOLD_QUALITY], (uint8_t)(nurrispane_clock_quality(&card) + 1));
+    UNSOUND(told[TOLD_SWITCH_KIND], 3);
+    UNSOUND(told[TOLD_SWITCH_INPUT], 16);
+    UNSOUND(version, NURRISPANE_VERSION - 1);
+    UNSOUND(version, (uint8_t)(NURRISPANE_VERSION + 1 + below(200)));
+    UNSOUND(spare[below(sizeof card.spare)], (uint8_t)(1 + below(255)));
+    /* a switch or a selection that is none: just where there was one */
+    other = card;
+    other.small[AT_SWITCH_KIND] = 3;
+    CHECK(is_sound(other) == (nurrispane_switch_kind(&card) == NURRISPANE_SWITCH_NONE));
+    other = card;
+    other.small[AT_SELECTED] = 17;
+    CHECK(is_sound(other) == (nurrispane_selected(&card) == NURRISPANE_NO_INPUT));
 }
 
 static void check_events(void)
@@ -685,38 +712,43 @@ static void check_events(void)
         struct nurrispane_card before = card;
         uint64_t due = nurrispane_next_due(&card);
         struct nurrispane_card plain = card;
+        uint8_t number;
 
         check_due(due);
         if (i % 10 == 0)
             check_sound();
+        if (i % 10 == 5)
+            check_parts(due);
         card = stepped(card, &call);
-        CHECK(is_sound(card) && card.due > card.time && card.due <= nurrispane_next_due(&card));
+        CHECK(is_sound(card) && card.due[0] > nurrispane_time(&card) && card.due[0] <= nurrispane_next_due(&card));
         /* where it is not known when something is due, all of the plain step is made */
-        plain.due = 0;
+        plain.due[0] = 0;
         plain = stepped(plain, &call);
-        plain.due = card.due;
+        plain.due[0] = card.due[0];
         CHECK(same(&card, &plain));
         check_statuses();
-        CHECK(card.answer.number < 18);
-        if (card.answer.number >= 8 && card.answer.number <= 13)
-            CHECK(read_frame(call.frame, call.frame_length).number == card.answer.number);
+        number = nurrispane_number(&card);
+        CHECK(number < 18);
+        if (number >= 8 && number <= 13)
+            CHECK(read_frame(call.frame, call.frame_length).number == number);
         /* something is served exactly where its time has come */
-        if (card.answer.number == NURRISPANE_ACCEPTED || card.answer.number >= 14)
-            CHECK((card.served > 0) == (due <= card.time));
-        numbers[card.answer.number]++;
-        if (card.answer.number >= 2 && card.answer.number <= 13) {
-            CHECK(card.served == 0);
-            before.answer = card.answer;
-            before.served = card.served;
+        if (number == NURRISPANE_ACCEPTED || number >= 14)
+            CHECK((nurrispane_served(&card) > 0) == (due <= nurrispane_time(&card)));
+        numbers[number]++;
+        if (number >= 2 && number <= 13) {
+            CHECK(nurrispane_served(&card) == 0);
+            memcpy(before.told, card.told, sizeof before.told);
+            before.due[0] = card.due[0]; /* a bound, which may be made anew */
             CHECK(same(&card, &before));
         } else {
-            CHECK(card.time == call.time);
+            CHECK(nurrispane_time(&card) == call.time);
         }
-        CHECK(card.selected == card.answer.selected);
-        CHECK(card.switch_kind == card.answer.switch_kind);
-        CHECK(card.switch_input == card.answer.switch_input);
-        CHECK(card.option == before.option && card.place == before.place && card.marks == before.marks);
-        if (card.time > 0xf00000000000 || below(1000) == 0)
+        CHECK(card.small[AT_SELECTED] == nurrispane_selected(&card));
+        CHECK(card.small[AT_SWITCH_KIND] == nurrispane_switch_kind(&card));
+        CHECK(card.small[AT_SWITCH_INPUT] == nurrispane_switch_input(&card));
+        CHECK(nurrispane_option(&card) == nurrispane_option(&before) && nurrispane_place(&card) == nurrispane_place(&before));
+        CHECK(nurrispane_marks(&card) == nurrispane_marks(&before) && card.version == NURRISPANE_VERSION);
+        if (nurrispane_time(&card) > 0xf00000000000 || below(1000) == 0)
             begin();
     }
     for (int number = 2; number < 18; number++)
@@ -724,73 +756,116 @@ static void check_events(void)
     CHECK(later[0] > 0 && later[1] > 0);
 }
 
+/* What a card has selected, and the input of its switch, as its numbers are read. */
+static uint8_t selected_in(const struct nurrispane_card *of)
+{
+    uint8_t selected = of->small[AT_SELECTED];
+
+    return of->small[AT_SELECTION] && selected < 16 ? selected : NURRISPANE_NO_INPUT;
+}
+
+static uint8_t switched_in(const struct nurrispane_card *of)
+{
+    uint8_t kind = of->small[AT_SWITCH_KIND], input = of->small[AT_SWITCH_INPUT];
+
+    return (kind == NURRISPANE_SWITCH_FORCED || kind == NURRISPANE_SWITCH_MANUAL) && input < 16 ? input : NURRISPANE_NO_INPUT;
+}
+
+static int is_input(uint8_t number)
+{
+    return number < 16 || number == NURRISPANE_NO_INPUT;
+}
+
+/* The number of a tick's answer. */
+static int is_tick(uint8_t number)
+{
+    return number == NURRISPANE_ACCEPTED || number == NURRISPANE_REFUSED_TIME_TOO_LARGE || number == NURRISPANE_REFUSED_TIME_BEFORE_STATE;
+}
+
+static int is_ranged(const struct nurrispane_card *of)
+{
+    return is_input(nurrispane_selected(of)) && is_input(nurrispane_switch_input(of)) && nurrispane_clock_state(of) < 3 &&
+           nurrispane_switch_kind(of) < 3;
+}
+
+/* All that is told of two cards is the same, whatever their numbers are. */
+static int is_alike(const struct nurrispane_card *one, const struct nurrispane_card *other)
+{
+    struct nurrispane_codes codes[2] = {outgoing_codes(one), outgoing_codes(other)};
+    struct nurrispane_words words[2] = {outgoing_words(one), outgoing_words(other)};
+    int alike = nurrispane_time(one) == nurrispane_time(other) && nurrispane_next_due(one) == nurrispane_next_due(other) &&
+                selected_in(one) == selected_in(other) && switched_in(one) == switched_in(other) &&
+                memcmp(&codes[0], &codes[1], sizeof codes[0]) == 0 && memcmp(&words[0], &words[1], sizeof words[0]) == 0;
+
+    for (uint8_t i = 0; i < NURRISPANE_INPUTS; i++) {
+        struct nurrispane_status status[2] = {status_of(one, i), status_of(other, i)};
+
+        alike = alike && memcmp(&status[0], &status[1], sizeof status[0]) == 0;
+    }
+    return alike;
+}
+
 /* A card of any bytes: nothing is promised of the answers, but all are as if it were a state. */
 static void check_cards(void)
 {
-    int kept = 0, whole = 0;
+    int refused = 0, whole = 0;
 
     for (int i = 0; i < RANDOM_CARDS; i++) {
-        struct nurrispane_card wild, next;
+        struct nurrispane_card wild, next, part;
         struct nurrispane_codes outgoing;
         struct call call;
+        uint8_t number, most;
+        int known = (int)below(2);
 
         for (size_t at = 0; at < sizeof wild; at++)
             ((uint8_t *)&wild)[at] = (uint8_t)(below(3) ? below(20) : below(256));
         if (below(2)) {
-            wild.answer.selected = (uint8_t)(below(4) ? below(16) : NURRISPANE_NO_INPUT);
-            wild.answer.switch_input = (uint8_t)(below(4) ? below(16) : NURRISPANE_NO_INPUT);
-            wild.answer.clock_state = (uint8_t)below(3);
-            wild.answer.switch_kind = (uint8_t)below(3);
+            wild.told[TOLD_SELECTED] = (uint8_t)(below(4) ? below(16) : NURRISPANE_NO_INPUT);
+            wild.told[TOLD_SWITCH_INPUT] = (uint8_t)(below(4) ? below(16) : NURRISPANE_NO_INPUT);
+            wild.told[TOLD_STATE] = (uint8_t)below(3);
+            wild.told[TOLD_SWITCH_KIND] = (uint8_t)below(3);
         }
         if (below(2)) {
-            wild.time >>= 24;
-            wild.due = wild.time + below(800);
+            wild.times[AT_TIME] >>= 24;
+            wild.due[0] = wild.times[AT_TIME] + below(800);
+        }
+        if (!known) {
+            wild.due[0] = 0;
+            wild.told[TOLD_STATE] = 3;
         }
         call = any_call(&wild);
         next = stepped(wild, &call);
         nurrispane_next_due(&wild);
         outgoing_words(&wild);
-        if (is_sound(wild)) {
-            CHECK(wild.answer.selected < 16 || wild.answer.selected == NURRISPANE_NO_INPUT);
-            CHECK(wild.answer.switch_input < 16 || wild.answer.switch_input == NURRISPANE_NO_INPUT);
-            CHECK(wild.answer.clock_state < 3 && wild.answer.switch_kind < 3);
-        }
+        if (is_sound(wild))
+            CHECK(is_ranged(&wild));
         for (int at = 0; at < 2; at++) {
             struct nurrispane_status status = status_of(&wild, (uint8_t)below(at ? 256 : 16));
 
             CHECK(status.eligible < 2 && status.signal < 2 && status.locked < 2);
         }
         outgoing = outgoing_codes(&wild);
-        CHECK(next.answer.switch_kind < 3 && next.answer.clock_state < 3 && next.served <= 48);
-        CHECK(next.answer.selected < 16 || next.answer.selected == NURRISPANE_NO_INPUT);
-        CHECK(next.answer.switch_input < 16 || next.answer.switch_input == NURRISPANE_NO_INPUT);
+        number = nurrispane_number(&next);
+        CHECK(is_ranged(&next) && nurrispane_served(&next) <= 48 && number < 18);
         for (unsigned port = 0; port < NURRISPANE_INPUTS; port++)
             CHECK(outgoing.codes[port] < 16);
-        /* refused at once, or what its own input heard before: the rest of it is as it was */
-        wild.inputs[call.input % 16] = next.inputs[call.input % 16];
-        wild.time = next.time;
-        wild.due = next.due;
-        wild.answer.number = next.answer.number;
-        wild.served = next.served;
-        if (same(&wild, &next)) {
-            kept++;
-            continue;
+        CHECK(next.version == wild.version && memcmp(next.spare, wild.spare, sizeof wild.spare) == 0);
+        if (number >= 2 && number <= 13) {
+            /* refused at once: the state is as it was, if not each number that stands for the same */
+            refused++;
+            CHECK(is_alike(&next, &wild));
+        } else if (!known) {
+            /* neither an answer nor what is due was there to go by: the answer is that of the state */
+            whole++;
+            CHECK(nurrispane_time(&next) == call.time);
+            CHECK(nurrispane_selected(&next) == selected_in(&next) && nurrispane_switch_input(&next) == switched_in(&next));
         }
-        /* any other: a card of the state that it was read as */
-        whole++;
-        CHECK(next.held < 2 && next.selection < 2 && next.switch_kind < 3);
-        CHECK(next.selected == next.answer.selected);
-        CHECK(next.switch_input == next.answer.switch_input);
-        for (unsigned port = 0; port < NURRISPANE_INPUTS; port++) {
-            const struct nurrispane_input *input = &next.inputs[port];
-
-            CHECK(input->kind < 3 && input->locked < 2 && input->sending < 2);
-            CHECK(input->signal < 2 && input->failed < 2 && input->up < 2);
-        }
-        CHECK(next.option == (wild.option == NURRISPANE_OPTION_2 ? 2 : 1) && next.spare == 0);
-        CHECK(next.mode < 2);
+        part = wild;
+        most = (uint8_t)below(60);
+        CHECK(nurrispane_tick_part(&part, call.time, most) < 2 && nurrispane_served(&part) <= 48);
+        CHECK(is_ranged(&part) && is_tick(nurrispane_number(&part)));
     }
-    CHECK(kept > 100 && whole > 100);
+    CHECK(refused > 100 && whole > 100);
 }
 
 /* A frame is looked at for a frame event alone: here it lies where reading faults. */
@@ -828,7 +903,7 @@ static void check_null(void)
     }
     nurrispane_step(&one, NURRISPANE_EVENT_INPUT_KIND, 300, 3, NURRISPANE_INPUT_ETHERNET, NULL, 0);
     nurrispane_step(&one, NURRISPANE_EVENT_FRAME, 300, 3, 0, NULL, 0);
-    CHECK(one.answer.number == NURRISPANE_REFUSED_FRAME_LENGTH);
+    CHECK(nurrispane_number(&one) == NURRISPANE_REFUSED_FRAME_LENGTH);
     CHECK(read_frame(NULL, 0).number == NURRISPANE_REFUSED_FRAME_LENGTH);
     CHECK(nurrispane_write_frame(&one, 0, 0, source, sizeof source, NULL, 0) == NURRISPANE_REFUSED_BUFFER_TOO_SHORT);
     CHECK(nurrispane_write_frame(&one, 0, 0, NULL, 0, buffer, sizeof buffer) == NURRISPANE_REFUSED_SOURCE_NOT_SIX);
@@ -891,17 +966,18 @@ static void check_senders(void)
     memset(&senders, 0xa5, sizeof senders);
     nurrispane_fresh_senders(&senders);
     for (unsigned i = 0; i < NURRISPANE_INPUTS; i++) {
-        for (int at = 0; at < 10; at++)
+        for (int at = 0; at < 11; at++)
             CHECK(senders.ports[i].times[at] == 0);
-        CHECK(senders.ports[i].asked == 0 && senders.ports[i].code == 0);
-        CHECK(senders.ports[i].sent == 0);
+        CHECK(senders.ports[i].numbers[0] == 0 && senders.ports[i].numbers[1] == 0);
     }
     CHECK(senders.number == NURRISPANE_ACCEPTED && senders.frame == NURRISPANE_HEARTBEAT_NOTHING);
 
     card = fresh_of_any();
     for (int i = 0; i < RANDOM_QUESTIONS; i++) {
         struct nurrispane_senders before;
-        uint8_t buffer[80], kept[80], wanted[80];
+        struct nurrispane_sender one;
+        uint32_t said;
+        uint8_t buffer[80], kept[80], wanted[80], alone[80];
         unsigned port = below(20) ? below(3) : below(256), number, frame;
         size_t source = below(20) ? 6 : below(9), room = below(20) ? 60 + below(21) : below(81);
         uint64_t at;
@@ -910,7 +986,7 @@ static void check_senders(void)
         if (below(6) == 0) {
             struct call call = any_call(&card);
 
-            if (call.time < card.time + 400)
+            if (call.time < nurrispane_time(&card) + 400)
                 card = stepped(card, &call);
         }
         time += below(3) ? below(120) : below(2) ? below(4) : below(1100);
@@ -926,9 +1002,14 @@ static void check_senders(void)
             CHECK(nurrispane_write_frame(&card, (uint8_t)port, frame == NURRISPANE_HEARTBEAT_EVENT,
                                          sources, source, wanted, room) == NURRISPANE_ACCEPTED);
         before = senders;
+        one = senders.ports[port % 16];
+        memcpy(alone, kept, sizeof alone);
+        said = nurrispane_ask_sender(&one, &card, (uint8_t)port, at, sources, source, alone, room);
         nurrispane_ask(&senders, &card, (uint8_t)port, at, sources, source, buffer, room);
         CHECK(senders.number == number && senders.frame == frame);
         CHECK(memcmp(buffer, wanted, sizeof buffer) == 0);
+        CHECK(memcmp(buffer, alone, sizeof buffer) == 0 && memcmp(&one, &senders.ports[port % 16], sizeof one) == 0);
+        CHECK(port > 15 || said == (number ? 256 * number : frame));
         numbers[number]++;
         if (number != NURRISPANE_ACCEPTED) {
             CHECK(memcmp(&before.ports, &senders.ports, sizeof before.ports) == 0);
@@ -1008,6 +1089,11 @@ static void run_step(void)
                     stack_call.argument, stack_call.frame, stack_call.frame_length);
 }
 
+static void run_part(void)
+{
+    stack_sound = nurrispane_tick_part(&stack_card, stack_call.time, 48);
+}
+
 static void run_due(void)
 {
     stack_due = nurrispane_next_due(&card);
@@ -1043,9 +1129,9 @@ static void run_write(void)
     nurrispane_write_frame(&card, 1, 0, stack_call.frame, 6, stack_frame, sizeof stack_frame);
 }
 
-static void run_fresh_senders(void)
+static void run_fresh_sender(void)
 {
-    nurrispane_fresh_senders(&stack_senders);
+    nurrispane_fresh_sender(&stack_senders.ports[1]);
 }
 
 static void run_ask(void)
@@ -1075,18 +1161,20 @@ static void check_stack(void)
     static const struct {
         const char *name;
         void (*run)(void);
-    } runs[] = {{"self_test", run_self_test},
-                {"fresh", run_fresh},
-                {"step", run_step},
-                {"next_due", run_due},
-                {"is_sound", run_sound},
-                {"input_status", run_status},
-                {"outgoing_codes", run_codes},
-                {"outgoing_words", run_words},
-                {"read_frame", run_read},
-                {"write_frame", run_write},
-                {"fresh_senders", run_fresh_senders},
-                {"ask", run_ask}};
+        size_t limit;
+    } runs[] = {{"self_test", run_self_test, NURRISPANE_STACK_SELF_TEST},
+                {"fresh", run_fresh, NURRISPANE_STACK_FRESH},
+                {"step", run_step, NURRISPANE_STACK_STEP},
+                {"tick_part", run_part, NURRISPANE_STACK_TICK_PART},
+                {"next_due", run_due, NURRISPANE_STACK_NEXT_DUE},
+                {"is_sound", run_sound, NURRISPANE_STACK_IS_SOUND},
+                {"input_status", run_status, NURRISPANE_STACK_INPUT_STATUS},
+                {"outgoing_codes", run_codes, NURRISPANE_STACK_OUTGOING_CODES},
+                {"outgoing_words", run_words, NURRISPANE_STACK_OUTGOING_WORDS},
+                {"read_frame", run_read, NURRISPANE_STACK_READ_FRAME},
+                {"write_frame", run_write, NURRISPANE_STACK_WRITE_FRAME},
+                {"fresh_sender", run_fresh_sender, NURRISPANE_STACK_FRESH_SENDER},
+                {"ask", run_ask, NURRISPANE_STACK_ASK}};
     enum { RUNS = sizeof runs / sizeof *runs };
     size_t most[RUNS] = {0}, nothing = stack_of(run_nothing);
 
@@ -1106,7 +1194,7 @@ static void check_stack(void)
     printf("stack:");
     for (int r = 0; r < RUNS; r++) {
         printf("%s %s %zu", r ? "," : "", runs[r].name, most[r]);
-        CHECK(most[r] <= NURRISPANE_STACK);
+        CHECK(most[r] <= runs[r].limit && runs[r].limit <= NURRISPANE_STACK);
     }
     printf(" bytes\n");
 }
@@ -1126,10 +1214,8 @@ int main(void)
     check_null();
     check_senders();
     check_stack();
-    printf("sizes: card %zu, input %zu, answer %zu, status %zu, codes %zu, words %zu, frame %zu, senders %zu, "
-           "sender %zu bytes\n",
-           sizeof(struct nurrispane_card), sizeof(struct nurrispane_input),
-           sizeof(struct nurrispane_answer), sizeof(struct nurrispane_status), sizeof(struct nurrispane_codes),
+    printf("sizes: card %zu, status %zu, codes %zu, words %zu, frame %zu, senders %zu, sender %zu bytes\n",
+           sizeof(struct nurrispane_card), sizeof(struct nurrispane_status), sizeof(struct nurrispane_codes),
            sizeof(struct nurrispane_words), sizeof(struct nurrispane_frame), sizeof(struct nurrispane_senders),
            sizeof(struct nurrispane_sender));
     printf("%lu checks hold\n", checks);

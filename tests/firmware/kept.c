@@ -1,17 +1,19 @@
 /*
  * Runs docs/FIRMWARE.md's examples, which tests/firmware/examples has taken out into EXAMPLE. A kept card: power fails in the
  * middle of each write, at every octet of it, and what is found then is a card that was kept, the last or the one before.
- * Due moments in portions: each call serves one, and they lead to the card that one call leads to.
+ * Due moments in portions: they lead to the card that one call leads to.
  */
 #include <stdio.h>
 #include <string.h>
 
 #include EXAMPLE
+#include "places.h"
 
 #define ROUNDS 40
 
 static uint8_t slots[2][sizeof(struct record)];
 static size_t power; /* octets that are still written; then the write tears */
+static unsigned fed;
 
 void slot_read(unsigned slot, void *to, size_t length)
 {
@@ -25,6 +27,11 @@ int slot_write(unsigned slot, const void *from, size_t length)
     memcpy(slots[slot], from, done);
     power -= done;
     return done == length;
+}
+
+void watchdog_feed(void)
+{
+    fed++;
 }
 
 static int fail(const char *what)
@@ -55,27 +62,24 @@ static struct nurrispane_card busy_card(void)
     return card;
 }
 
-/* What is due before every time to 100,000 ms, in portions of 1 to 5 and at once: 0 where they lead to two cards. */
+/* What is due before every time to 100,000 ms, in portions of two and at once: 0 where they lead to two cards. */
 static int same_in_portions(void)
 {
     struct nurrispane_card start = busy_card();
 
-    for (uint64_t ms = start.time; ms < 100000; ms += 97) {
+    for (uint64_t ms = nurrispane_time(&start); ms < 100000; ms += 97) {
         struct nurrispane_card once = start, parts = start;
-        unsigned most = 1 + (unsigned)(ms % 5), calls = 0;
 
         nurrispane_step(&once, NURRISPANE_EVENT_FORCED, ms, 3, 0, NURRISPANE_NO_FRAME, 0);
-        for (; serve(&parts, ms, most); calls++) {
-            if (parts.served != 1)
-                return 0;
-        }
-        if (calls * most > once.served)
+        fed = 0;
+        serve(&parts, ms);
+        if (fed != (nurrispane_served(&once) > 0 ? (nurrispane_served(&once) - 1U) / 2U : 0U))
             return 0;
         nurrispane_step(&parts, NURRISPANE_EVENT_FORCED, ms, 3, 0, NURRISPANE_NO_FRAME, 0);
-        if (parts.served != 0 || nurrispane_next_due(&parts) != nurrispane_next_due(&once))
+        if (nurrispane_served(&parts) != 0 || nurrispane_next_due(&parts) != nurrispane_next_due(&once))
             return 0;
-        parts.served = once.served;
-        parts.due = once.due; /* a bound, that may be nearer or farther */
+        parts.told[TOLD_SERVED] = once.told[TOLD_SERVED];
+        parts.due[0] = once.due[0]; /* a bound, that may be nearer or farther */
         if (memcmp(&parts, &once, sizeof parts) != 0)
             return 0;
     }
@@ -112,7 +116,6 @@ int main(void)
                 return fail("a torn write was not told");
             if (!kept(&found))
                 return fail("nothing is found after a torn write");
-            /* The last octets are spare: a write that tears in them is whole. */
             if (memcmp(&found, &cards[round - 1], sizeof found) != 0 && memcmp(&found, &cards[round], sizeof found) != 0)
                 return fail("what is found was never kept");
             torn++;
@@ -123,9 +126,16 @@ int main(void)
         if (!keep(&cards[round]) || !kept(&found) || memcmp(&found, &cards[round], sizeof found) != 0)
             return fail("the last card is not found");
     }
-    slots[last % 2][sizeof(uint32_t) * 2 + 5] ^= 1;
+    slots[last % 2][5] ^= 1;
     if (!kept(&found) || memcmp(&found, &cards[ROUNDS - 1], sizeof found) != 0)
         return fail("a record with a bad bit is taken");
+    /* a card of another version, whose sum is right */
+    memset(slots, 0xff, sizeof slots);
+    last = 0;
+    found = cards[ROUNDS];
+    found.version = NURRISPANE_VERSION - 1;
+    if (!keep(&found) || kept(&found))
+        return fail("a card of another version is taken");
     memset(slots, 0xff, sizeof slots);
     if (kept(&found))
         return fail("erased memory is taken");
