@@ -3,6 +3,7 @@
 -- what C may index by. `Due`: what is next due after an event that is taken. `Ports`: what is written for a port. `Calls`:
 -- what C holds after calls in a row. `Kept`: a kept card. `SelfTest`: the self-test is passed. `Portions`: a tick
 -- in portions.
+-- `Ranges`: the header's ranges.
 pub mod Laws
 pub mod Same
 pub mod Status
@@ -15,3 +16,4 @@ pub mod Calls
 pub mod Kept
 pub mod SelfTest
 pub mod Portions
+pub mod Ranges
