@@ -116,10 +116,11 @@
  *   Before what is due an event that tells its input nothing new, or is refused, takes a small part of it.
  * - The machine. libcard.a is for x86-64 with the System V calling convention, its red zone and its
  *   SSE2 registers included; docs/BENCHMARKS.md has its size, and that of those for Arm. There and on
- *   aarch64 and armv7 it needs memcpy, memmove and memset. On a Cortex-M it needs these by the names of
- *   Arm's convention, __aeabi_memcpy, __aeabi_memcpy4, __aeabi_memcpy8, __aeabi_memmove, __aeabi_memclr,
- *   __aeabi_memclr4 and __aeabi_memclr8, and on a Cortex-M0+ __aeabi_lmul too, which a compiler's own library has. Nothing
- *   else: no heap, no floating point, no operating system, and no data that is written. No call waits.
+ *   aarch64 and armv7 it needs no more than memcpy, memmove and memset. On a Cortex-M it needs no more than
+ *   these by the names of Arm's convention, __aeabi_memcpy, __aeabi_memcpy4, __aeabi_memcpy8, __aeabi_memmove,
+ *   __aeabi_memclr, __aeabi_memclr4 and __aeabi_memclr8, and on a Cortex-M0+ __aeabi_lmul, which a compiler's own
+ *   library has. Nothing else: no heap, no floating point, no operating system, and no data that is written. No
+ *   call waits.
  *   The libraries for Cortex-M have no unaligned access and may run with the trap for it set.
  *
  * Sizes, in octets: a card 584, aligned to 8; what is known of an input 24, aligned to 8; the codes 16;
@@ -248,7 +249,7 @@ extern "C" {
 
 /*
  * The numbers of an answer. Of those that apply to an event the smallest is given. 2 to 13 leave
- * a card's state, its time included; 14 to 17 leave what a tick at the event's time leaves. What they
+ * a card's state, its time included, but may make `due` anew; 14 to 17 leave what a tick at the event's time leaves. What they
  * leave of a unit's cards, nurrispane_unit_step() says. Writing a frame checks 5, 19, 18, and leaves the
  * buffer where it refuses. 1, 20 and 21 (a log that does not go back to the old form) are of programs
  * that read logs: not given here.
@@ -770,9 +771,9 @@ struct nurrispane_unit {
      (nurrispane_unit_octets() == sizeof(struct nurrispane_unit)))
 
 /* No call on a unit takes more stack than NURRISPANE_UNIT_STACK, and each no more than is said of it. */
-#define NURRISPANE_UNIT_STACK       4096U
-#define NURRISPANE_STACK_UNIT_FRESH 4096U
-#define NURRISPANE_STACK_UNIT_STEP  4096U
+#define NURRISPANE_UNIT_STACK       2048U
+#define NURRISPANE_STACK_UNIT_FRESH 768U
+#define NURRISPANE_STACK_UNIT_STEP  2048U
 
 /* What the library has; as above. The first five arrays are the equipment's, the next five the station's. */
 uint32_t nurrispane_unit_version_in(void);
