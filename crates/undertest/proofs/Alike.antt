@@ -1,5 +1,5 @@
--- Two states that differ in one input alone, and there in no setting: while that input is off, a choice and a tick
--- leave two such states again. Assumes nothing.
+-- Two states that differ in one input alone, and there in no setting that shows of an input that is off: while it is, a
+-- choice and a tick leave two such states again. Assumes nothing.
 use Prim.Native.Nat.{ℕ, zero, suc, _-_, _≤_, _<_}
 use mathlib.Core.Bool.{Bool, false}
 use mathlib.Core.List.{List, [], _∷_, map}
@@ -8,8 +8,10 @@ use mathlib.Core.Logic.{_⊎_, inl, inr}
 use native.Mathlib.Omega.{arith}
 use native.Mathlib.Decide.{ℕ-discrete}
 use lib.ListN.{getD, set}
-use lib.Seq.{getD-set-other}
+use lib.Seq.{getD-set-other, set-set, set-getD}
 use Rattle.numbers.specs.declared.Profile.{Profile}
+use Rattle.numbers.specs.declared.InputKind.{InputKind}
+use Rattle.numbers.specs.declared.Priority.{Priority}
 use Rattle.input.specs.declared.Input.{Input}
 use Rattle.input.specs.declared.Settings.{Settings}
 use Rattle.input.specs.Record.{freshInput, inputBroughtTo}
@@ -35,39 +37,49 @@ map-set f [] number x = refl
 map-set f (y ∷ list) zero x = refl
 map-set f (y ∷ list) (suc number) x = ap (λ (rest : List _). f y ∷ rest) (map-set f list number x)
 
--- the settings of an input of some
-abbrev pub settingsAt : List Input → ℕ → Settings
-settingsAt inputs number = getD inputs number freshInput .settings
+-- of the settings of an input that is off, what shows: the priority itself, its kind by what is refused with 7, and
+-- whether it sends by the codes and words
+pub record Shown : Type 0 where
+  pub priority : Priority
+  pub kind : InputKind
+  pub sending : Bool
 
--- another record with the settings of the one before changes no settings
-pub set-settings : (inputs : List Input) (input : ℕ) (line : Input) → line .settings ≡ settingsAt inputs input
+abbrev pub shownOf : Settings → Shown
+shownOf settings = record { priority = settings .priority; kind = settings .kind; sending = settings .sending }
+
+-- of an input of some
+abbrev pub shownAt : List Input → ℕ → Shown
+shownAt inputs number = shownOf (getD inputs number freshInput .settings)
+
+-- another record of which the same shows changes nothing that shows
+pub set-shown : (inputs : List Input) (input : ℕ) (line : Input) → shownOf (line .settings) ≡ shownAt inputs input
     → (number : ℕ)
-    → settingsAt (set inputs input line) number ≡ settingsAt inputs number
-set-settings [] input line same number = refl
-set-settings (x ∷ inputs) zero line same zero = same
-set-settings (x ∷ inputs) zero line same (suc number) = refl
-set-settings (x ∷ inputs) (suc input) line same zero = refl
-set-settings (x ∷ inputs) (suc input) line same (suc number) = set-settings inputs input line same number
+    → shownAt (set inputs input line) number ≡ shownAt inputs number
+set-shown [] input line same number = refl
+set-shown (x ∷ inputs) zero line same zero = same
+set-shown (x ∷ inputs) zero line same (suc number) = refl
+set-shown (x ∷ inputs) (suc input) line same zero = refl
+set-shown (x ∷ inputs) (suc input) line same (suc number) = set-shown inputs input line same number
 
 -- nor does what changes no settings of any
-pub map-settings : (f : Input → Input) → ((input : Input) → f input .settings ≡ input .settings) → (inputs : List Input)
+pub map-shown : (f : Input → Input) → ((input : Input) → f input .settings ≡ input .settings) → (inputs : List Input)
     → (number : ℕ)
-    → settingsAt (map f inputs) number ≡ settingsAt inputs number
-map-settings f keeps [] number = refl
-map-settings f keeps (x ∷ inputs) zero = keeps x
-map-settings f keeps (x ∷ inputs) (suc number) = map-settings f keeps inputs number
+    → shownAt (map f inputs) number ≡ shownAt inputs number
+map-shown f keeps [] number = refl
+map-shown f keeps (x ∷ inputs) zero = ap shownOf (keeps x)
+map-shown f keeps (x ∷ inputs) (suc number) = map-shown f keeps inputs number
 
 -- ---- one input that is off
 
 -- "priority 0"
 abbrev pub Off : ℕ → List Input → Type 0
-Off input inputs = settingsAt inputs input .priority .0 ≡ 0
+Off input inputs = shownAt inputs input .priority .0 ≡ 0
 
--- with the same settings it is off again
-pub off-as : (input : ℕ) (inputs others : List Input) → settingsAt others input ≡ settingsAt inputs input
+-- where the same shows it is off again
+pub off-as : (input : ℕ) (inputs others : List Input) → shownAt others input ≡ shownAt inputs input
     → Off input inputs
     → Off input others
-off-as input inputs others same off = ap (λ (settings : Settings). settings .priority .0) same ∙ off
+off-as input inputs others same off = ap (λ (shown : Shown). shown .priority .0) same ∙ off
 
 -- it is not admitted
 pub off-barred : (profile : Profile) (mode : Bool) (inputs : List Input) (input : ℕ) → Off input inputs
@@ -83,14 +95,59 @@ off-barred profile mode (x ∷ inputs) (suc input) off = off-barred profile mode
 abbrev pub withRecord : ℕ → Input → Selector → Selector
 withRecord input line state = movedTo state (set (state .inputs) input line) (state .time)
 
--- they differ in one input alone, and there in no setting
+-- they differ in one input alone, and there in nothing that shows
 pub record AlikeButAt (input : ℕ) (one other : Selector) : Type 0 where
   pub line : Input
-  pub settings : line .settings ≡ settingsAt (one .inputs) input
+  pub shown : shownOf (line .settings) ≡ shownAt (one .inputs) input
   pub same : other ≡ withRecord input line one
 
+-- a state is like itself
+pub alike-itself : (input : ℕ) (state : Selector) → AlikeButAt input state state
+alike-itself input state =
+    record {
+      line = getD (state .inputs) input freshInput;
+      shown = refl;
+      same =
+          sym (ap (λ (inputs : List Input). movedTo state inputs (state .time))
+          (set-getD (state .inputs) input freshInput));
+    }
+
+-- and like another that is like it
+pub alike-back : (input : ℕ) (one other : Selector) → AlikeButAt input one other → AlikeButAt input other one
+alike-back input one other alike =
+    record {
+      line = line;
+      shown =
+          sym (ap (λ (state : Selector). shownAt (state .inputs) input) (alike .same) ∙
+          set-shown (one .inputs) input (alike .line) (alike .shown) input);
+      same =
+          sym (ap (withRecord input line) (alike .same) ∙
+          ap (λ (inputs : List Input). movedTo one inputs (one .time))
+          (set-set (one .inputs) input (alike .line) line ∙ set-getD (one .inputs) input freshInput));
+    }
+  where
+    line : Input
+    line = getD (one .inputs) input freshInput
+
+-- what is like one of the two is like the other
+pub alike-on : (input : ℕ) (one other third : Selector) → AlikeButAt input one other → AlikeButAt input other third
+    → AlikeButAt input one third
+alike-on input one other third first second =
+    record {
+      line = second .line;
+      shown =
+          second .shown ∙
+          ap (λ (state : Selector). shownAt (state .inputs) input) (first .same) ∙
+          set-shown (one .inputs) input (first .line) (first .shown) input;
+      same =
+          second .same ∙
+          ap (withRecord input (second .line)) (first .same) ∙
+          ap (λ (inputs : List Input). movedTo one inputs (one .time))
+          (set-set (one .inputs) input (first .line) (second .line));
+    }
+
 module _ (input : ℕ) (line : Input) (state : Selector)
-    (settings : line .settings ≡ settingsAt (state .inputs) input) where
+    (shown : shownOf (line .settings) ≡ shownAt (state .inputs) input) where
   module _ (off : Off input (state .inputs)) where
     -- what a choice looks at differs in nothing that is admitted
     pub candidates-same :
@@ -110,7 +167,7 @@ module _ (input : ℕ) (line : Input) (state : Selector)
                   rw here
                   (off-barred (state .profile) (state .mode) (set (state .inputs) input line) input
                   (off-as input (state .inputs) (set (state .inputs) input line)
-                  (set-settings (state .inputs) input line settings input)
+                  (set-shown (state .inputs) input line shown input)
                   off));
             })
         go (no there) =
@@ -135,6 +192,14 @@ module _ (input : ℕ) (line : Input) (state : Selector)
       movedTo state (map-set (λ (other : Input). inputBroughtTo other time (state .mode)) (state .inputs) input line j)
       time
 
+-- the input is off in both or in neither
+pub alike-off : (input : ℕ) (one other : Selector) → AlikeButAt input one other → Off input (one .inputs)
+    → Off input (other .inputs)
+alike-off input one other alike =
+    off-as input (one .inputs) (other .inputs)
+    (ap (λ (state : Selector). shownAt (state .inputs) input) (alike .same) ∙
+    set-shown (one .inputs) input (alike .line) (alike .shown) input)
+
 -- ---- a choice, and time going by
 
 inputBroughtTo-keeps : (time : ℕ) (mode : Bool) (input : Input)
@@ -142,10 +207,10 @@ inputBroughtTo-keeps : (time : ℕ) (mode : Bool) (input : Input)
 unfolding inputBroughtTo
 inputBroughtTo-keeps time mode input = refl
 
-pub brought-settings : (state : Selector) (time number : ℕ)
-    → settingsAt (allBroughtTo state time .inputs) number ≡ settingsAt (state .inputs) number
-brought-settings state time number =
-    map-settings (λ (x : Input). inputBroughtTo x time (state .mode)) (inputBroughtTo-keeps time (state .mode))
+pub brought-shown : (state : Selector) (time number : ℕ)
+    → shownAt (allBroughtTo state time .inputs) number ≡ shownAt (state .inputs) number
+brought-shown state time number =
+    map-shown (λ (x : Input). inputBroughtTo x time (state .mode)) (inputBroughtTo-keeps time (state .mode))
     (state .inputs) number
 
 pub alike-decided : (input : ℕ) (one other : Selector) → AlikeButAt input one other → Off input (one .inputs)
@@ -154,8 +219,8 @@ unfolding decided
 alike-decided input one other alike off =
     record {
       line = alike .line;
-      settings = alike .settings;
-      same = ap decided (alike .same) ∙ decided-with input (alike .line) one (alike .settings) off;
+      shown = alike .shown;
+      same = ap decided (alike .same) ∙ decided-with input (alike .line) one (alike .shown) off;
     }
 
 alike-brought : (input : ℕ) (one other : Selector) → AlikeButAt input one other → (time : ℕ)
@@ -163,12 +228,12 @@ alike-brought : (input : ℕ) (one other : Selector) → AlikeButAt input one ot
 alike-brought input one other alike time =
     record {
       line = inputBroughtTo (alike .line) time (one .mode);
-      settings =
-          inputBroughtTo-keeps time (one .mode) (alike .line) ∙ alike .settings ∙
-          sym (brought-settings one time input);
+      shown =
+          ap shownOf (inputBroughtTo-keeps time (one .mode) (alike .line)) ∙ alike .shown ∙
+          sym (brought-shown one time input);
       same =
           ap (λ (state : Selector). allBroughtTo state time) (alike .same) ∙
-          brought-with input (alike .line) one (alike .settings) time;
+          brought-with input (alike .line) one (alike .shown) time;
     }
 
 alike-tickedOnce : (input : ℕ) (one other : Selector) → AlikeButAt input one other → Off input (one .inputs)
@@ -177,7 +242,7 @@ alike-tickedOnce : (input : ℕ) (one other : Selector) → AlikeButAt input one
 unfolding State.tickedOnce
 alike-tickedOnce input one other alike off time =
     alike-decided input (allBroughtTo one time) (allBroughtTo other time) (alike-brought input one other alike time)
-    (off-as input (one .inputs) (allBroughtTo one time .inputs) (brought-settings one time input) off)
+    (off-as input (one .inputs) (allBroughtTo one time .inputs) (brought-shown one time input) off)
 
 -- a millisecond more is a choice more, due or not: where nothing is due it changes nothing
 oneMore-tickedOnce : (state : Selector) → Calm state → oneMore state ≡ State.tickedOnce state (suc (state .time))
@@ -187,14 +252,14 @@ oneMore-tickedOnce state calm =
     (oneMore-due state)
     (λ e. sym (calm-oneMore state calm .chosen) ∙ ap decided (oneMore-brought state e))
 
-each-settings : (count : ℕ) (state : Selector) (number : ℕ)
-    → settingsAt (each count state .inputs) number ≡ settingsAt (state .inputs) number
+each-shown : (count : ℕ) (state : Selector) (number : ℕ)
+    → shownAt (each count state .inputs) number ≡ shownAt (state .inputs) number
 unfolding each
-each-settings zero state number = refl
-each-settings (suc count) state number =
-    ap (λ (inputs : List Input). settingsAt inputs number) (oneMore-inputs (each count state)) ∙
-    brought-settings (each count state) (suc (each count state .time)) number ∙
-    each-settings count state number
+each-shown zero state number = refl
+each-shown (suc count) state number =
+    ap (λ (inputs : List Input). shownAt inputs number) (oneMore-inputs (each count state)) ∙
+    brought-shown (each count state) (suc (each count state .time)) number ∙
+    each-shown count state number
 
 -- so where a millisecond is due in one alone, by the line under test, its choice changes nothing
 alike-oneMore : (input : ℕ) (one other : Selector) → AlikeButAt input one other → Off input (one .inputs) → Calm one
@@ -216,7 +281,7 @@ alike-each input one other alike off calm otherCalm zero = alike
 alike-each input one other alike off calm otherCalm (suc count) =
     alike-oneMore input (each count one) (each count other)
     (alike-each input one other alike off calm otherCalm count)
-    (off-as input (one .inputs) (each count one .inputs) (each-settings count one input) off)
+    (off-as input (one .inputs) (each count one .inputs) (each-shown count one input) off)
     (calm-each count one calm)
     (calm-each count other otherCalm)
 
@@ -235,8 +300,8 @@ alike-served input one other alike off calm otherCalm time later ever =
     )
     (alike-each input one other alike off calm otherCalm (time - one .time))
 
-pub ticked-settings : (state : Selector) → Calm state → (time : ℕ) → state .time ≤ time → time < never → (number : ℕ)
-    → settingsAt (ticked state time .inputs) number ≡ settingsAt (state .inputs) number
-ticked-settings state calm time later ever number =
-    ap (λ (after : Selector). settingsAt (after .inputs) number) (ticked-each state time calm later ever) ∙
-    each-settings (time - state .time) state number
+pub ticked-shown : (state : Selector) → Calm state → (time : ℕ) → state .time ≤ time → time < never → (number : ℕ)
+    → shownAt (ticked state time .inputs) number ≡ shownAt (state .inputs) number
+ticked-shown state calm time later ever number =
+    ap (λ (after : Selector). shownAt (after .inputs) number) (ticked-each state time calm later ever) ∙
+    each-shown (time - state .time) state number

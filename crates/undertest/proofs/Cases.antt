@@ -1,4 +1,5 @@
 -- Counts differ in two runs of which nothing shows, computed. Assumes nothing.
+use mathlib.Core.Logic.{inl}
 use mathlib.Core.Path.{refl}
 use Rattle.numbers.specs.Codes.{saidBy, qualityOfCode, qualityOfWord, saidIn}
 use Rattle.numbers.specs.Profile.{limitsOf, placeOf, floorIn}
@@ -49,8 +50,8 @@ counts-differ =
       runs =
           paired (plain kindSignal 50 3 0) (plain kindSignal 50 3 1) fixed fixed
           (record {
-            report = record { report = refl; on = refl };
-            otherReport = record { report = refl; on = refl };
+            inOne = inl (record { report = refl; on = refl });
+            inOther = inl (record { report = refl; on = refl });
             time = refl;
             number = refl;
             otherNumber = refl;

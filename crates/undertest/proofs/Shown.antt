@@ -12,7 +12,6 @@ use Rattle.numbers.specs.Profile.{limitsOf, marksOf, isMarked, toldBy}
 use Rattle.numbers.specs.Codes.{codeOfQuality, wordOfQuality}
 use Rattle.numbers.proofs.Truth.{contra}
 use Rattle.input.specs.declared.Input.{Input}
-use Rattle.input.specs.declared.Settings.{Settings}
 use Rattle.input.specs.Record.{freshInput}
 use Rattle.choice.specs.declared.Candidate.{Candidate}
 use Rattle.choice.specs.declared.Selection.{Selection}
@@ -25,7 +24,7 @@ use Rattle.selector.specs.Answer.{selectedCandidate, qualityOf, answerOf, signF
 use Rattle.selector.proofs.Ports.{ports-same}
 use Rattle.due.proofs.Calm.{Calm}
 use Rattle.undertest.proofs.Candidates.{SelectionAdmitted, selectedBy-admitted}
-use Rattle.undertest.proofs.Alike.{settingsAt, set-settings, Off, off-barred, withRecord, AlikeButAt}
+use Rattle.undertest.proofs.Alike.{Shown, shownOf, shownAt, set-shown, Off, off-barred, withRecord, AlikeButAt}
 
 -- the selected input of a state as a choice sees it
 abbrev pub selectedOf : Selector → Candidate
@@ -51,7 +50,7 @@ signAt rule says state quality =
 abbrev signsOf : (Bool → Bool → Bool → ℕ → ℕ) → (Quality → ℕ) → Selector → Quality → List ℕ
 signsOf rule says state quality = map (signAt rule says state quality) ports
 
-module _ (input : ℕ) (line : Input) (state : Selector) (settings : line .settings ≡ settingsAt (state .inputs) input)
+module _ (input : ℕ) (line : Input) (state : Selector) (shown : shownOf (line .settings) ≡ shownAt (state .inputs) input)
     (off : Off input (state .inputs)) (calm : Calm state) where
   -- so it is not the input that is off
   selected-with : (selection : Selection)
@@ -81,8 +80,8 @@ module _ (input : ℕ) (line : Input) (state : Selector) (settings : line .setti
   unfolding signFor
   sign-with rule selected marks sign first port =
       ap
-      (λ (s : Settings). rule (state .mode) (s .sending) (eqb selected port) (cond (isMarked marks port) first sign))
-      (set-settings (state .inputs) input line settings port)
+      (λ (s : Shown). rule (state .mode) (s .sending) (eqb selected port) (cond (isMarked marks port) first sign))
+      (set-shown (state .inputs) input line shown port)
 
   signs-with : (rule : Bool → Bool → Bool → ℕ → ℕ) (says : Quality → ℕ)
       → signsOf rule says (withRecord input line state) (qualityOf (withRecord input line state)) ≡
@@ -114,17 +113,17 @@ module _ (input : ℕ) (one other : Selector) (alike : AlikeButAt input one othe
   pub selected-alike : selectedOf one ≡ selectedOf other
   selected-alike =
       sym (ap selectedOf (alike .same) ∙
-      candidate-with input (alike .line) one (alike .settings) off calm)
+      candidate-with input (alike .line) one (alike .shown) off calm)
 
   pub answer-alike : (number : ℕ) → answerOf number one ≡ answerOf number other
   answer-alike number =
-      sym (ap (answerOf number) (alike .same) ∙ answer-with input (alike .line) one (alike .settings) off calm number)
+      sym (ap (answerOf number) (alike .same) ∙ answer-with input (alike .line) one (alike .shown) off calm number)
 
   pub switch-alike : one .switch ≡ other .switch
   switch-alike = sym (ap (λ (state : Selector). state .switch) (alike .same))
 
   pub codes-alike : outgoingCodes one ≡ outgoingCodes other
-  codes-alike = sym (ap outgoingCodes (alike .same) ∙ codes-with input (alike .line) one (alike .settings) off calm)
+  codes-alike = sym (ap outgoingCodes (alike .same) ∙ codes-with input (alike .line) one (alike .shown) off calm)
 
   pub words-alike : outgoingWords one ≡ outgoingWords other
-  words-alike = sym (ap outgoingWords (alike .same) ∙ words-with input (alike .line) one (alike .settings) off calm)
+  words-alike = sym (ap outgoingWords (alike .same) ∙ words-with input (alike .line) one (alike .shown) off calm)

@@ -1,12 +1,10 @@
 -- L14: a line under test does not matter. Assumes nothing.
 use Prim.Native.Nat.{ℕ, _<_}
-use mathlib.Core.Bool.{true}
-use mathlib.Core.List.{List}
+use mathlib.Core.Logic.{inl, inr}
 use mathlib.Core.Path.{_≡_, refl, sym, _∙_, ap, subst}
 use native.Mathlib.Omega.{arith}
 use lib.Dec.{ltb}
-use lib.ListN.{length, getD, List·getD-eq-default}
-use lib.Seq.{set-getD}
+use lib.ListN.{length, List·getD-eq-default}
 use borrow.Author.Tests.{ltb-true, ltb-false}
 use Rattle.numbers.specs.declared.Event.{Event}
 use Rattle.numbers.specs.declared.Limits.{Limits}
@@ -14,6 +12,7 @@ use Rattle.numbers.specs.Recorded.{Recorded}
 use Rattle.numbers.specs.From.{started, _following_, profileOf}
 use Rattle.numbers.specs.Profile.{limitsOf}
 use Rattle.numbers.specs.Inputs.{inputCount}
+use Rattle.numbers.specs.Kind.{kindForced, kindManual, kindTick}
 use Rattle.numbers.specs.Refusal.{accepted}
 use Rattle.frame.specs.declared.FrameRead.{FrameRead}
 use Rattle.frame.specs.Read.{readCode}
@@ -27,7 +26,7 @@ use Rattle.selector.specs.declared.Selector.{Selector}
 use Rattle.selector.specs.State.{decided}
 use Rattle.selector.specs.Answer.{answerOf, outgoingCodes, outgoingWords}
 use Rattle.due.specs.Served.{ticked}
-use Rattle.due.proofs.Calm.{movedTo, Calm}
+use Rattle.due.proofs.Calm.{Calm}
 use Rattle.events.specs.declared.Stepped.{Stepped}
 use Rattle.events.specs.Refusals.{earlyRefusal}
 use Rattle.events.specs.Step.{kindAt, recordedEvent, eventTaken, atItsMoment, earlyNumber, lateNumber, stepRead, step}
@@ -36,13 +35,12 @@ use Rattle.events.specs.Past.{pastOf, recorded}
 use Rattle.events.proofs.Laws.{lateRefusal-other}
 use Rattle.events.proofs.Refused.{accepted-input}
 use Rattle.events.proofs.Agrees.{settings-at, sequence-agrees}
-use Rattle.events.proofs.Calm.{accepted-or-not, stepRead-refused, stepRead-barred, stepRead-taken, not-before, not-never, calm-brought, sequence-calm}
-use Rattle.unit.specs.Unit.{isReport}
-use Rattle.undertest.specs.UnderTest.{Pair, EqualButFor, begun, equal, paired, OffThroughout, NothingShows, NothingEverShows}
+use Rattle.events.proofs.Calm.{accepted-or-not, atItsMoment-tick, stepRead-refused, stepRead-barred, stepRead-taken, not-before, not-never, calm-brought, brought-time, sequence-calm}
+use Rattle.undertest.specs.UnderTest.{OnLine, Pair, EqualButFor, begun, equal, paired, OffThroughout, NothingShows, NothingEverShows}
 use Rattle.undertest.proofs.Candidates.{lateRefusal-same}
-use Rattle.undertest.proofs.Alike.{set-settings, Off, off-as, AlikeButAt, candidates-same, alike-decided, alike-served, ticked-settings}
+use Rattle.undertest.proofs.Alike.{Shown, set-shown, Off, off-as, AlikeButAt, alike-itself, alike-back, alike-on, alike-off, candidates-same, alike-decided, alike-served, ticked-shown}
 use Rattle.undertest.proofs.Shown.{selectedOf, selected-alike, answer-alike, switch-alike, codes-alike, words-alike}
-use Rattle.undertest.proofs.Taken.{report-forced, report-manual, taken-with, reports-with}
+use Rattle.undertest.proofs.Taken.{Quiet, report-quiet, hidden-quiet, taken-with, line-taken}
 
 -- ---- a step on both
 
@@ -71,12 +69,10 @@ accepted-early state event read number =
     (λ given. absurd (given
     (sym (ap (λ (step : Stepped). step .number) (stepRead-refused state event read given)) ∙ number)))
 
--- and a report never is after it
-accepted-late : (limits : Limits) (state : Selector) (event : Event) → isReport limits (event .kind) ≡ true
+-- and one that is no switch never is after it
+accepted-late : (state : Selector) (event : Event) → (event .kind ≡ kindForced → ⊥) → (event .kind ≡ kindManual → ⊥)
     → lateNumber state event ≡ accepted
-accepted-late limits state event report =
-    sym (lateRefusal-other _ _ (event .kind) (event .input) (report-forced limits (event .kind) report)
-    (report-manual limits (event .kind) report))
+accepted-late state event forced manual = sym (lateRefusal-other _ _ (event .kind) (event .input) forced manual)
 
 -- a choice is made after the event itself
 alike-atItsMoment : (input : ℕ) (one other : Selector) (event otherEvent : Recorded)
@@ -93,8 +89,8 @@ module _ (input : ℕ) (one other : Selector) (alike : AlikeButAt input one othe
   early-alike : (event : Event) (read : FrameRead) → earlyNumber other event read ≡ earlyNumber one event read
   early-alike event read =
       ap (λ (state : Selector). earlyNumber state event read) (alike .same) ∙
-      ap (λ (settings : Settings). earlyRefusal (limitsOf (one .profile)) (one .time) (settings .kind) event read)
-      (set-settings (one .inputs) input (alike .line) (alike .settings) (event .input))
+      ap (λ (shown : Shown). earlyRefusal (limitsOf (one .profile)) (one .time) (shown .kind) event read)
+      (set-shown (one .inputs) input (alike .line) (alike .shown) (event .input))
 
   -- once both have been ticked to the time of an event that comes now
   module _ (event : Event) (read : FrameRead) (none : earlyNumber one event read ≡ accepted) where
@@ -106,7 +102,7 @@ module _ (input : ℕ) (one other : Selector) (alike : AlikeButAt input one othe
     brought-off : Off input (ticked one (event .time) .inputs)
     brought-off =
         off-as input (one .inputs) (ticked one (event .time) .inputs)
-        (ticked-settings one calm (event .time) (not-before one event read calm none)
+        (ticked-shown one calm (event .time) (not-before one event read calm none)
         (not-never one event read calm none)
         input)
         off
@@ -116,7 +112,7 @@ module _ (input : ℕ) (one other : Selector) (alike : AlikeButAt input one othe
     late-alike =
         ap (λ (state : Selector). lateNumber state event) (brought-alike .same) ∙
         sym (lateRefusal-same _ _
-        (candidates-same input (brought-alike .line) (ticked one (event .time)) (brought-alike .settings) brought-off)
+        (candidates-same input (brought-alike .line) (ticked one (event .time)) (brought-alike .shown) brought-off)
         (ticked one (event .time) .switch)
         (event .kind)
         (event .input))
@@ -172,41 +168,91 @@ module _ (input : ℕ) (one other : Selector) (alike : AlikeButAt input one othe
           (subst (λ (state : Selector). AlikeButAt input (eventTaken (ticked one (event .time)) recorded)
           (eventTaken state (recordedEvent (state .profile) event read)))
           (sym (brought .same))
-          (taken-with input (brought .line) (ticked one (event .time)) (brought .settings) recorded
+          (taken-with input (brought .line) (ticked one (event .time)) (brought .shown) recorded
           (inside event read none)))
           (subst (λ (step : Stepped). Off input (step .state .inputs)) e after))
 
-  -- a report on that input in each, at the same time and accepted in both
-  pair-alike : (limits otherLimits : Limits) (event otherEvent : Event) (read otherRead : FrameRead)
-      → isReport limits (event .kind) ≡ true → isReport otherLimits (otherEvent .kind) ≡ true
-      → event .input ≡ input → otherEvent .input ≡ input
-      → event .time ≡ otherEvent .time
-      → stepRead one event read .number ≡ accepted → stepRead other otherEvent otherRead .number ≡ accepted
-      → Off input (stepRead one event read .state .inputs)
-      → AlikeButAt input (stepRead one event read .state) (stepRead other otherEvent otherRead .state)
-  pair-alike limits otherLimits event otherEvent read otherRead report otherReport on otherOn time number otherNumber
-      after =
-      let none = accepted-early one event read number in
-      let e = stepRead-taken one event read none (accepted-late limits (ticked one (event .time)) event report) in
-      let brought = brought-alike event read none in
-      let recorded : Recorded = recordedEvent (ticked one (event .time) .profile) event read in
-      alike-after input _ _ _ _
-      e
-      (stepRead-taken other otherEvent otherRead (accepted-early other otherEvent otherRead otherNumber)
-      (accepted-late otherLimits (ticked other (otherEvent .time)) otherEvent otherReport))
-      (alike-atItsMoment input (ticked one (event .time)) (ticked other (otherEvent .time)) recorded
-      (recordedEvent (ticked other (otherEvent .time) .profile) otherEvent otherRead)
-      (subst (λ (state : Selector). AlikeButAt input (eventTaken (ticked one (event .time)) recorded)
-      (eventTaken state (recordedEvent (state .profile) otherEvent otherRead)))
-      (sym (brought .same) ∙ ap (ticked other) time)
-      (reports-with input (brought .line) (ticked one (event .time)) (brought .settings) limits otherLimits recorded
-      (recordedEvent (ticked one (event .time) .profile) otherEvent otherRead)
-      report
-      otherReport
-      on
-      otherOn
-      (subst (λ (number : ℕ). number < length (ticked one (event .time) .inputs)) on (inside event read none))))
-      (subst (λ (step : Stepped). Off input (step .state .inputs)) e after))
+-- ---- one of a pair
+
+-- what the tick before an accepted event leaves
+module _ (input : ℕ) (limits : Limits) (state : Selector) (calm : Calm state) (given : Given)
+    (number : stepRead state (given .event) (readCode (given .frame)) .number ≡ accepted) where
+  abbrev event : Event
+  event = given .event
+
+  abbrev read : FrameRead
+  read = readCode (given .frame)
+
+  abbrev brought : Selector
+  brought = ticked state (event .time)
+
+  none : earlyNumber state event read ≡ accepted
+  none = accepted-early state event read number
+
+  -- and what an event leaves that is no switch
+  taken-state : (event .kind ≡ kindForced → ⊥) → (event .kind ≡ kindManual → ⊥)
+      → stepRead state event read .state ≡ atItsMoment brought (recordedEvent (brought .profile) event read)
+  taken-state forced manual =
+      ap (λ (step : Stepped). step .state)
+      (stepRead-taken state event read none (accepted-late brought event forced manual))
+
+  -- one on that input of which nothing shows
+  quiet-step : Quiet (event .kind) → event .input ≡ input → Off input (brought .inputs)
+      → AlikeButAt input brought (stepRead state event read .state)
+  unfolding atItsMoment
+  quiet-step quiet on off =
+      subst (AlikeButAt input brought) (sym (taken-state (quiet .forced) (quiet .manual)))
+      (subst
+      (λ (before : Selector). AlikeButAt input before
+      (decided (eventTaken brought (recordedEvent (brought .profile) event read))))
+      (calm-brought state event read calm none .chosen)
+      (alike-decided input brought (eventTaken brought (recordedEvent (brought .profile) event read))
+      (line-taken input brought (recordedEvent (brought .profile) event read) quiet on)
+      off))
+
+  -- a tick leaves the same
+  tick-step : event .kind ≡ kindTick → stepRead state event read .state ≡ brought
+  tick-step tick =
+      taken-state (λ e. omega arith) (λ e. omega arith) ∙
+      atItsMoment-tick brought (recordedEvent (brought .profile) event read) (calm-brought state event read calm none)
+      (brought-time state event read calm none)
+      tick
+      (omega (
+        arith,
+        accepted-input (limitsOf (state .profile)) (state .time) (kindAt (state .inputs) (event .input)) event read none,
+      ))
+
+  -- so each of a pair leaves what its tick leaves, but for that input
+  line-step : OnLine limits input given → Off input (brought .inputs)
+      → AlikeButAt input brought (stepRead state event read .state)
+  line-step (inl report) off = quiet-step (report-quiet limits (event .kind) (report .report)) (report .on) off
+  line-step (inr (inl command)) off = quiet-step (hidden-quiet (event .kind) (command .hidden)) (command .here) off
+  line-step (inr (inr tick)) off =
+      subst (AlikeButAt input brought) (sym (tick-step tick)) (alike-itself input brought)
+
+-- one of a pair in each, at the same time and accepted in both
+pair-alike : (input : ℕ) (limits otherLimits : Limits) (one other : Selector)
+    → AlikeButAt input one other → Off input (one .inputs) → Calm one → Calm other
+    → (given otherGiven : Given)
+    → OnLine limits input given
+    → OnLine otherLimits input otherGiven
+    → given .event .time ≡ otherGiven .event .time
+    → stepRead one (given .event) (readCode (given .frame)) .number ≡ accepted
+    → stepRead other (otherGiven .event) (readCode (otherGiven .frame)) .number ≡ accepted
+    → AlikeButAt input (stepRead one (given .event) (readCode (given .frame)) .state)
+    (stepRead other (otherGiven .event) (readCode (otherGiven .frame)) .state)
+pair-alike input limits otherLimits one other alike off calm otherCalm given otherGiven onLine otherOnLine time number
+    otherNumber =
+    let none = accepted-early one (given .event) (readCode (given .frame)) number in
+    let off' = brought-off input one other alike off calm otherCalm (given .event) (readCode (given .frame)) none in
+    let both : AlikeButAt input (ticked one (given .event .time)) (ticked other (otherGiven .event .time)) =
+    subst (λ (at : ℕ). AlikeButAt input (ticked one (given .event .time)) (ticked other at)) time
+    (brought-alike input one other alike off calm otherCalm (given .event) (readCode (given .frame)) none)
+    in
+    alike-on input _ (ticked one (given .event .time)) _
+    (alike-back input _ _ (line-step input limits one calm given number onLine off'))
+    (alike-on input _ (ticked other (otherGiven .event .time)) _ both
+    (line-step input otherLimits other otherCalm otherGiven otherNumber otherOnLine (alike-off input _ _ both off')))
 
 -- ---- any sequences of events
 
@@ -229,22 +275,11 @@ unfolding pastOf lastArgument
 off-now input (started profile) off = off-recorded input (started profile) refl
 off-now input (given following earlier) off = off-recorded input (given following earlier) (off .0)
 
--- a state is like itself
-alike-itself : (input : ℕ) (state : Selector) → AlikeButAt input state state
-alike-itself input state =
-    record {
-      line = getD (state .inputs) input freshInput;
-      settings = refl;
-      same =
-          sym (ap (λ (inputs : List Input). movedTo state inputs (state .time))
-          (set-getD (state .inputs) input freshInput));
-    }
-
--- the last event of each
+-- one event more of each, by the states before
 module _ (input : ℕ) (earlier otherEarlier : Sequence)
     (alike : AlikeButAt input (stateAfter earlier) (stateAfter otherEarlier))
     (off : Off input (stateAfter earlier .inputs)) where
-  equal-step : (given : Given) → Off input (stateAfter (given following earlier) .inputs)
+  pub equal-step : (given : Given) → Off input (stateAfter (given following earlier) .inputs)
       → AlikeButAt input (stateAfter (given following earlier)) (stateAfter (given following otherEarlier))
   unfolding stateAfter step
   equal-step given after =
@@ -254,29 +289,34 @@ module _ (input : ℕ) (earlier otherEarlier : Sequence)
       (readCode (given .frame))
       after
 
-  pair-step : (one other : Given) → Pair input one earlier other otherEarlier
-      → Off input (stateAfter (one following earlier) .inputs)
+  -- and the number of any that comes now
+  pub equal-number : (given : Given) → numberAfter given earlier ≡ numberAfter given otherEarlier
+  unfolding numberAfter step
+  equal-number given =
+      number-alike input (stateAfter earlier) (stateAfter otherEarlier) alike off (sequence-calm earlier)
+      (sequence-calm otherEarlier)
+      (given .event)
+      (readCode (given .frame))
+
+  pub pair-step : (one other : Given) → Pair input one earlier other otherEarlier
       → AlikeButAt input (stateAfter (one following earlier)) (stateAfter (other following otherEarlier))
   unfolding stateAfter numberAfter step
-  pair-step one other pair after =
-      pair-alike input (stateAfter earlier) (stateAfter otherEarlier) alike off (sequence-calm earlier)
+  pair-step one other pair =
+      pair-alike input (limitsOf (profileOf earlier)) (limitsOf (profileOf otherEarlier)) (stateAfter earlier)
+      (stateAfter otherEarlier)
+      alike
+      off
+      (sequence-calm earlier)
       (sequence-calm otherEarlier)
-      (limitsOf (profileOf earlier))
-      (limitsOf (profileOf otherEarlier))
-      (one .event)
-      (other .event)
-      (readCode (one .frame))
-      (readCode (other .frame))
-      (pair .report .report)
-      (pair .otherReport .report)
-      (pair .report .on)
-      (pair .otherReport .on)
+      one
+      other
+      (pair .inOne)
+      (pair .inOther)
       (pair .time)
       (pair .number)
       (pair .otherNumber)
-      after
 
--- the states after both differ in that input alone, and there in no setting
+-- the states after both differ in that input alone, and there in nothing that shows
 pub states-alike : (input : ℕ) (one other : Sequence) → EqualButFor input one other → OffThroughout input one
     → AlikeButAt input (stateAfter one) (stateAfter other)
 unfolding stateAfter
@@ -292,7 +332,6 @@ states-alike input _ _ (paired one other earlier otherEarlier pair before) off =
     one
     other
     pair
-    (off-now input (one following earlier) off)
 
 -- ---- the theorems
 
@@ -322,11 +361,7 @@ module _ (input : ℕ) (one other : Sequence) (equal : EqualButFor input one oth
 
   -- the number of any event that comes now
   pub number-equal : (given : Given) → numberAfter given one ≡ numberAfter given other
-  unfolding numberAfter step
-  number-equal given =
-      number-alike input (stateAfter one) (stateAfter other) states isOff (sequence-calm one) (sequence-calm other)
-      (given .event)
-      (readCode (given .frame))
+  number-equal = equal-number input one other states isOff
 
 -- after the last event of each
 pub nothing-shows : (input : ℕ) (one other : Given) (earlier otherEarlier : Sequence)

@@ -1,10 +1,11 @@
--- L14 of the station clock unit: what each selector has had of its own is equal but for that input, so the theorems of
--- one selector hold of both. Cites `half-right`, `happened` and `demand-1-events`; no step is opened. Assumes nothing.
-use Prim.Native.Nat.{ℕ}
+-- L14 of the station clock unit: each selector, after its own events, differs in that input alone. Cites `half-right`
+-- and `demand-1-events`; of a second tick at one time `twice-state`; no step is opened. Assumes nothing.
+use Prim.Native.Nat.{ℕ, _≤_}
 use mathlib.Core.Bool.{Bool, true, false, not, _&&_, _||_, cond}
 use mathlib.Core.List.{_∷_}
-use mathlib.Core.Logic.{⊎-elim}
+use mathlib.Core.Logic.{⊎-elim, inr}
 use mathlib.Core.Path.{_≡_, refl, sym, _∙_, ap, subst}
+use native.Mathlib.Omega.{arith}
 use lib.Dec.{eqb, ltb}
 use Rattle.numbers.specs.declared.Limits.{Limits}
 use Rattle.numbers.specs.declared.Profile.{Profile}
@@ -24,21 +25,22 @@ use Rattle.events.specs.Given.{Given, Sequence, tickAt}
 use Rattle.events.specs.Sequence.{stateAfter, numberAfter}
 use Rattle.events.specs.Past.{Past, pastOf, recorded}
 use Rattle.events.proofs.Demand1.{demand-1-events}
-use Rattle.events.proofs.Happened.{happened}
+use Rattle.events.proofs.Calm.{accepted-or-not, sequence-calm}
 use Rattle.unit.specs.declared.Half.{Half}
 use Rattle.unit.specs.declared.Half.the-variants as H
 use Rattle.unit.specs.declared.Unit.{Unit}
-use Rattle.unit.specs.Unit.{Addressed, UnitSequence, isReport, goesToBoth, goesTo, isFor, timeIn, tickFirst, ownEvents, ownNumber}
+use Rattle.unit.specs.Unit.{Addressed, UnitSequence, goesTo, isFor, timeIn, tickFirst, ownEvents, ownNumber, timeNumber}
 use Rattle.unit.specs.Kept.{isSquelched, sourceOf}
 use Rattle.unit.specs.Sequence.{Telling, unitAfter, halfAfter, halfNumber, tellingOf, tellings, stationOutput, outputs}
 use Rattle.unit.specs.Claims.{addressedTo, SentAlike}
 use Rattle.unit.proofs.Runs.{goes-alike}
-use Rattle.unit.proofs.Halves.{withOwn, numberWith, own-profile, half-number-with, minimum-after, half-right}
-use Rattle.undertest.specs.UnderTest as Single
-use Rattle.undertest.specs.UnderTest.{ReportOn, Pair, EqualButFor, OffThroughout}
-use Rattle.undertest.specs.UnitUnderTest.{UnitPair, UnitsEqualButFor, begun, equal, paired, OffInBoth, switches, NothingShowsOfUnit}
-use Rattle.undertest.proofs.Alike.{AlikeButAt}
-use Rattle.undertest.proofs.UnderTest.{states-alike, answers-equal, switches-equal, codes-equal, words-equal, number-equal}
+use Rattle.unit.proofs.Halves.{withOwn, numberWith, own-following, own-profile, half-number-with, minimum-after, half-right}
+use Rattle.unit.proofs.Ticks.{timeAfter, tick-number, twice-state, untimely-refused}
+use Rattle.undertest.specs.UnderTest.{OnLine, OffThroughout}
+use Rattle.undertest.specs.UnitUnderTest.{UnitsEqualButFor, begun, equal, paired, OffInBoth, switches, NothingShowsOfUnit}
+use Rattle.undertest.proofs.Alike.{Off, AlikeButAt, alike-itself, alike-back, alike-on, alike-off}
+use Rattle.undertest.proofs.Shown.{answer-alike, switch-alike, codes-alike, words-alike}
+use Rattle.undertest.proofs.UnderTest.{off-now, equal-step, equal-number, pair-step}
 
 -- ---- an input that is off is off in own events
 
@@ -86,7 +88,7 @@ own-off input half (addressed following earlier) off =
     off-with input (isFor half addressed earlier) (addressed .given) (ownEvents half earlier) (off .0 half)
     (own-off input half earlier (off .1))
 
--- ---- own events are equal but for that input
+-- ---- each selector differs in that input alone
 
 units-profile : (input : ℕ) (one other : UnitSequence) → UnitsEqualButFor input one other
     → profileOf one ≡ profileOf other
@@ -105,105 +107,142 @@ goes-same half given to toOther one other alike profile =
     goes-alike (profileOf one) given to toOther half alike ∙
     ap (λ (start : Profile). goesTo (limitsOf start) (given .event .kind) toOther half) profile
 
--- a report goes to both selectors
-report-goes : (limits : Limits) (kind : ℕ) (to half : Half) → isReport limits kind ≡ true
-    → goesTo limits kind to half ≡ true
-unfolding goesTo goesToBoth
-report-goes limits kind to half report = rw report
+-- what one selector is after its own events
+abbrev ownState : Half → UnitSequence → Selector
+ownState half sequence = stateAfter (ownEvents half sequence)
 
-module _ (input : ℕ) (own otherOwn : Sequence) (before : EqualButFor input own otherOwn) where
+own-state : (half : Half) (addressed : Addressed) (earlier : UnitSequence)
+    → ownState half (addressed following earlier) ≡
+    stateAfter (withOwn (isFor half addressed earlier) (addressed .given) (ownEvents half earlier))
+own-state half addressed earlier = ap stateAfter (own-following half addressed earlier)
+
+-- the same event of the unit, by the states before
+module _ (input : ℕ) (own otherOwn : Sequence) (alike : AlikeButAt input (stateAfter own) (stateAfter otherOwn))
+    (off : OffThroughout input own) where
   -- the tick of both
-  ticks-equal : (time : ℕ) → EqualButFor input (tickAt time following own) (tickAt time following otherOwn)
-  ticks-equal time = Single.equal (tickAt time) own otherOwn before
+  ticks-alike : (time : ℕ)
+      → AlikeButAt input (stateAfter (tickAt time following own)) (stateAfter (tickAt time following otherOwn))
+  ticks-alike time =
+      equal-step input own otherOwn alike (off-now input own off) (tickAt time)
+      (off-now input (tickAt time following own) (off-tick input time own off))
 
   -- the same event, or its tick alone
-  with-equal : (goes : Bool) (given : Given) → EqualButFor input (withOwn goes given own) (withOwn goes given otherOwn)
-  with-equal true given = Single.equal given _ _ (ticks-equal (given .event .time))
-  with-equal false given = ticks-equal (given .event .time)
+  with-alike : (goes : Bool) (given : Given) → OffThroughout input (withOwn goes given own)
+      → AlikeButAt input (stateAfter (withOwn goes given own)) (stateAfter (withOwn goes given otherOwn))
+  with-alike true given after =
+      equal-step input _ _ (ticks-alike (given .event .time)) (off-now input _ (after .1)) given (off-now input _ after)
+  with-alike false given after = ticks-alike (given .event .time)
 
--- a report that a selector accepts
-module _ (half : Half) (addressed : Addressed) (earlier : UnitSequence) (input : ℕ)
-    (report : ReportOn (limitsOf (profileOf earlier)) input (addressed .given))
-    (number : ownNumber half addressed earlier ≡ accepted) where
-  abbrev first : Sequence
-  first = tickFirst addressed (ownEvents half earlier)
+-- one of a pair, which a selector accepts after its tick, leaves what that tick leaves, but for that input
+module _ (input : ℕ) (limits : Limits) (given : Given) (own : Sequence) (onLine : OnLine limits input given)
+    (profile : limits ≡ limitsOf (profileOf own)) where
+  abbrev ticked : Sequence
+  ticked = tickAt (given .event .time) following own
 
-  report-for : isFor half addressed earlier ≡ true
-  report-for =
-      report-goes (limitsOf (profileOf earlier)) (addressed .given .event .kind) (addressed .to) half (report .report)
+  -- the time of an event that is accepted passes, so its tick is accepted again
+  tick-accepted : numberAfter given ticked ≡ accepted → numberAfter (tickAt (given .event .time)) ticked ≡ accepted
+  tick-accepted number =
+      tick-number ticked (given .event .time) ∙
+      accepted-or-not (timeNumber (timeAfter ticked) (given .event .time))
+      (λ passes. passes)
+      (λ refused.
+      let least : 1 ≤ numberAfter given ticked = untimely-refused ticked given refused .least in
+      absurd (omega arith))
 
-  report-own : ReportOn (limitsOf (profileOf first)) input (addressed .given)
-  report-own =
-      subst (λ (profile : Profile). ReportOn (limitsOf profile) input (addressed .given))
-      (sym (own-profile half earlier))
-      report
+  line-own : (goes : Bool) → Off input (stateAfter ticked .inputs) → numberWith goes given own ≡ accepted
+      → AlikeButAt input (stateAfter ticked) (stateAfter (withOwn goes given own))
+  line-own true off number =
+      subst (λ (before : Selector). AlikeButAt input before (stateAfter (given following ticked)))
+      (twice-state own (given .event .time))
+      (pair-step input ticked ticked (alike-itself input (stateAfter ticked)) off (tickAt (given .event .time)) given
+      (record {
+        inOne = inr (inr refl);
+        inOther = subst (λ (limits : Limits). OnLine limits input given) profile onLine;
+        time = refl;
+        number = tick-accepted number;
+        otherNumber = number;
+      }))
+  line-own false off number = alike-itself input (stateAfter ticked)
 
-  -- is accepted after its tick
-  report-accepted : numberAfter (addressed .given) first ≡ accepted
-  unfolding ownNumber
-  report-accepted = happened first .number (addressed .given) ∙ (rw report-for at number)
+-- the number of each of a pair, as one selector answers it after its own events
+own-accepted : (half : Half) (addressed : Addressed) (earlier : UnitSequence)
+    → ownNumber half addressed earlier ≡ accepted
+    → numberWith (isFor half addressed earlier) (addressed .given) (ownEvents half earlier) ≡ accepted
+own-accepted half addressed earlier number =
+    sym (half-number-with (quality 1) half addressed earlier) ∙
+    half-right (quality 1) half earlier .number addressed ∙
+    number
 
--- a pair of the unit is a pair of each selector, after the tick of both
-module _ (input : ℕ) (half : Half) (one : Addressed) (earlier : UnitSequence)
-    (other : Addressed) (otherEarlier : UnitSequence) (pair : UnitPair input one earlier other otherEarlier) where
-  own-pair : Pair input (one .given) (tickFirst one (ownEvents half earlier)) (other .given)
-      (tickFirst other (ownEvents half otherEarlier))
-  own-pair =
-      record {
-        report = report-own half one earlier input (pair .report) (pair .number half);
-        otherReport = report-own half other otherEarlier input (pair .otherReport) (pair .otherNumber half);
-        time = pair .time;
-        number = report-accepted half one earlier input (pair .report) (pair .number half);
-        otherNumber = report-accepted half other otherEarlier input (pair .otherReport) (pair .otherNumber half);
-      }
+line-half : (input : ℕ) (half : Half) (addressed : Addressed) (earlier : UnitSequence)
+    → OnLine (limitsOf (profileOf earlier)) input (addressed .given)
+    → ownNumber half addressed earlier ≡ accepted
+    → Off input (stateAfter (tickFirst addressed (ownEvents half earlier)) .inputs)
+    → AlikeButAt input (stateAfter (tickFirst addressed (ownEvents half earlier)))
+    (ownState half (addressed following earlier))
+line-half input half addressed earlier onLine number off =
+    subst (AlikeButAt input (stateAfter (tickFirst addressed (ownEvents half earlier))))
+    (sym (own-state half addressed earlier))
+    (line-own input (limitsOf (profileOf earlier)) (addressed .given) (ownEvents half earlier) onLine
+    (ap limitsOf (sym (own-profile half earlier)))
+    (isFor half addressed earlier)
+    off
+    (own-accepted half addressed earlier number))
 
-  pair-equal : EqualButFor input (ownEvents half earlier) (ownEvents half otherEarlier)
-      → EqualButFor input (ownEvents half (one following earlier)) (ownEvents half (other following otherEarlier))
-  unfolding ownEvents
-  pair-equal before =
-      rw (
-        report-for half one earlier input (pair .report) (pair .number half),
-        report-for half other otherEarlier input (pair .otherReport) (pair .otherNumber half),
-      )
-      (Single.paired (one .given) (other .given) _ _ own-pair
-      (subst
-      (λ (time : ℕ). EqualButFor input (tickFirst one (ownEvents half earlier))
-      (tickAt time following ownEvents half otherEarlier))
-      (pair .time)
-      (ticks-equal input _ _ before (timeIn one))))
-
-own-equal : (input : ℕ) (half : Half) (one other : UnitSequence) → UnitsEqualButFor input one other
-    → EqualButFor input (ownEvents half one) (ownEvents half other)
+halves-alike : (input : ℕ) (half : Half) (one other : UnitSequence) → UnitsEqualButFor input one other
+    → OffInBoth input one
+    → AlikeButAt input (ownState half one) (ownState half other)
 unfolding ownEvents
-own-equal input half _ _ (begun profile) = Single.begun profile
-own-equal input half _ _ (equal given to toOther earlier otherEarlier alike before) =
+halves-alike input half _ _ (begun profile) off = alike-itself input (stateAfter (started profile))
+halves-alike input half _ _ (equal given to toOther earlier otherEarlier alike before) off =
     subst
-    (λ (goes : Bool). EqualButFor input
-    (withOwn (isFor half (addressedTo to given) earlier) given (ownEvents half earlier))
-    (withOwn goes given (ownEvents half otherEarlier)))
+    (λ (goes : Bool). AlikeButAt input
+    (stateAfter (withOwn (isFor half (addressedTo to given) earlier) given (ownEvents half earlier)))
+    (stateAfter (withOwn goes given (ownEvents half otherEarlier))))
     (goes-same half given to toOther earlier otherEarlier alike (units-profile input earlier otherEarlier before))
-    (with-equal input _ _ (own-equal input half earlier otherEarlier before) (isFor half (addressedTo to given) earlier)
-    given)
-own-equal input half _ _ (paired one other earlier otherEarlier pair before) =
-    pair-equal input half one earlier other otherEarlier pair (own-equal input half earlier otherEarlier before)
+    (with-alike input _ _ (halves-alike input half earlier otherEarlier before (off .1))
+    (own-off input half earlier (off .1))
+    (isFor half (addressedTo to given) earlier)
+    given
+    (own-off input half (addressedTo to given following earlier) off))
+halves-alike input half _ _ (paired one other earlier otherEarlier pair before) off =
+    let time = timeIn one in
+    let own = ownEvents half earlier in
+    let ownOff = own-off input half earlier (off .1) in
+    let tickOff = off-now input (tickAt time following own) (off-tick input time own ownOff) in
+    let both : AlikeButAt input (stateAfter (tickFirst one own)) (stateAfter (tickFirst other (ownEvents half otherEarlier))) =
+    subst
+    (λ (at : ℕ). AlikeButAt input (stateAfter (tickFirst one own))
+    (stateAfter (tickAt at following ownEvents half otherEarlier)))
+    (pair .time)
+    (ticks-alike input own (ownEvents half otherEarlier) (halves-alike input half earlier otherEarlier before (off .1))
+    ownOff
+    time)
+    in
+    alike-on input _ (stateAfter (tickFirst one own)) _
+    (alike-back input _ _ (line-half input half one earlier (pair .inOne) (pair .number half) tickOff))
+    (alike-on input _ (stateAfter (tickFirst other (ownEvents half otherEarlier))) _ both
+    (line-half input half other otherEarlier (pair .inOther) (pair .otherNumber half)
+    (alike-off input _ _ both tickOff)))
 
 -- ---- what each selector answers
 
-module _ (input : ℕ) (own otherOwn : Sequence) (butFor : EqualButFor input own otherOwn)
+module _ (input : ℕ) (own otherOwn : Sequence) (alike : AlikeButAt input (stateAfter own) (stateAfter otherOwn))
     (off : OffThroughout input own) where
   -- the number of the same event, or of its tick alone
   numbers-with : (goes : Bool) (given : Given) → numberWith goes given own ≡ numberWith goes given otherOwn
   numbers-with true given =
       let time = given .event .time in
-      number-equal input _ _ (ticks-equal input own otherOwn butFor time) (off-tick input time own off) given
-  numbers-with false given = number-equal input own otherOwn butFor off (tickAt (given .event .time))
+      equal-number input _ _ (ticks-alike input own otherOwn alike off time)
+      (off-now input _ (off-tick input time own off))
+      given
+  numbers-with false given = equal-number input own otherOwn alike (off-now input own off) (tickAt (given .event .time))
 
   telling-equal : (number : ℕ) → tellingOf number (stateAfter own) ≡ tellingOf number (stateAfter otherOwn)
   telling-equal number = λ j.
       record {
-        answer = answers-equal input own otherOwn butFor off number j;
-        codes = codes-equal input own otherOwn butFor off j;
-        words = words-equal input own otherOwn butFor off j;
+        answer = answer-alike input _ _ alike (off-now input own off) (sequence-calm own) number j;
+        codes = codes-alike input _ _ alike (off-now input own off) (sequence-calm own) j;
+        words = words-alike input _ _ alike (off-now input own off) (sequence-calm own) j;
       }
 
 module _ (minimum : Quality) (input : ℕ) (half : Half) where
@@ -213,7 +252,7 @@ module _ (minimum : Quality) (input : ℕ) (half : Half) where
       → halfNumber minimum half one earlier ≡ halfNumber minimum half other otherEarlier
   half-numbers (equal given to toOther earlier otherEarlier alike before) off =
       half-number-with minimum half (addressedTo to given) earlier ∙
-      numbers-with input _ _ (own-equal input half earlier otherEarlier before) (own-off input half earlier off)
+      numbers-with input _ _ (halves-alike input half earlier otherEarlier before off) (own-off input half earlier off)
       (isFor half (addressedTo to given) earlier)
       given ∙
       ap (λ (goes : Bool). numberWith goes given (ownEvents half otherEarlier))
@@ -231,13 +270,15 @@ module _ (minimum : Quality) (input : ℕ) (half : Half) where
         → tellingOf number (halfAfter minimum half one) ≡ tellingOf number (halfAfter minimum half other)
     half-telling number =
         ap (tellingOf number) (half-right minimum half one .state) ∙
-        telling-equal input _ _ (own-equal input half one other butFor) (own-off input half one off) number ∙
+        telling-equal input _ _ (halves-alike input half one other butFor off) (own-off input half one off) number ∙
         sym (ap (tellingOf number) (half-right minimum half other .state))
 
     half-switch : halfAfter minimum half one .switch ≡ halfAfter minimum half other .switch
     half-switch =
         ap (λ (state : Selector). state .switch) (half-right minimum half one .state) ∙
-        switches-equal input _ _ (own-equal input half one other butFor) (own-off input half one off) ∙
+        switch-alike input _ _ (halves-alike input half one other butFor off)
+        (off-now input (ownEvents half one) (own-off input half one off))
+        (sequence-calm (ownEvents half one)) ∙
         sym (ap (λ (state : Selector). state .switch) (half-right minimum half other .state))
 
 -- ---- what the station output sends
@@ -263,8 +304,7 @@ module _ (minimum : Quality) (input : ℕ) (one other : UnitSequence) (butFor : 
     (off : OffInBoth input one) where
   -- the two station selectors differ in that input alone
   stations-alike : AlikeButAt input (stateAfter (ownEvents H.Station one)) (stateAfter (ownEvents H.Station other))
-  stations-alike =
-      states-alike input _ _ (own-equal input H.Station one other butFor) (own-off input H.Station one off)
+  stations-alike = halves-alike input H.Station one other butFor off
 
   -- what is the same of both is the same of the units' stations
   station-kept : {A : Type 0} (kept : Selector → A)

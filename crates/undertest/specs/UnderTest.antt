@@ -1,11 +1,14 @@
 -- Document 02, L14: "A line under test must not matter. Technicians connect test sets to inputs that are off."
 -- Assumes nothing.
 use Prim.Native.Nat.{ℕ}
-use mathlib.Core.Bool.{true}
+use mathlib.Core.Bool.{Bool, true, _||_}
+use mathlib.Core.Logic.{_⊎_}
 use mathlib.Core.Path.{_≡_}
+use lib.Dec.{eqb}
 use Rattle.numbers.specs.declared.Limits.{Limits}
 use Rattle.numbers.specs.declared.Profile.{Profile}
 use Rattle.numbers.specs.From.{started, _following_, profileOf}
+use Rattle.numbers.specs.Kind.{kindLockout, kindHoldoff, kindWait, kindFixedQuality, kindClearWait, kindFloor, kindTick}
 use Rattle.numbers.specs.Profile.{limitsOf}
 use Rattle.numbers.specs.Refusal.{accepted}
 use Rattle.input.specs.Recorded.{priorityOf}
@@ -19,11 +22,29 @@ pub record ReportOn (limits : Limits) (input : ℕ) (given : Given) : Type 0 whe
   pub report : isReport limits (given .event .kind) ≡ true
   pub on : given .event .input ≡ input
 
+-- a command that sets nothing that shows of an input that is off: lockout, hold-off, wait, fixed quality, clear wait and
+-- floor; the priority is what puts it off, and sending shows in the codes
+abbrev pub isHidden : ℕ → Bool
+isHidden kind =
+    eqb kind kindLockout || eqb kind kindHoldoff || eqb kind kindWait || eqb kind kindFixedQuality ||
+    eqb kind kindClearWait || eqb kind kindFloor
+
+-- beyond the sentence: such a command on that input
+pub record HiddenCommandOn (input : ℕ) (given : Given) : Type 0 where
+  pub hidden : isHidden (given .event .kind) ≡ true
+  pub here : given .event .input ≡ input
+
+-- one of a pair: a report on that input, or such a command; or neither, and a tick stands in its place, "of the same
+-- length"
+abbrev pub OnLine : Limits → ℕ → Given → Type 0
+OnLine limits input given =
+    ReportOn limits input given ⊎ HiddenCommandOn input given ⊎ (given .event .kind ≡ kindTick)
+
 -- two such events, each after a sequence of its own: "each pair at the same time and accepted in both"; they may be of
 -- two kinds
 pub record Pair (input : ℕ) (one : Given) (earlier : Sequence) (other : Given) (otherEarlier : Sequence) : Type 0 where
-  pub report : ReportOn (limitsOf (profileOf earlier)) input one
-  pub otherReport : ReportOn (limitsOf (profileOf otherEarlier)) input other
+  pub inOne : OnLine (limitsOf (profileOf earlier)) input one
+  pub inOther : OnLine (limitsOf (profileOf otherEarlier)) input other
   pub time : one .event .time ≡ other .event .time
   pub number : numberAfter one earlier ≡ accepted
   pub otherNumber : numberAfter other otherEarlier ≡ accepted

@@ -15,15 +15,16 @@ use Rattle.unit.specs.declared.Half.{Half}
 use Rattle.unit.specs.Unit.{Addressed, UnitSequence, timeIn, ownPast, ownNumber}
 use Rattle.unit.specs.Sequence.{halfAfter, tellings, outputs}
 use Rattle.unit.specs.Claims.{addressedTo, SentAlike}
-use Rattle.undertest.specs.UnderTest.{ReportOn}
+use Rattle.undertest.specs.UnderTest.{OnLine}
 
 -- two reports on that input, which go to both selectors, each after a sequence of its own: "each pair at the same time
--- and accepted in both", by both selectors; they may be of two kinds
+-- and accepted in both", by both selectors; they may be of two kinds. Or a command of which nothing shows, which the
+-- other selector has as a tick, or a tick, as of one selector
 pub record UnitPair
     (input : ℕ) (one : Addressed) (earlier : UnitSequence) (other : Addressed) (otherEarlier : UnitSequence)
     : Type 0 where
-  pub report : ReportOn (limitsOf (profileOf earlier)) input (one .given)
-  pub otherReport : ReportOn (limitsOf (profileOf otherEarlier)) input (other .given)
+  pub inOne : OnLine (limitsOf (profileOf earlier)) input (one .given)
+  pub inOther : OnLine (limitsOf (profileOf otherEarlier)) input (other .given)
   pub time : timeIn one ≡ timeIn other
   pub number : (half : Half) → ownNumber half one earlier ≡ accepted
   pub otherNumber : (half : Half) → ownNumber half other otherEarlier ≡ accepted

@@ -21,6 +21,7 @@ use Rattle.due.specs.Served.{ticked}
 use Rattle.due.proofs.Right.{ticked-twice}
 use Rattle.events.specs.Refusals.{isWrongKind}
 use Rattle.events.specs.Given.{Given, Sequence, tickAt}
+use Rattle.events.specs.Step.{step}
 use Rattle.events.specs.Sequence.{stateAfter, numberAfter}
 use Rattle.events.specs.Past.{Past, earlyBy, lateBy, numberBy, pastOf, recorded}
 use Rattle.events.specs.Demand1.{rowsOf, OneToThirteen}
@@ -124,6 +125,16 @@ module _ (past : Past) (given : Given) where
 abbrev pub timeAfter : Sequence → ℕ
 timeAfter own = timeOf (recorded own)
 
+-- an event is answered, and leaves what it leaves, by the state alone
+module _ (given : Given) (own other : Sequence) (same : stateAfter own ≡ stateAfter other) where
+  pub state-as : stateAfter (given following own) ≡ stateAfter (given following other)
+  unfolding stateAfter
+  state-as = ap (λ (state : Selector). step state (given .event) (given .frame) .state) same
+
+  pub number-as : numberAfter given own ≡ numberAfter given other
+  unfolding numberAfter
+  number-as = ap (λ (state : Selector). step state (given .event) (given .frame) .number) same
+
 module _ (own : Sequence) (time : ℕ) where
   pub tick-number : numberAfter (tickAt time) own ≡ timeNumber (timeAfter own) time
   tick-number = happened own .number (tickAt time) ∙ numberBy-tick (pastOf own) time
@@ -160,6 +171,26 @@ module _ (own : Sequence) (time : ℕ) where
       ap (λ (state : Selector). ticked state time) once ∙
       ticked-twice (stateAfter own) time time (sequence-calm own) later (omega arith) (omega arith) ∙
       sym once
+
+  -- whether its time passes or not
+  pub twice-state :
+      stateAfter (tickAt time following tickAt time following own) ≡ stateAfter (tickAt time following own)
+  twice-state =
+      accepted-or-not (timeNumber (timeAfter own) time)
+      tick-again
+      (λ refused. state-as (tickAt time) (tickAt time following own) own (tick-keeps refused))
+
+  -- and is answered as the first
+  pub twice-number : numberAfter (tickAt time) (tickAt time following own) ≡ numberAfter (tickAt time) own
+  twice-number =
+      happened (tickAt time following own) .number (tickAt time) ∙
+      numberBy-tick (pastOf (tickAt time following own)) time ∙
+      accepted-or-not (timeNumber (timeAfter own) time)
+      (λ passes. ap (λ (at : ℕ). timeNumber at time) (tick-passes passes) ∙
+      timeNumber-again (timeAfter own) time passes ∙
+      sym passes)
+      (λ refused. ap (λ (past : Past). timeNumber (timeOf (past .history)) time) (tick-keeps-past refused)) ∙
+      sym tick-number
 
 module _ (own : Sequence) (given : Given) where
   abbrev passing : ℕ

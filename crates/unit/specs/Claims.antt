@@ -15,7 +15,7 @@ use Rattle.choice.specs.Choice.{selected}
 use Rattle.choice.specs.Rank.{rankOf}
 use Rattle.selector.specs.declared.Selector.{Selector}
 use Rattle.selector.specs.Clock.{noInput}
-use Rattle.events.specs.Given.{Given, Sequence}
+use Rattle.events.specs.Given.{Given, Sequence, tickAt}
 use Rattle.events.specs.Sequence.{stateAfter}
 use Rattle.events.specs.Past.{decidedBy}
 use Rattle.events.specs.Demand1.{Demand1, OneToThirteen, FourteenToSeventeen}
@@ -123,12 +123,19 @@ abbrev pub otherHalf : Half → Half
 otherHalf H.Equipment = H.Station
 otherHalf H.Station = H.Equipment
 
--- two commands to one selector, at one time
+-- a command to one selector
+pub record CommandTo (half : Half) (profile : Profile) (addressed : Addressed) : Type 0 where
+  pub to : addressed .to ≡ half
+  pub command : goesToBoth (limitsOf profile) (addressed .given .event .kind) ≡ false
+
+-- a command to one selector, or none in that run: "of equal length", a tick of that time stands in its place
+abbrev pub CommandOrNone : Half → Profile → Addressed → Type 0
+CommandOrNone half profile addressed = CommandTo half profile addressed ⊎ (addressed .given ≡ tickAt (timeIn addressed))
+
+-- what the two runs have of commands to one selector, at one time
 pub record TwoCommands (half : Half) (profile : Profile) (one two : Addressed) : Type 0 where
-  pub toOne : one .to ≡ half
-  pub toTwo : two .to ≡ half
-  pub commandOne : goesToBoth (limitsOf profile) (one .given .event .kind) ≡ false
-  pub commandTwo : goesToBoth (limitsOf profile) (two .given .event .kind) ≡ false
+  pub inOne : CommandOrNone half profile one
+  pub inTwo : CommandOrNone half profile two
   pub times : timeIn one ≡ timeIn two
 
 -- an event with the selector that it is for where it is a command
@@ -149,9 +156,10 @@ pub data DifferOnlyIn (half : Half) : UnitSequence → UnitSequence → Type 0 w
       → DifferOnlyIn half one two
       → DifferOnlyIn half (first following one) (second following two)
 
--- "the other's answers are equal", after every event; so are its codes and words, and the output of the station's
+-- "the other's answers are equal", after every event; so are its codes and words, the output of the station's, and the
+-- whole selector
 pub record SameOf (minimum : Quality) (half : Half) (one two : UnitSequence) : Type 0 where
-  pub events : ownEvents half one ≡ ownEvents half two
+  pub state : halfAfter minimum half one ≡ halfAfter minimum half two
   pub told : tellings minimum half one ≡ tellings minimum half two
   pub output : half ≡ H.Station → outputs minimum one ≡ outputs minimum two
 
