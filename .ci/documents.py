@@ -6,7 +6,7 @@ import sys
 
 os.chdir(os.path.dirname(os.path.dirname(os.path.abspath(__file__))))
 CRATES = sorted(os.path.basename(os.path.dirname(path)) for path in glob.glob("crates/*/src"))
-MUST_FAIL, FURTHER, WRONG_ANSWERS = "crates/{}/must-fail", "tests/further-edits/{}", "tests/wrong-answers/{}"
+MUST_FAIL, FURTHER, WRONG_ANSWERS = "crates/{}/must-fail", "tests/edits/further-edits/{}", "tests/edits/wrong-answers/{}"
 
 
 def read(path):

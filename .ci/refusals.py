@@ -1,6 +1,6 @@
 """Why the prover refuses an edit, by its first error: a fact that no longer holds, or the edit's own shape, which shows nothing of the
-sentence that it is to break. The one home of these patterns: the gate's (.ci/more/refusals) and those of tests/try-wrong-answers and
-tests/try-further-edits."""
+sentence that it is to break. The one home of these patterns: the gate's (.ci/more/refusals) and those of tests/edits/try-wrong-answers and
+tests/edits/try-further-edits."""
 import glob
 import re
 

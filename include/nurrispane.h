@@ -1,14 +1,15 @@
 /*
  * The clock selector of a timing card, for C firmware.
  *
- * The firmware holds the selector's whole state as one plain struct and makes one call for each
- * event; its senders, one a port, are another, with one call for each question whether a frame is
- * to be sent. What each function does with any card, senders, event, frame and buffer is proved of
- * its code (crates/card, crates/sender); the library itself is what `rt staticlib card` writes,
- * libcard.a, and for Arm what `tools/card-for-arm` does. Words and numbers are those of documents 01
- * and 02. docs/FIRMWARE.md says what to do at a reboot, when the time jumps, in an interrupt and
- * with two cards. The station clock unit of document 02, L13, two cards with one time, is in a library
- * of its own: "The unit", below.
+ * The firmware holds the selector's whole state as one plain struct of arrays and makes one call for
+ * each event, which changes them in place; its senders, one a port, are others, with one call for each
+ * question whether a frame is to be sent. The functions with the usual names are below, `static inline`:
+ * each hands the arrays to one of the library's, whose name has _in behind it. What each of these does with
+ * any arrays, event, frame and buffer is proved of its code (crates/card, crates/sender); the library
+ * itself is what `rt staticlib card` writes, libcard.a, and for Arm what `tools/card-for-arm`
+ * does. Words and numbers are those of documents 01 and 02. docs/FIRMWARE.md says what to do at a reboot,
+ * when the time jumps, in an interrupt and with two cards. The station clock unit of document 02, L13, two
+ * cards with one time, is in a library of its own: "The unit", below.
  *
  *     #include "nurrispane.h"
  *     void clock_follow(uint8_t input);
@@ -26,8 +27,8 @@
  *     static void after_event(void)
  *     {
  *         uint64_t due = nurrispane_next_due(&card);
- *         if (card.answer.clock_state == NURRISPANE_LOCKED) {
- *             clock_follow(card.answer.selected);
+ *         if (nurrispane_clock_state(&card) == NURRISPANE_LOCKED) {
+ *             clock_follow(nurrispane_selected(&card));
  *         } else {
  *             clock_hold();
  *         }
@@ -79,23 +80,24 @@
  * A fresh input is a line, off, and its signal failing: an input that is to be followed gets its kind,
  * its priority and its signal. on_timer() is to be called at the time that timer_at() was last given: what
  * is next due, or the next look at the senders, which no event puts off.
- * tests/examples takes the lines above out, compiles them and runs them.
+ * tests/firmware/examples takes the lines above out, compiles them and runs them.
  *
  * What C owes
  *
  * - The card. Start from nurrispane_fresh(), and lend to each call the card that the last one left,
- *   unchanged but for `answer` and `served`, which no function reads. Then the card is the selector
- *   after those events, and all that is proved of the selector holds of it. A card is plain data
- *   with no pointer in it: copy it, keep it, send it to a standby card of the same byte order, go
- *   back to an older copy. A card that was filled in any other way is safe too: every field is a
- *   plain number and every value of it is answered for, but the answers may be wrong. Whatever came
- *   in, `answer.selected` and `answer.switch_input` are 0 to 15 or NURRISPANE_NO_INPUT, 255, after a
- *   step, `clock_state` and `switch_kind` 0 to 2: firmware may index by these, and by an input once it
- *   has tested that it is not NURRISPANE_NO_INPUT. A start that is refused leaves a card of noise as it
- *   was but for `answer.number` and `served`; a step that is refused leaves answers in range.
+ *   unchanged. Then the card is the selector after those events, and all that is proved of the selector
+ *   holds of it. A card is plain data with no pointer in it: copy it, keep it, send it to a standby card
+ *   of the same byte order, go back to an older copy. A card that was filled in any other way is safe too:
+ *   it is plain numbers and every value of them is answered for, but the answers may be wrong. Whatever
+ *   came in, nurrispane_selected() and nurrispane_switch_input() are 0 to 15 or NURRISPANE_NO_INPUT, 255,
+ *   after a step, nurrispane_clock_state() and nurrispane_switch_kind() 0 to 2: firmware may index by
+ *   these, and by an input once it has tested that it is not NURRISPANE_NO_INPUT. A start that is refused
+ *   leaves a card of noise as it was but for the number and the count; a step that is refused leaves
+ *   answers in range. The version stands in the card, so that what is kept carries it.
  * - The senders. Likewise from nurrispane_fresh_senders() on, each call handing on what the last
  *   one left, unchanged but for `number` and `frame`, which no function reads. They stand beside
- *   the card and hold nothing of it: a question brings the card, and takes its state as it is.
+ *   the card and hold nothing of it: a question brings the card, and takes its state as it is. A question
+ *   touches the sender of its port alone.
  * - Pointers. One to a struct may not be NULL. One to octets may where its length is 0, and
  *   NURRISPANE_NO_FRAME is there for those who want none. Each must be good for as many octets as the
  *   length says, and one to a struct for the struct; a frame for a frame event alone, as no other
@@ -109,24 +111,26 @@
  *   event first serves, in time order, whatever became due since the last one: the end of a
  *   hold-off, of a wait or of a frame's five seconds. Send NURRISPANE_EVENT_TICK when these are to be
  *   noticed without an event, at the time that nurrispane_next_due() says; further ticks change no
- *   later answer. `served` in the card says how many due moments the last event's tick served: never
- *   more than 48, which bounds the time that a call takes. Before the card's `due` an event that tells
- *   its input nothing new, or is refused, takes a small part of it.
+ *   later answer. nurrispane_served() says how many due moments the last event's tick served: never
+ *   more than 48, which bounds the time that a call takes; nurrispane_tick_part() serves fewer in a call.
+ *   Before what is due an event that tells its input nothing new, or is refused, takes a small part of it.
  * - The machine. libcard.a is for x86-64 with the System V calling convention, its red zone and its
  *   SSE2 registers included; docs/BENCHMARKS.md has its size, and that of those for Arm. There and on
  *   aarch64 and armv7 it needs memcpy, memmove and memset. On a Cortex-M it needs these by the names of
- *   Arm's convention, __aeabi_memcpy, __aeabi_memcpy4, __aeabi_memcpy8, __aeabi_memmove, __aeabi_memclr and
- *   __aeabi_memclr4, and on a Cortex-M0+ __aeabi_lmul too, which a compiler's own library has. Nothing
+ *   Arm's convention, __aeabi_memcpy, __aeabi_memcpy4, __aeabi_memcpy8, __aeabi_memmove, __aeabi_memclr,
+ *   __aeabi_memclr4 and __aeabi_memclr8, and on a Cortex-M0+ __aeabi_lmul too, which a compiler's own library has. Nothing
  *   else: no heap, no floating point, no operating system, and no data that is written. No call waits.
  *   The libraries for Cortex-M have no unaligned access and may run with the trap for it set.
  *
- * Sizes, in octets: a card 680, aligned to 8; an input 40; an answer 6; what is known of an input 24,
- * aligned to 8; the codes 16; the words 32; a frame that was read 9; the senders 1,544, aligned to 8;
- * one sender 96; a unit 1,368, aligned to 8. There is no padding in any of them, so cards and senders can be compared by memcmp() and summed by a checksum.
+ * Sizes, in octets: a card 584, aligned to 8; what is known of an input 24, aligned to 8; the codes 16;
+ * the words 32; a frame that was read 9; the senders 1,544, aligned to 8; one sender 96, aligned to 8; a unit
+ * 1,176, aligned to 8. There is no padding in any of them, so cards and senders can be compared by memcmp()
+ * and summed by a checksum.
  *
- * No call takes more stack than NURRISPANE_STACK, whatever it is lent: no function calls itself or one by a
- * pointer, and tests/stack-bounds derives the most from the machine code. docs/BENCHMARKS.md has what each
- * takes, and tests/card measures it anew.
+ * No call takes more stack than NURRISPANE_STACK, whatever it is lent, and below it is said by call: no
+ * function calls itself or one by a pointer, and tests/firmware/stack-bounds derives the most from the
+ * machine code. docs/BENCHMARKS.md has what each takes, and its instructions, by machine; tests/firmware/card
+ * measures the stack anew.
  */
 #ifndef NURRISPANE_H
 #define NURRISPANE_H
@@ -155,7 +159,7 @@ extern "C" {
  */
 
 /* Raised with each change of a struct, of a number or of what a function answers: CHANGES.md. */
-#define NURRISPANE_VERSION 5U
+#define NURRISPANE_VERSION 6U
 
 /* Raised with what firmware need only be linked anew for; 0 with each new version. */
 #define NURRISPANE_MINOR 0U
@@ -186,8 +190,24 @@ extern "C" {
 /* The time of what is never due. */
 #define NURRISPANE_NEVER UINT64_MAX
 
-/* No call takes more stack than this. */
-#define NURRISPANE_STACK 22528U
+/*
+ * No call takes more stack than NURRISPANE_STACK, and each no more than is said of it, on any of the machines,
+ * what it is handed and what its inline function takes included.
+ */
+#define NURRISPANE_STACK                3328U
+#define NURRISPANE_STACK_SELF_TEST      3328U
+#define NURRISPANE_STACK_FRESH          512U
+#define NURRISPANE_STACK_STEP           1792U
+#define NURRISPANE_STACK_TICK_PART      1792U
+#define NURRISPANE_STACK_NEXT_DUE       512U
+#define NURRISPANE_STACK_IS_SOUND       1792U
+#define NURRISPANE_STACK_INPUT_STATUS   512U
+#define NURRISPANE_STACK_OUTGOING_CODES 768U
+#define NURRISPANE_STACK_OUTGOING_WORDS 512U
+#define NURRISPANE_STACK_READ_FRAME     512U
+#define NURRISPANE_STACK_WRITE_FRAME    768U
+#define NURRISPANE_STACK_FRESH_SENDER   256U
+#define NURRISPANE_STACK_ASK            768U
 
 /*
  * The profile, chosen once, with nurrispane_fresh(). Of option II the place of PROV, 0 for none and
@@ -271,60 +291,28 @@ extern "C" {
  * both 0 is not told, and in a card 11 is invalid and 12 failed.
  */
 
-/* One input: to be read if need be, never to be written. A yes is 1, a no is 0. */
-struct nurrispane_input {
-    uint64_t framed;  /* when the last recorded frame came, ms */
-    uint64_t start;   /* when the present run began, ms */
-    uint16_t holdoff; /* ms */
-    uint8_t wait;     /* minutes */
-    uint8_t priority; /* 1 to 16; 0 off */
-    uint8_t fixed;    /* fixed quality; 0 none */
-    uint8_t kind;     /* NURRISPANE_INPUT_LINE, _ETHERNET or _WORDS */
-    uint8_t locked;   /* lockout */
-    uint8_t sending;  /* SSM sending */
-    uint8_t frame;    /* the quality that the last recorded frame said */
-    uint8_t line;     /* the quality that the last code or word to come three times in a row said */
-    uint8_t count;    /* how often in a row the last one came, 3 for any more */
-    uint8_t signal;   /* the signal: 1 good, 0 failing */
-    uint8_t good;     /* the last raw quality that was not failed */
-    uint8_t failed;   /* the present run is failed */
-    uint8_t up;       /* the last down or up moment was up */
-    uint8_t floor;    /* the worst quality that is followed; 0 the fresh one: 4, in option II 6 */
-    uint16_t last;    /* the last code or word recorded */
-    uint16_t spare2;  /* 0, as the one below: no padding */
-    uint32_t spare4;
-};
-
-/* The answer to an event, the six bytes of an answer line. */
-struct nurrispane_answer {
-    uint8_t number;        /* NURRISPANE_ACCEPTED, or the number of the refusal */
-    uint8_t selected;      /* the selected input, or NURRISPANE_NO_INPUT */
-    uint8_t clock_state;   /* NURRISPANE_FREE_RUN, _HOLDOVER or _LOCKED */
-    uint8_t clock_quality; /* 1 to 4, in option II 1 to 9; 0 with quality mode off */
-    uint8_t switch_kind;   /* NURRISPANE_SWITCH_NONE, _FORCED or _MANUAL */
-    uint8_t switch_input;  /* its input, or NURRISPANE_NO_INPUT */
-};
-
 /*
- * The selector's whole state, the answer to the last event and how many due moments its tick
- * served. Only `answer` and `served` are the firmware's.
+ * The selector's whole state, the answer to the last event and how many due moments its tick served, as
+ * arrays: to be read by the functions below, never to be written.
+ *
+ * In `times`, ms, and in `words` sixteen numbers stand for a field, one of each input, and behind them what
+ * stands once. times: 0 when the last recorded frame came, 16 when the present run began; 32 the time. words: 0
+ * the last code or word recorded, 16 the hold-off, ms; 32 the marks. small likewise, a yes 1, a no 0: 0 the
+ * quality that the last recorded frame said, 16 the quality that the last code or word to come three times in
+ * a row said, 32 how often in a row the last one came, 3 for any more, 48 signal, 64 the last raw quality that
+ * was not failed, 80 whether the present run is failed, 96 whether the last down or up moment was up, 112 wait,
+ * minutes, 128 priority, 144 fixed quality, 160 floor, 0 the fresh one, 176 kind, 192 lockout, 208 sending; 224
+ * quality mode, 225 whether the clock has been locked after some choice, 226 the switch and 227 its input, 228
+ * whether an input is selected and 229 which, 230 option, 231 place.
  */
 struct nurrispane_card {
-    struct nurrispane_input inputs[NURRISPANE_INPUTS];
-    uint64_t time;        /* of the last event not refused with 2 to 13, in a unit that passed it, ms */
-    uint64_t due;         /* nothing is due before this, ms; nurrispane_next_due() says when something is */
-    uint8_t mode;         /* quality mode */
-    uint8_t held;         /* the clock has been locked after some choice */
-    uint8_t switch_kind;  /* NURRISPANE_SWITCH_NONE, _FORCED or _MANUAL */
-    uint8_t switch_input; /* its input; 255 with no switch */
-    uint8_t selection;    /* 1 where an input is selected */
-    uint8_t selected;     /* that input; 255 with none */
-    struct nurrispane_answer answer;
-    uint32_t served;      /* due moments that the last event's tick served, 0 to 48 */
-    uint8_t option;       /* NURRISPANE_OPTION_1 or _2 */
-    uint8_t place;        /* of PROV, 0 to 8; 0 in option I */
-    uint16_t marks;       /* first-generation ports, bit i for port i; 0 in option I */
-    uint32_t spare;       /* 0: no padding */
+    uint64_t times[33];
+    uint64_t due[1];    /* nothing is due before this, ms; nurrispane_next_due() says when something is */
+    uint16_t words[33];
+    uint8_t small[232];
+    uint8_t told[7];    /* the six bytes of an answer line; due moments that the last event's tick served */
+    uint8_t version;    /* NURRISPANE_VERSION, of the start; nurrispane_is_sound() alone looks at it */
+    uint8_t spare[6];   /* 0: no padding */
 };
 
 /*
@@ -356,10 +344,8 @@ struct nurrispane_words {
 
 /* One port's sender: to be read if need be, never to be written. */
 struct nurrispane_sender {
-    uint64_t times[10]; /* of the last ten frames, the latest first, ms */
-    uint64_t asked;     /* when the last question was accepted, ms */
-    uint32_t code;      /* that of the last frame */
-    uint32_t sent;      /* how many frames, 10 for any more */
+    uint64_t times[11];  /* of the last ten frames, the latest first; 10 when the last question was accepted; ms */
+    uint32_t numbers[2]; /* the code of the last frame; how many frames, 10 for any more */
 };
 
 /* What a question was answered with. */
@@ -384,22 +370,136 @@ struct nurrispane_frame {
     uint8_t source[NURRISPANE_SOURCE_OCTETS]; /* who sent it */
 };
 
+/*
+ * What the library has: it takes the arrays by themselves, so that a call is the same to every C compiler. Each
+ * does what is said of the function below with the same name but for _in. nurrispane_ask_in() answers what
+ * nurrispane_ask_sender() does.
+ */
+uint32_t nurrispane_version_in(void);
+uint32_t nurrispane_card_octets_in(void);
+uint32_t nurrispane_senders_octets_in(void);
+uint32_t nurrispane_self_test_in(void);
+void nurrispane_fresh_in(uint64_t *times, uint8_t *small, uint16_t *words, uint64_t *due, uint8_t *told,
+                         uint8_t option, uint8_t place, uint16_t marks);
+void nurrispane_step_in(uint64_t *times, uint8_t *small, uint16_t *words, uint64_t *due, uint8_t *told,
+                        uint8_t kind, uint64_t time, uint8_t input, uint16_t argument,
+                        const uint8_t *frame, uint64_t frame_length);
+uint32_t nurrispane_tick_part_in(uint64_t *times, uint8_t *small, uint16_t *words, uint64_t *due,
+                                 uint8_t *told, uint64_t time, uint8_t most);
+uint64_t nurrispane_next_due_in(const uint64_t *times, const uint8_t *small, const uint16_t *words);
+uint32_t nurrispane_is_sound_in(const uint64_t *times, const uint8_t *small, const uint16_t *words,
+                                const uint64_t *due, const uint8_t *told);
+void nurrispane_input_status_in(const uint64_t *times, const uint8_t *small, const uint16_t *words,
+                                uint8_t input, uint64_t *ends, uint8_t *known);
+void nurrispane_outgoing_codes_in(const uint64_t *times, const uint8_t *small, const uint16_t *words,
+                                  uint8_t *codes);
+void nurrispane_outgoing_words_in(const uint64_t *times, const uint8_t *small, const uint16_t *words,
+                                  uint16_t *out);
+void nurrispane_read_frame_in(const uint8_t *frame, uint64_t frame_length, uint8_t *told);
+uint32_t nurrispane_write_frame_in(const uint64_t *times, const uint8_t *small, const uint16_t *words,
+                                   uint8_t port, uint8_t event, const uint8_t *source,
+                                   uint64_t source_length, uint8_t *buffer, uint64_t buffer_length);
+void nurrispane_fresh_sender_in(uint64_t *sender_times, uint32_t *sender_numbers);
+uint32_t nurrispane_ask_in(uint64_t *sender_times, uint32_t *sender_numbers, const uint64_t *times,
+                           const uint8_t *small, const uint16_t *words, uint8_t port, uint64_t time,
+                           const uint8_t *source, uint64_t source_length, uint8_t *buffer,
+                           uint64_t buffer_length);
+
 /* The library's version, and how many octets it takes a card and the senders to have. */
-uint32_t nurrispane_version(void);
-uint32_t nurrispane_card_octets(void);
-uint32_t nurrispane_senders_octets(void);
+static inline uint32_t nurrispane_version(void)
+{
+    return nurrispane_version_in();
+}
+
+static inline uint32_t nurrispane_card_octets(void)
+{
+    return nurrispane_card_octets_in();
+}
+
+static inline uint32_t nurrispane_senders_octets(void)
+{
+    return nurrispane_senders_octets_in();
+}
 
 /*
- * A test for power-on, on a card of its own: the eleven events of document 01's whole replay; then a
- * frame of 59 octets, which is refused with 8, one of 60 that tells PRC, which is followed, and one
- * that tells code 0000, which is invalid. Answers 1 if each was answered as it has to be, otherwise 0.
+ * The answer to the last event. Its number: NURRISPANE_ACCEPTED, or that of the refusal. The selected
+ * input, or NURRISPANE_NO_INPUT. The clock state: NURRISPANE_FREE_RUN, _HOLDOVER or _LOCKED. The clock quality:
+ * 1 to 4, in option II 1 to 9; 0 with quality mode off. The switch: NURRISPANE_SWITCH_NONE, _FORCED or _MANUAL;
+ * its input, or NURRISPANE_NO_INPUT.
+ */
+static inline uint8_t nurrispane_number(const struct nurrispane_card *card)
+{
+    return card->told[0];
+}
+
+static inline uint8_t nurrispane_selected(const struct nurrispane_card *card)
+{
+    return card->told[1];
+}
+
+static inline uint8_t nurrispane_clock_state(const struct nurrispane_card *card)
+{
+    return card->told[2];
+}
+
+static inline uint8_t nurrispane_clock_quality(const struct nurrispane_card *card)
+{
+    return card->told[3];
+}
+
+static inline uint8_t nurrispane_switch_kind(const struct nurrispane_card *card)
+{
+    return card->told[4];
+}
+
+static inline uint8_t nurrispane_switch_input(const struct nurrispane_card *card)
+{
+    return card->told[5];
+}
+
+/* How many due moments the last event's tick served: 0 to 48. */
+static inline uint8_t nurrispane_served(const struct nurrispane_card *card)
+{
+    return card->told[6];
+}
+
+/* The card's time: that of the last event not refused with 2 to 13, in a unit that passed it, ms. */
+static inline uint64_t nurrispane_time(const struct nurrispane_card *card)
+{
+    return card->times[32];
+}
+
+/* The profile: NURRISPANE_OPTION_1 or _2; the place of PROV and the marks, 0 in option I. */
+static inline uint8_t nurrispane_option(const struct nurrispane_card *card)
+{
+    return card->small[230];
+}
+
+static inline uint8_t nurrispane_place(const struct nurrispane_card *card)
+{
+    return card->small[231];
+}
+
+static inline uint16_t nurrispane_marks(const struct nurrispane_card *card)
+{
+    return card->words[32];
+}
+
+/*
+ * A test for power-on, on a card of its own, by the function that nurrispane_step() calls: the eleven events
+ * of document 01's whole replay; then a frame of 59 octets, which is refused with 8, one of 60 that tells PRC,
+ * which is followed, and one that tells code 0000, which is invalid. Answers 1 if each was answered as it has
+ * to be, otherwise 0.
  *
  * It is proved that the code answers 1. So a 0 tells that the machine did not do what the code says:
  * its processor, its memory or the copy of the library in it is broken, or the compiler that made it.
  * It does not tell which; and a 1 does not tell that nothing is broken, only that these eighteen steps
  * went right. It looks at none of the firmware's cards: nurrispane_is_sound() is for those.
  */
-uint32_t nurrispane_self_test(void);
+static inline uint32_t nurrispane_self_test(void)
+{
+    return nurrispane_self_test_in();
+}
 
 /*
  * Starts a card with a profile: it is fresh then, whatever it held: time 0, quality mode on, no
@@ -407,20 +507,50 @@ uint32_t nurrispane_self_test(void);
  * sending on, its signal failing. Its answer is that of an accepted event on such a state: 00 ff 00
  * 04 00 ff, in option II 00 ff 00 06 00 ff. `option` is NURRISPANE_OPTION_1, for which `place` and
  * `marks` are not looked at, or NURRISPANE_OPTION_2. Any other option, and option II with a place above
- * 8, is refused and nothing starts: the card stays as it was, but for `answer.number`, which is
- * NURRISPANE_REFUSED_ARGUMENT_OUT_OF_RANGE, and `served`, 0.
+ * 8, is refused and nothing starts: the card stays as it was, but for the number of its answer, which is
+ * NURRISPANE_REFUSED_ARGUMENT_OUT_OF_RANGE, and what it served, 0. A start puts NURRISPANE_VERSION into the card.
  */
-void nurrispane_fresh(struct nurrispane_card *card, uint8_t option, uint8_t place, uint16_t marks);
+static inline void nurrispane_fresh(struct nurrispane_card *card, uint8_t option, uint8_t place,
+                                    uint16_t marks)
+{
+    nurrispane_fresh_in(card->times, card->small, card->words, card->due, card->told, option, place,
+                        marks);
+    if (card->told[0] == NURRISPANE_ACCEPTED) {
+        card->version = NURRISPANE_VERSION;
+        for (unsigned int at = 0; at < sizeof card->spare; at++) {
+            card->spare[at] = 0;
+        }
+    }
+}
 
 /*
  * One event: `*card` becomes the card after it, with its answer, also where it is refused. `kind`,
  * `time`, `input` and `argument` may be any numbers. `frame` is looked at for
- * NURRISPANE_EVENT_FRAME alone: the received frame from its destination address on, without FCS. A
- * refused event has its number in `answer.number`; the five other values of the answer are always
+ * NURRISPANE_EVENT_FRAME alone: the received frame from its destination address on, without FCS. Of a
+ * refused event nurrispane_number() is the number; the five other values of the answer are always
  * those of the card as it is left.
  */
-void nurrispane_step(struct nurrispane_card *card, uint8_t kind, uint64_t time, uint8_t input,
-                     uint16_t argument, const uint8_t *frame, uint64_t frame_length);
+static inline void nurrispane_step(struct nurrispane_card *card, uint8_t kind, uint64_t time,
+                                   uint8_t input, uint16_t argument, const uint8_t *frame,
+                                   uint64_t frame_length)
+{
+    nurrispane_step_in(card->times, card->small, card->words, card->due, card->told, kind, time, input,
+                       argument, frame, frame_length);
+}
+
+/*
+ * A tick in portions, where firmware can't wait for 48 due moments in one call: serves at most `most` of
+ * those up to a time, 0 as 1, each by a tick at its own time. Answers 1 where more are to come: call again with
+ * the same time. Where none is left it makes the tick at that time too, and answers 0; an event at that time then
+ * finds nothing to serve. The state and the answer are those that the tick made at once leaves, but for the
+ * count: nurrispane_served() is that of the last tick which was made, 1 or 0. A time at or above 2^48 or before the
+ * card's serves nothing and is refused as of a tick: 0.
+ */
+static inline uint32_t nurrispane_tick_part(struct nurrispane_card *card, uint64_t time, uint8_t most)
+{
+    return nurrispane_tick_part_in(card->times, card->small, card->words, card->due, card->told, time,
+                                   most);
+}
 
 /*
  * When something is next due: the end of a hold-off, of a wait or of a frame's five seconds. Later
@@ -428,17 +558,34 @@ void nurrispane_step(struct nurrispane_card *card, uint8_t kind, uint64_t time, 
  * changes no answer, no outgoing code and no word, so firmware may sleep that long. A time at or above 2^48
  * cannot be reached by a tick.
  */
-uint64_t nurrispane_next_due(const struct nurrispane_card *card);
+static inline uint64_t nurrispane_next_due(const struct nurrispane_card *card)
+{
+    return nurrispane_next_due_in(card->times, card->small, card->words);
+}
 
 /*
  * Whether a card that was kept or sent can be one that nurrispane_fresh() and events lead to, as far
- * as is looked: 1 where a tick at the card's own time, with the whole step made for it, is accepted and
- * leaves every number of it but `answer.number` and `served`, which may be any; otherwise 0. Every card that a start and events lead
- * to passes, and the answer in a card that passes is in range: `answer.selected` and
- * `answer.switch_input` 0 to 15 or 255, `clock_state` and `switch_kind` 0 to 2. It is no checksum: a
- * time, a setting or a quality that is another number than it was may pass, and so may a place above 8.
+ * as is looked: 1 where its version is NURRISPANE_VERSION and `spare` is 0; its time is below 2^48, and a tick
+ * at that time leaves its runs, its switch, its selection and whether the clock has been locked; `due` is
+ * after that time and not after what is next due; and its answer is that of its state but for the number,
+ * which may be any, as what it served may. Otherwise 0: the card of another version is no card. Every card that
+ * a start and events lead to passes, and the answer in a card that passes is in range: nurrispane_selected()
+ * and nurrispane_switch_input() 0 to 15 or 255, nurrispane_clock_state() and nurrispane_switch_kind() 0 to 2. It is
+ * no checksum: a time, a setting or a quality that is another number than it was may pass, and so may a number
+ * that stands for the same, as any but 0 does for a yes.
  */
-uint32_t nurrispane_is_sound(const struct nurrispane_card *card);
+static inline uint32_t nurrispane_is_sound(const struct nurrispane_card *card)
+{
+    uint32_t sound = 0;
+    uint8_t spare = 0;
+    for (unsigned int at = 0; at < sizeof card->spare; at++) {
+        spare |= card->spare[at];
+    }
+    if ((card->version == NURRISPANE_VERSION) && (spare == 0U)) {
+        sound = nurrispane_is_sound_in(card->times, card->small, card->words, card->due, card->told);
+    }
+    return sound;
+}
 
 /*
  * What is known of an input at the card's time; `*status` is written, whatever it held. The timer is
@@ -449,8 +596,23 @@ uint32_t nurrispane_is_sound(const struct nurrispane_card *card);
  * and all else is 0. Whatever card came in, `eligible`, `signal` and `locked` are 0 or 1; `raw` and
  * `passed` are 0 to 7, in option II 0 to 12, on a card that came from a fresh one.
  */
-void nurrispane_input_status(const struct nurrispane_card *card, uint8_t input,
-                             struct nurrispane_status *status);
+static inline void nurrispane_input_status(const struct nurrispane_card *card, uint8_t input,
+                                           struct nurrispane_status *status)
+{
+    uint64_t ends[2];
+    uint8_t known[8];
+    nurrispane_input_status_in(card->times, card->small, card->words, input, ends, known);
+    status->timer = ends[0];
+    status->frame = ends[1];
+    status->number = known[0];
+    status->raw = known[1];
+    status->passed = known[2];
+    status->eligible = known[3];
+    status->signal = known[4];
+    status->priority = known[5];
+    status->locked = known[6];
+    status->floor = known[7];
+}
 
 /*
  * The codes that go out of the sixteen ports, for lines as well as for frames: 15, do not use, if
@@ -458,7 +620,11 @@ void nurrispane_input_status(const struct nurrispane_card *card, uint8_t input,
  * code of the clock quality. Of option II a port that is marked sends TNC and ST3E as 10, the code of
  * ST3; ST4 has no code, and 15 goes out.
  */
-void nurrispane_outgoing_codes(const struct nurrispane_card *card, struct nurrispane_codes *codes);
+static inline void nurrispane_outgoing_codes(const struct nurrispane_card *card,
+                                             struct nurrispane_codes *codes)
+{
+    nurrispane_outgoing_codes_in(card->times, card->small, card->words, codes->codes);
+}
 
 /*
  * The 1,544 kbit/s words that go out of the sixteen ports of a card of option II, beside the codes:
@@ -467,14 +633,28 @@ void nurrispane_outgoing_codes(const struct nurrispane_card *card, struct nurris
  * of a port that is marked 0x10ff for TNC and ST3E. Option I has no words: of such a card the answer
  * is what its numbers would say in option II, and is not to be sent.
  */
-void nurrispane_outgoing_words(const struct nurrispane_card *card, struct nurrispane_words *words);
+static inline void nurrispane_outgoing_words(const struct nurrispane_card *card,
+                                             struct nurrispane_words *words)
+{
+    nurrispane_outgoing_words_in(card->times, card->small, card->words, words->words);
+}
 
 /*
  * Reads a received frame, from its destination address on, without FCS, for whoever wants to know
  * who sent it. A step reads the frame that it is lent by itself, and records its code alone.
  */
-void nurrispane_read_frame(const uint8_t *frame, uint64_t frame_length,
-                           struct nurrispane_frame *told);
+static inline void nurrispane_read_frame(const uint8_t *frame, uint64_t frame_length,
+                                         struct nurrispane_frame *told)
+{
+    uint8_t nine[9];
+    nurrispane_read_frame_in(frame, frame_length, nine);
+    told->number = nine[0];
+    told->code = nine[1];
+    told->event = nine[2];
+    for (unsigned int at = 0; at < NURRISPANE_SOURCE_OCTETS; at++) {
+        told->source[at] = nine[at + 3U];
+    }
+}
 
 /*
  * Writes the ESMC frame that tells `port`'s outgoing code into the first 60 octets of `buffer`,
@@ -483,12 +663,45 @@ void nurrispane_read_frame(const uint8_t *frame, uint64_t frame_length,
  * NURRISPANE_REFUSED_INPUT_OUT_OF_RANGE for a port above 15, NURRISPANE_REFUSED_SOURCE_NOT_SIX,
  * NURRISPANE_REFUSED_BUFFER_TOO_SHORT.
  */
-uint32_t nurrispane_write_frame(const struct nurrispane_card *card, uint8_t port, uint8_t event,
-                                const uint8_t *source, uint64_t source_length, uint8_t *buffer,
-                                uint64_t buffer_length);
+static inline uint32_t nurrispane_write_frame(const struct nurrispane_card *card, uint8_t port,
+                                              uint8_t event, const uint8_t *source,
+                                              uint64_t source_length, uint8_t *buffer,
+                                              uint64_t buffer_length)
+{
+    return nurrispane_write_frame_in(card->times, card->small, card->words, port, event, source,
+                                     source_length, buffer, buffer_length);
+}
+
+/* Makes a sender fresh, whatever it held: nothing sent, nothing asked. */
+static inline void nurrispane_fresh_sender(struct nurrispane_sender *sender)
+{
+    nurrispane_fresh_sender_in(sender->times, sender->numbers);
+}
 
 /* Makes the senders fresh, whatever they held: nothing sent, nothing asked, no frame answered. */
-void nurrispane_fresh_senders(struct nurrispane_senders *senders);
+static inline void nurrispane_fresh_senders(struct nurrispane_senders *senders)
+{
+    for (unsigned int port = 0; port < NURRISPANE_INPUTS; port++) {
+        nurrispane_fresh_sender(&senders->ports[port]);
+    }
+    senders->number = NURRISPANE_ACCEPTED;
+    senders->frame = NURRISPANE_HEARTBEAT_NOTHING;
+}
+
+/*
+ * Asks one sender, that of `port`, as nurrispane_ask() does, for firmware that holds no more senders than it has
+ * ports. Answers NURRISPANE_HEARTBEAT_NOTHING, _INFORMATION or _EVENT; or 256 times the number of a refusal, and
+ * then sender and buffer stay as they were.
+ */
+static inline uint32_t nurrispane_ask_sender(struct nurrispane_sender *sender,
+                                             const struct nurrispane_card *card, uint8_t port,
+                                             uint64_t time, const uint8_t *source,
+                                             uint64_t source_length, uint8_t *buffer,
+                                             uint64_t buffer_length)
+{
+    return nurrispane_ask_in(sender->times, sender->numbers, card->times, card->small, card->words, port,
+                             time, source, source_length, buffer, buffer_length);
+}
 
 /*
  * Asks `port`'s sender at a time whether a frame is to be sent, with the card as it stands; the
@@ -505,9 +718,17 @@ void nurrispane_fresh_senders(struct nurrispane_senders *senders);
  * NURRISPANE_REFUSED_INPUT_OUT_OF_RANGE for a port above 15, NURRISPANE_REFUSED_BUFFER_TOO_SHORT,
  * NURRISPANE_REFUSED_SOURCE_NOT_SIX.
  */
-void nurrispane_ask(struct nurrispane_senders *senders, const struct nurrispane_card *card,
-                    uint8_t port, uint64_t time, const uint8_t *source, uint64_t source_length,
-                    uint8_t *buffer, uint64_t buffer_length);
+static inline void nurrispane_ask(struct nurrispane_senders *senders,
+                                  const struct nurrispane_card *card, uint8_t port, uint64_t time,
+                                  const uint8_t *source, uint64_t source_length, uint8_t *buffer,
+                                  uint64_t buffer_length)
+{
+    const uint8_t of = (port < NURRISPANE_INPUTS) ? port : 0U;
+    const uint32_t said = nurrispane_ask_sender(&senders->ports[of], card, port, time, source,
+                                                source_length, buffer, buffer_length);
+    senders->number = said / 256U;
+    senders->frame = said % 256U;
+}
 
 /*
  * ---- The unit
@@ -519,12 +740,13 @@ void nurrispane_ask(struct nurrispane_senders *senders, const struct nurrispane_
  * It needs no other functions than the card's.
  *
  * What C owes is what it owes of a card, of the unit as a whole: start from nurrispane_unit_fresh(),
- * and lend to each call the unit that the last one left, unchanged but for what is the firmware's. Then
+ * and lend to each call the unit that the last one left, unchanged. Then
  * it is the unit after those events, and all that is proved of the unit holds of it. The other calls on
  * a card that only read it may be made on either card of a unit, as on
- * nurrispane_next_due(&unit.station); no event may be sent to one by nurrispane_step(), which the other
- * would not get. A unit that was filled in any other way is safe: whatever came in, `source` and the
- * inputs in both answers are 0 to 15 or 255 after a step, `squelched` 0 or 1.
+ * nurrispane_next_due(&unit.station); no event may be sent to one by nurrispane_step(), nor a part of a tick,
+ * which the other would not get. A unit that was filled in any other way is safe: whatever came in,
+ * nurrispane_unit_source() and the inputs in both answers are 0 to 15 or 255 after a step,
+ * nurrispane_unit_squelched() 0 or 1.
  */
 
 /* The halves of a unit, by the number that nurrispane_unit_step() takes. */
@@ -532,17 +754,14 @@ void nurrispane_ask(struct nurrispane_senders *senders, const struct nurrispane_
 #define NURRISPANE_STATION   1U
 
 /*
- * The unit. Only the `answer` of each card, `squelched` and `source` are the firmware's. No due moments
- * are counted: `served` is 0 in both cards. `due` in each is what nurrispane_next_due() says of it.
+ * The unit. No due moments are counted: nurrispane_served() is 0 of both cards. `due` in each is what
+ * nurrispane_next_due() says of it.
  */
 struct nurrispane_unit {
     struct nurrispane_card equipment; /* the selector of the equipment clock */
     struct nurrispane_card station;   /* that of the station output */
-    uint8_t minimum;                  /* the worst quality that the station output carries */
-    uint8_t squelched;                /* 1 where the station output squelches, which is to send AIS */
-    uint8_t source;                   /* its source: the selected input; squelched, NURRISPANE_NO_INPUT */
-    uint8_t spare;                    /* 0, as the one below: no padding */
-    uint32_t spare4;
+    uint8_t sent[3];                  /* the minimum, whether the station output squelches, its source */
+    uint8_t spare[5];                 /* 0: no padding */
 };
 
 /* Whether the libraries that were linked are this header's, that of the unit too. */
@@ -550,22 +769,81 @@ struct nurrispane_unit {
     (NURRISPANE_BELONGS() && (nurrispane_unit_version() == NURRISPANE_VERSION) &&  \
      (nurrispane_unit_octets() == sizeof(struct nurrispane_unit)))
 
-/* No call on a unit takes more stack than this. */
-#define NURRISPANE_UNIT_STACK 20480U
+/* No call on a unit takes more stack than NURRISPANE_UNIT_STACK, and each no more than is said of it. */
+#define NURRISPANE_UNIT_STACK       4096U
+#define NURRISPANE_STACK_UNIT_FRESH 4096U
+#define NURRISPANE_STACK_UNIT_STEP  4096U
+
+/* What the library has; as above. The first five arrays are the equipment's, the next five the station's. */
+uint32_t nurrispane_unit_version_in(void);
+uint32_t nurrispane_unit_octets_in(void);
+void nurrispane_unit_fresh_in(uint64_t *times, uint8_t *small, uint16_t *words, uint64_t *due,
+                              uint8_t *told, uint64_t *station_times, uint8_t *station_small,
+                              uint16_t *station_words, uint64_t *station_due, uint8_t *station_told,
+                              uint8_t *sent, uint8_t option, uint8_t place, uint16_t marks,
+                              uint8_t minimum);
+void nurrispane_unit_step_in(uint64_t *times, uint8_t *small, uint16_t *words, uint64_t *due,
+                             uint8_t *told, uint64_t *station_times, uint8_t *station_small,
+                             uint16_t *station_words, uint64_t *station_due, uint8_t *station_told,
+                             uint8_t *sent, uint8_t half, uint8_t kind, uint64_t time, uint8_t input,
+                             uint16_t argument, const uint8_t *frame, uint64_t frame_length);
 
 /* The version of the unit's library, and how many octets it takes a unit to have. */
-uint32_t nurrispane_unit_version(void);
-uint32_t nurrispane_unit_octets(void);
+static inline uint32_t nurrispane_unit_version(void)
+{
+    return nurrispane_unit_version_in();
+}
+
+static inline uint32_t nurrispane_unit_octets(void)
+{
+    return nurrispane_unit_octets_in();
+}
+
+/*
+ * The worst quality that the station output carries. 1 where that output squelches, which is to send AIS, 0
+ * where not. Its source: the selected input; squelched, NURRISPANE_NO_INPUT.
+ */
+static inline uint8_t nurrispane_unit_minimum(const struct nurrispane_unit *unit)
+{
+    return unit->sent[0];
+}
+
+static inline uint8_t nurrispane_unit_squelched(const struct nurrispane_unit *unit)
+{
+    return unit->sent[1];
+}
+
+static inline uint8_t nurrispane_unit_source(const struct nurrispane_unit *unit)
+{
+    return unit->sent[2];
+}
 
 /*
  * Starts a unit with a profile, as nurrispane_fresh() does a card, and a minimum of the station output:
  * 1 to 4, in option II 1 to 8. Both cards are fresh then, whatever they held, and the output squelches.
  * Another minimum, another option than 1 or 2, or option II with a place above 8, is refused and nothing
- * starts: the unit stays as it was, but for `answer.number` of both cards, which is
- * NURRISPANE_REFUSED_ARGUMENT_OUT_OF_RANGE, and their `served`, 0.
+ * starts: the unit stays as it was, but for the number of both answers, which is
+ * NURRISPANE_REFUSED_ARGUMENT_OUT_OF_RANGE, and what they served, 0.
  */
-void nurrispane_unit_fresh(struct nurrispane_unit *unit, uint8_t option, uint8_t place,
-                           uint16_t marks, uint8_t minimum);
+static inline void nurrispane_unit_fresh(struct nurrispane_unit *unit, uint8_t option, uint8_t place,
+                                         uint16_t marks, uint8_t minimum)
+{
+    nurrispane_unit_fresh_in(unit->equipment.times, unit->equipment.small, unit->equipment.words,
+                             unit->equipment.due, unit->equipment.told, unit->station.times,
+                             unit->station.small, unit->station.words, unit->station.due,
+                             unit->station.told, unit->sent, option, place, marks, minimum);
+    if (unit->station.told[0] == NURRISPANE_ACCEPTED) {
+        unit->equipment.version = NURRISPANE_VERSION;
+        unit->station.version = NURRISPANE_VERSION;
+        for (unsigned int at = 0; at < sizeof unit->station.spare; at++) {
+            unit->equipment.spare[at] = 0;
+            unit->station.spare[at] = 0;
+        }
+        for (unsigned int at = 0; at < sizeof unit->spare; at++) {
+            unit->spare[at] = 0;
+        }
+    }
+}
 
 /*
  * One event: `*unit` becomes the unit after it, with an answer of each selector. Reports (signal, frame,
@@ -580,55 +858,26 @@ void nurrispane_unit_fresh(struct nurrispane_unit *unit, uint8_t option, uint8_t
  * The station output squelches where nothing usable is selected by the station's selector and, quality
  * mode of that selector on, where the selected input's passed quality is worse than the minimum.
  */
-void nurrispane_unit_step(struct nurrispane_unit *unit, uint8_t half, uint8_t kind, uint64_t time,
-                          uint8_t input, uint16_t argument, const uint8_t *frame,
-                          uint64_t frame_length);
+static inline void nurrispane_unit_step(struct nurrispane_unit *unit, uint8_t half, uint8_t kind,
+                                        uint64_t time, uint8_t input, uint16_t argument,
+                                        const uint8_t *frame, uint64_t frame_length)
+{
+    nurrispane_unit_step_in(unit->equipment.times, unit->equipment.small, unit->equipment.words,
+                            unit->equipment.due, unit->equipment.told, unit->station.times,
+                            unit->station.small, unit->station.words, unit->station.due,
+                            unit->station.told, unit->sent, half, kind, time, input, argument, frame,
+                            frame_length);
+}
 
 /* The layout that the library was built with. */
-NURRISPANE_HOLDS(sizeof(struct nurrispane_input) == 40U);
-NURRISPANE_HOLDS(offsetof(struct nurrispane_input, framed) == 0U);
-NURRISPANE_HOLDS(offsetof(struct nurrispane_input, start) == 8U);
-NURRISPANE_HOLDS(offsetof(struct nurrispane_input, holdoff) == 16U);
-NURRISPANE_HOLDS(offsetof(struct nurrispane_input, wait) == 18U);
-NURRISPANE_HOLDS(offsetof(struct nurrispane_input, priority) == 19U);
-NURRISPANE_HOLDS(offsetof(struct nurrispane_input, fixed) == 20U);
-NURRISPANE_HOLDS(offsetof(struct nurrispane_input, kind) == 21U);
-NURRISPANE_HOLDS(offsetof(struct nurrispane_input, locked) == 22U);
-NURRISPANE_HOLDS(offsetof(struct nurrispane_input, sending) == 23U);
-NURRISPANE_HOLDS(offsetof(struct nurrispane_input, frame) == 24U);
-NURRISPANE_HOLDS(offsetof(struct nurrispane_input, line) == 25U);
-NURRISPANE_HOLDS(offsetof(struct nurrispane_input, count) == 26U);
-NURRISPANE_HOLDS(offsetof(struct nurrispane_input, signal) == 27U);
-NURRISPANE_HOLDS(offsetof(struct nurrispane_input, good) == 28U);
-NURRISPANE_HOLDS(offsetof(struct nurrispane_input, failed) == 29U);
-NURRISPANE_HOLDS(offsetof(struct nurrispane_input, up) == 30U);
-NURRISPANE_HOLDS(offsetof(struct nurrispane_input, floor) == 31U);
-NURRISPANE_HOLDS(offsetof(struct nurrispane_input, last) == 32U);
-NURRISPANE_HOLDS(offsetof(struct nurrispane_input, spare2) == 34U);
-NURRISPANE_HOLDS(offsetof(struct nurrispane_input, spare4) == 36U);
-NURRISPANE_HOLDS(sizeof(struct nurrispane_answer) == 6U);
-NURRISPANE_HOLDS(offsetof(struct nurrispane_answer, number) == 0U);
-NURRISPANE_HOLDS(offsetof(struct nurrispane_answer, selected) == 1U);
-NURRISPANE_HOLDS(offsetof(struct nurrispane_answer, clock_state) == 2U);
-NURRISPANE_HOLDS(offsetof(struct nurrispane_answer, clock_quality) == 3U);
-NURRISPANE_HOLDS(offsetof(struct nurrispane_answer, switch_kind) == 4U);
-NURRISPANE_HOLDS(offsetof(struct nurrispane_answer, switch_input) == 5U);
-NURRISPANE_HOLDS(sizeof(struct nurrispane_card) == 680U);
-NURRISPANE_HOLDS(offsetof(struct nurrispane_card, inputs) == 0U);
-NURRISPANE_HOLDS(offsetof(struct nurrispane_card, time) == 640U);
-NURRISPANE_HOLDS(offsetof(struct nurrispane_card, due) == 648U);
-NURRISPANE_HOLDS(offsetof(struct nurrispane_card, mode) == 656U);
-NURRISPANE_HOLDS(offsetof(struct nurrispane_card, held) == 657U);
-NURRISPANE_HOLDS(offsetof(struct nurrispane_card, switch_kind) == 658U);
-NURRISPANE_HOLDS(offsetof(struct nurrispane_card, switch_input) == 659U);
-NURRISPANE_HOLDS(offsetof(struct nurrispane_card, selection) == 660U);
-NURRISPANE_HOLDS(offsetof(struct nurrispane_card, selected) == 661U);
-NURRISPANE_HOLDS(offsetof(struct nurrispane_card, answer) == 662U);
-NURRISPANE_HOLDS(offsetof(struct nurrispane_card, served) == 668U);
-NURRISPANE_HOLDS(offsetof(struct nurrispane_card, option) == 672U);
-NURRISPANE_HOLDS(offsetof(struct nurrispane_card, place) == 673U);
-NURRISPANE_HOLDS(offsetof(struct nurrispane_card, marks) == 674U);
-NURRISPANE_HOLDS(offsetof(struct nurrispane_card, spare) == 676U);
+NURRISPANE_HOLDS(sizeof(struct nurrispane_card) == 584U);
+NURRISPANE_HOLDS(offsetof(struct nurrispane_card, times) == 0U);
+NURRISPANE_HOLDS(offsetof(struct nurrispane_card, due) == 264U);
+NURRISPANE_HOLDS(offsetof(struct nurrispane_card, words) == 272U);
+NURRISPANE_HOLDS(offsetof(struct nurrispane_card, small) == 338U);
+NURRISPANE_HOLDS(offsetof(struct nurrispane_card, told) == 570U);
+NURRISPANE_HOLDS(offsetof(struct nurrispane_card, version) == 577U);
+NURRISPANE_HOLDS(offsetof(struct nurrispane_card, spare) == 578U);
 NURRISPANE_ALIGNED(struct nurrispane_card, 8U);
 NURRISPANE_HOLDS(sizeof(struct nurrispane_status) == 24U);
 NURRISPANE_HOLDS(offsetof(struct nurrispane_status, timer) == 0U);
@@ -651,22 +900,18 @@ NURRISPANE_HOLDS(offsetof(struct nurrispane_frame, event) == 2U);
 NURRISPANE_HOLDS(offsetof(struct nurrispane_frame, source) == 3U);
 NURRISPANE_HOLDS(sizeof(struct nurrispane_sender) == 96U);
 NURRISPANE_HOLDS(offsetof(struct nurrispane_sender, times) == 0U);
-NURRISPANE_HOLDS(offsetof(struct nurrispane_sender, asked) == 80U);
-NURRISPANE_HOLDS(offsetof(struct nurrispane_sender, code) == 88U);
-NURRISPANE_HOLDS(offsetof(struct nurrispane_sender, sent) == 92U);
+NURRISPANE_HOLDS(offsetof(struct nurrispane_sender, numbers) == 88U);
+NURRISPANE_ALIGNED(struct nurrispane_sender, 8U);
 NURRISPANE_HOLDS(sizeof(struct nurrispane_senders) == 1544U);
 NURRISPANE_HOLDS(offsetof(struct nurrispane_senders, ports) == 0U);
 NURRISPANE_HOLDS(offsetof(struct nurrispane_senders, number) == 1536U);
 NURRISPANE_HOLDS(offsetof(struct nurrispane_senders, frame) == 1540U);
 NURRISPANE_ALIGNED(struct nurrispane_senders, 8U);
-NURRISPANE_HOLDS(sizeof(struct nurrispane_unit) == 1368U);
+NURRISPANE_HOLDS(sizeof(struct nurrispane_unit) == 1176U);
 NURRISPANE_HOLDS(offsetof(struct nurrispane_unit, equipment) == 0U);
-NURRISPANE_HOLDS(offsetof(struct nurrispane_unit, station) == 680U);
-NURRISPANE_HOLDS(offsetof(struct nurrispane_unit, minimum) == 1360U);
-NURRISPANE_HOLDS(offsetof(struct nurrispane_unit, squelched) == 1361U);
-NURRISPANE_HOLDS(offsetof(struct nurrispane_unit, source) == 1362U);
-NURRISPANE_HOLDS(offsetof(struct nurrispane_unit, spare) == 1363U);
-NURRISPANE_HOLDS(offsetof(struct nurrispane_unit, spare4) == 1364U);
+NURRISPANE_HOLDS(offsetof(struct nurrispane_unit, station) == 584U);
+NURRISPANE_HOLDS(offsetof(struct nurrispane_unit, sent) == 1168U);
+NURRISPANE_HOLDS(offsetof(struct nurrispane_unit, spare) == 1171U);
 NURRISPANE_ALIGNED(struct nurrispane_unit, 8U);
 
 #undef NURRISPANE_HOLDS

@@ -7,6 +7,9 @@
 /* "1,000 ms or more have passed since its last frame", and "ten of its frames are less than 1,000 ms old" */
 #define HEARTBEAT 1000
 #define TENTH 9
+/* Where a sender has the code of its last frame, and how many frames. */
+#define CODE 0
+#define SENT 1
 
 static const struct nurrispane_card *card_of(const struct selector *selector, uint8_t half)
 {
@@ -36,7 +39,7 @@ bool selector_fresh(struct selector *selector, const struct profile *profile)
     else
         nurrispane_fresh(&selector->state.card, profile->option, profile->place, profile->marks);
     nurrispane_fresh_senders(&selector->senders);
-    return card_of(selector, NURRISPANE_EQUIPMENT)->answer.number == NURRISPANE_ACCEPTED;
+    return nurrispane_number(card_of(selector, NURRISPANE_EQUIPMENT)) == NURRISPANE_ACCEPTED;
 }
 
 void selector_step(struct selector *selector, const struct event *event)
@@ -51,15 +54,16 @@ void selector_step(struct selector *selector, const struct event *event)
 
 struct answer selector_answer(const struct selector *selector, uint8_t half)
 {
-    const struct nurrispane_answer *answer = &card_of(selector, half)->answer;
+    const struct nurrispane_card *card = card_of(selector, half);
 
-    return (struct answer){answer->number,        answer->selected,    answer->clock_state,
-                           answer->clock_quality, answer->switch_kind, answer->switch_input};
+    return (struct answer){nurrispane_number(card),      nurrispane_selected(card),
+                           nurrispane_clock_state(card), nurrispane_clock_quality(card),
+                           nurrispane_switch_kind(card), nurrispane_switch_input(card)};
 }
 
 uint8_t selector_station_source(const struct selector *selector)
 {
-    return selector->state.unit.source;
+    return nurrispane_unit_source(&selector->state.unit);
 }
 
 static int put_answer(const struct selector *selector, uint8_t half, char *text, size_t room)
@@ -91,8 +95,8 @@ void selector_answer_line(const struct selector *selector, char line[ANSWER_ROOM
         line[at++] = ' ';
         at += put_answer(selector, NURRISPANE_STATION, line + at, (size_t)(ANSWER_ROOM - at));
         at += snprintf(line + at, (size_t)(ANSWER_ROOM - at), " %s %02x",
-                       selector->state.unit.squelched ? "ais" : "out",
-                       selector->state.unit.source);
+                       nurrispane_unit_squelched(&selector->state.unit) ? "ais" : "out",
+                       nurrispane_unit_source(&selector->state.unit));
         at += put_codes(selector, NURRISPANE_EQUIPMENT, line + at);
         at += put_codes(selector, NURRISPANE_STATION, line + at);
     }
@@ -102,7 +106,7 @@ void selector_answer_line(const struct selector *selector, char line[ANSWER_ROOM
 
 uint64_t selector_time(const struct selector *selector)
 {
-    return card_of(selector, NURRISPANE_EQUIPMENT)->time;
+    return nurrispane_time(card_of(selector, NURRISPANE_EQUIPMENT));
 }
 
 uint64_t selector_next_due(const struct selector *selector)
@@ -154,11 +158,11 @@ uint64_t selector_next_ask(const struct selector *selector, uint8_t port)
     const struct nurrispane_sender *sender = &selector->senders.ports[port];
     uint8_t codes[PORTS];
 
-    if (sender->sent == 0)
+    if (sender->numbers[SENT] == 0)
         return 0;
     selector_codes(selector, NURRISPANE_EQUIPMENT, codes);
     /* a change that is not told yet waits for the ceiling alone */
-    return (codes[port] == sender->code ? sender->times[0] : sender->times[TENTH]) + HEARTBEAT;
+    return (codes[port] == sender->numbers[CODE] ? sender->times[0] : sender->times[TENTH]) + HEARTBEAT;
 }
 
 size_t selector_state_octets(const struct profile *profile)

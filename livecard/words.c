@@ -8,7 +8,6 @@
 #define LARGEST_INPUT 0xff
 #define LARGEST_ARGUMENT 0xffff
 #define LARGEST_FRAME 65535
-#define LARGEST_CODE 15
 #define BINARY_DIGITS 4 /* of a code */
 #define MOST_DIGITS 30 /* of a number */
 #define NAMES 10
@@ -134,8 +133,8 @@ static bool take_number(struct reader *reader, unsigned largest, const char *wha
     return take_word(reader, &word, what) && read_number(reader, &word, largest, what, number);
 }
 
-/* A code: four binary digits, the name of a quality, or a plain number, which has no leading 0. */
-static bool take_code(struct reader *reader, unsigned largest, unsigned *code)
+/* A code: four binary digits or the name of a quality. A plain number is none. */
+static bool take_code(struct reader *reader, unsigned *code)
 {
     const struct named *named = reader->option == NURRISPANE_OPTION_2 ? codes_two : codes_one;
     struct word word;
@@ -153,10 +152,8 @@ static bool take_code(struct reader *reader, unsigned largest, unsigned *code)
             *code = named->number;
             return true;
         }
-    if (!is_all(&word, "0123456789") || (word.text[0] == '0' && word.length > 1))
-        return is_wrong(reader, word.text,
-                        "a code is four binary digits, as 0010, or the name of a quality");
-    return read_number(reader, &word, largest, "a code", code);
+    return is_wrong(reader, word.text,
+                    "a code is four binary digits, as 1011, or a quality's name");
 }
 
 static unsigned digit_value(char digit)
@@ -263,7 +260,7 @@ static bool read_frame(struct reader *reader, struct spoken *spoken)
     struct word word;
 
     if (!take_number(reader, LARGEST_INPUT, "an input", &input) ||
-        !take_code(reader, LARGEST_CODE, &code))
+        !take_code(reader, &code))
         return false;
     spoken->event.kind = NURRISPANE_EVENT_FRAME;
     spoken->event.input = (uint8_t)input;
@@ -334,7 +331,7 @@ static bool read_known(struct reader *reader, const struct kind *kind, struct sp
     spoken->event.kind = kind->number;
     spoken->event.input = (uint8_t)input;
     if (kind->number == NURRISPANE_EVENT_LINE_CODE) {
-        bool taken = take_code(reader, LARGEST_ARGUMENT, &code);
+        bool taken = take_code(reader, &code);
 
         spoken->event.argument = (uint16_t)code;
         return taken;

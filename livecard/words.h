@@ -1,4 +1,4 @@
-/* An event in words without a time, as docs/WORDS.md has them; and answers in the same words. */
+/* An event in words without a time, as docs/LABORATORY.md has them; and answers in the same words. */
 #ifndef LIVECARD_WORDS_H
 #define LIVECARD_WORDS_H
 

@@ -6,7 +6,7 @@
  *     firmware LOG ANSWERS <EVENTS
  *
  * LOG gets every event that it made, its own ticks too, ANSWERS what it was answered. The replay of
- * LOG gives ANSWERS: tests/card compares. On every 50th event it restarts from the card that it kept.
+ * LOG gives ANSWERS: tests/firmware/card compares. On every 50th event it restarts from the card that it kept.
  */
 #include <stdio.h>
 #include <string.h>
@@ -30,14 +30,14 @@ static void make(unsigned kind, uint64_t ms, unsigned input, unsigned argument,
                  const uint8_t *frame, size_t length)
 {
     nurrispane_step(&card, (uint8_t)kind, ms, (uint8_t)input, (uint16_t)argument, frame, length);
-    fprintf(events, "%02x%02x%012llx%02x%04x", kind, card.option, (unsigned long long)ms, input,
-            argument);
+    fprintf(events, "%02x%02x%012llx%02x%04x", kind, nurrispane_option(&card), (unsigned long long)ms,
+            input, argument);
     for (size_t i = 0; i < length; i++)
         fprintf(events, "%02x", frame[i]);
     fprintf(events, "\n");
-    fprintf(answers, "%02x%02x%02x%02x%02x%02x\n", card.answer.number, card.answer.selected,
-            card.answer.clock_state, card.answer.clock_quality, card.answer.switch_kind,
-            card.answer.switch_input);
+    fprintf(answers, "%02x%02x%02x%02x%02x%02x\n", nurrispane_number(&card), nurrispane_selected(&card),
+            nurrispane_clock_state(&card), nurrispane_clock_quality(&card),
+            nurrispane_switch_kind(&card), nurrispane_switch_input(&card));
     kept = card;
     made++;
 }
@@ -66,8 +66,8 @@ static void restart(void)
 /* Sleeps up to a time, and wakes for what is due and for heartbeats. */
 static void sleep_until(uint64_t until, uint64_t *beat)
 {
-    if (*beat < card.time)
-        *beat = card.time;
+    if (*beat < nurrispane_time(&card))
+        *beat = nurrispane_time(&card);
     for (;;) {
         uint64_t due = nurrispane_next_due(&card), wake = due < *beat ? due : *beat;
 
@@ -113,12 +113,12 @@ int main(int argc, char **argv)
             continue;
         if (made == 0)
             nurrispane_fresh(&card, (uint8_t)option, 0, 0);
-        if (option != card.option)
+        if (option != nurrispane_option(&card))
             continue;
-        if (ms >= card.time && ms < card.time + DAY)
+        if (ms >= nurrispane_time(&card) && ms < nurrispane_time(&card) + DAY)
             sleep_until(ms, &beat);
         make(kind, ms, input, argument, frame, length);
-        heartbeats(card.time);
+        heartbeats(nurrispane_time(&card));
         if (made % RESTART == 0)
             restart();
     }

@@ -90,9 +90,14 @@ static void call_write_frame(void)
     sink = nurrispane_write_frame(&card, event.input, 1, source, sizeof source, buffer, sizeof buffer);
 }
 
-static void call_fresh_senders(void)
+static void call_fresh_sender(void)
 {
-    nurrispane_fresh_senders(&senders);
+    nurrispane_fresh_sender(&senders.ports[0]);
+}
+
+static void call_tick_part(void)
+{
+    sink = nurrispane_tick_part(&card, event.time, 1);
 }
 
 static void call_ask(void)
@@ -172,7 +177,7 @@ static void any_event(void)
 {
     static const uint32_t gaps[8] = {0, 1, 100, 299, 1000, 5001, 60000, 1000000};
     uint32_t kind = below(3) == 0 ? NURRISPANE_EVENT_FRAME : 1 + below(18);
-    uint64_t time = card.time + (below(2) ? gaps[below(8)] : below(50));
+    uint64_t time = nurrispane_time(&card) + (below(2) ? gaps[below(8)] : below(50));
 
     set_event((uint8_t)kind, time, (uint8_t)below(NURRISPANE_INPUTS), any_argument(kind));
     if (kind == NURRISPANE_EVENT_CLEAR_SWITCH || kind == NURRISPANE_EVENT_QUALITY_MODE || kind == NURRISPANE_EVENT_TICK)
@@ -187,8 +192,8 @@ static void any_card(void)
 {
     for (uint32_t at = 0; at < sizeof card; at++)
         ((uint8_t *)&card)[at] = (uint8_t)below(below(2) ? 256 : 4);
-    card.time = below(100000);
-    card.due = below(100000);
+    card.times[32] = below(100000); /* the time */
+    card.due[0] = below(100000);
 }
 
 /* Sixteen Ethernet inputs whose frames, hold-offs and waits all end at times of their own: as many due moments as there can be. */
@@ -223,6 +228,7 @@ static struct {
 } calls[] = {{"step", call_step, 0, 0},
              {"self_test", call_self_test, 0, 0},
              {"fresh", call_fresh, 0, 0},
+             {"tick_part", call_tick_part, 0, 0},
              {"next_due", call_next_due, 0, 0},
              {"is_sound", call_is_sound, 0, 0},
              {"input_status", call_input_status, 0, 0},
@@ -230,7 +236,7 @@ static struct {
              {"outgoing_words", call_outgoing_words, 0, 0},
              {"read_frame", call_read_frame, 0, 0},
              {"write_frame", call_write_frame, 0, 0},
-             {"fresh_senders", call_fresh_senders, 0, 0},
+             {"fresh_sender", call_fresh_sender, 0, 0},
              {"ask", call_ask, 0, 0}};
 
 enum { CALLS = sizeof calls / sizeof *calls };
@@ -272,9 +278,9 @@ static int is_served(void)
     set_event(NURRISPANE_EVENT_FORCED, 900000, 3, 0);
     measure_call(0);
     say("the busy card's step served ");
-    say_number(card.served);
+    say_number(nurrispane_served(&card));
     say(" due moments\n");
-    return card.served >= NURRISPANE_INPUTS && card.answer.number == NURRISPANE_ACCEPTED;
+    return nurrispane_served(&card) >= NURRISPANE_INPUTS && nurrispane_number(&card) == NURRISPANE_ACCEPTED;
 }
 
 static void call_thousand_steps(void)
@@ -287,7 +293,7 @@ static void call_thousand_steps(void)
 static void tell_quick(uint32_t per_thousand)
 {
     card = busy;
-    set_event(NURRISPANE_EVENT_FRAME, busy.time, NURRISPANE_INPUTS - 1U, 0);
+    set_event(NURRISPANE_EVENT_FRAME, nurrispane_time(&busy), NURRISPANE_INPUTS - 1U, 0);
     event.frame = frame;
     event.length = sizeof frame;
     say("a quick step: instructions ");
@@ -301,15 +307,14 @@ static void tell_moment(uint32_t per_thousand)
     uint32_t most = 0, moments = 0;
 
     card = busy;
-    for (uint64_t due = nurrispane_next_due(&card); due <= 900000; due = nurrispane_next_due(&card), moments++) {
-        uint32_t took;
+    set_event(NURRISPANE_EVENT_TICK, 900000, 0, 0);
+    for (sink = 1; sink != 0; moments++) {
+        uint32_t took = ticks_of(call_tick_part);
 
-        set_event(NURRISPANE_EVENT_TICK, due, 0, 0);
-        took = ticks_of(call_step);
         if (took > most)
             most = took;
     }
-    say("a step with one due moment, of ");
+    say("a part of a tick with one due moment, of ");
     say_number(moments);
     say(": instructions ");
     say_number((uint32_t)((uint64_t)most * per_thousand / 1000));
@@ -345,7 +350,7 @@ int measure(uint32_t rounds)
         round_of_calls(round);
         if (below(50) == 0)
             card = busy;
-        if (card.time > UINT64_C(1) << 40 || below(200) == 0)
+        if (nurrispane_time(&card) > UINT64_C(1) << 40 || below(200) == 0)
             nurrispane_fresh(&card, (uint8_t)(1 + below(2)), 3, 5);
     }
     for (uint32_t round = 0; round < rounds; round++) {

@@ -3,7 +3,8 @@
 #include "nurrispane.h"
 
 #define PAINT UINT32_C(0x5aa5c33c)
-#define WORDS (NURRISPANE_STACK / 4U)
+#define MOST (NURRISPANE_STACK > NURRISPANE_UNIT_STACK ? NURRISPANE_STACK : NURRISPANE_UNIT_STACK)
+#define WORDS (MOST / 4U)
 
 static uint32_t stack[WORDS] __attribute__((section(".stack"), aligned(8)));
 

@@ -44,13 +44,14 @@ static void any_report(void)
     argument = (uint16_t)(kind == NURRISPANE_EVENT_LINE_CODE ? 2 * below(4) : kind == NURRISPANE_EVENT_WORD ? 0x04ff : below(4) == 0);
     if (kind == NURRISPANE_EVENT_TICK)
         argument = 0;
-    time = unit.equipment.time + (below(4) ? below(100) : below(400000));
+    time = nurrispane_time(&unit.equipment) + (below(4) ? below(100) : below(400000));
 }
 
-static int is_same(const struct nurrispane_answer *one, const struct nurrispane_answer *other)
+static int is_same(const struct nurrispane_card *one, const struct nurrispane_card *other)
 {
-    return one->number == other->number && one->selected == other->selected && one->clock_state == other->clock_state &&
-           one->clock_quality == other->clock_quality && one->switch_kind == other->switch_kind && one->switch_input == other->switch_input;
+    return nurrispane_number(one) == nurrispane_number(other) && nurrispane_selected(one) == nurrispane_selected(other) &&
+           nurrispane_clock_state(one) == nurrispane_clock_state(other) && nurrispane_clock_quality(one) == nurrispane_clock_quality(other) &&
+           nurrispane_switch_kind(one) == nurrispane_switch_kind(other) && nurrispane_switch_input(one) == nurrispane_switch_input(other);
 }
 
 static int is_unit_right(uint32_t *deepest, uint32_t *followed)
@@ -61,11 +62,11 @@ static int is_unit_right(uint32_t *deepest, uint32_t *followed)
     took = octets_of(call_step);
     if (took > *deepest)
         *deepest = took;
-    *followed += unit.equipment.answer.clock_state == NURRISPANE_LOCKED;
+    *followed += nurrispane_clock_state(&unit.equipment) == NURRISPANE_LOCKED;
     nurrispane_step(&alone, NURRISPANE_EVENT_TICK, time, 0, 0, NURRISPANE_NO_FRAME, 0);
-    if (alone.answer.number == NURRISPANE_ACCEPTED)
+    if (nurrispane_number(&alone) == NURRISPANE_ACCEPTED)
         nurrispane_step(&alone, kind, time, input, argument, NURRISPANE_NO_FRAME, 0);
-    return is_same(&unit.equipment.answer, &alone.answer) && is_same(&unit.station.answer, &alone.answer);
+    return is_same(&unit.equipment, &alone) && is_same(&unit.station, &alone);
 }
 
 /* Both selectors get the same settings, so that they answer alike. */
@@ -79,7 +80,7 @@ int run_unit(uint32_t rounds)
 {
     uint32_t start = octets_of(call_fresh), deepest = 0, followed = 0;
 
-    if (!NURRISPANE_UNIT_BELONGS() || unit.equipment.answer.number != NURRISPANE_ACCEPTED || start > NURRISPANE_UNIT_STACK)
+    if (!NURRISPANE_UNIT_BELONGS() || nurrispane_number(&unit.equipment) != NURRISPANE_ACCEPTED || start > NURRISPANE_UNIT_STACK)
         return 1;
     for (uint8_t i = 0; i < 4; i++) {
         set_both(NURRISPANE_EVENT_PRIORITY, i, (uint16_t)(i + 1));

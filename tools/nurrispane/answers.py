@@ -1,4 +1,4 @@
-"""Answers in words, both ways: docs/WORDS.md, "Answers". `words` is the short form, which `read` takes back; `meaning`
+"""Answers in words, both ways: docs/LABORATORY.md, "The words of a log". `words` is the short form, which `read` takes back; `meaning`
 is the same for a person."""
 
 import collections

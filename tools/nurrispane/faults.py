@@ -50,6 +50,16 @@ def known():
     return [fault for fault in every() if fault.mode in LOG_MODES]
 
 
+def known_of_option_two():
+    """The known faults that a log of option II alone may show, with the START of their mode."""
+    return [fault for fault in every() if fault.mode not in LOG_MODES and fault.mode.split()[0] in LOG_MODES]
+
+
+def start_of(fault):
+    """START of a fault's mode, as the programs take it."""
+    return tuple(fault.mode.split()[1:])
+
+
 def of_answers(option):
     """The known faults that the answers to a log of this option may show."""
     return [fault for fault in every() if fault.mode == "replay" or option != 1 and fault.mode.startswith("replay ")]

@@ -1,4 +1,4 @@
-"""What is known of the sixteen inputs after a line of a log: asked of the proved program `facts` (docs/FACTS.md), and put
+"""What is known of the sixteen inputs after a line of a log: asked of the proved program `facts` (docs/LABORATORY.md), and put
 into words. Nothing is worked out here but which of the facts is told."""
 
 import collections

@@ -43,7 +43,9 @@ class Judge:
     def stretches(self):
         """Where a port tells a wrong code; a change may wait for the ceiling."""
         question = verdicts.Question("codes", self.late, ROUNDING, self.limit)
-        verdict = verdicts.of_ports(self.timed, sorted(self.shown), question, self.profile.option, self.profile.start)
+        # what a port tells twice in a millisecond keeps its order
+        shown = sorted(self.shown, key=lambda one: (one.time, one.port))
+        verdict = verdicts.of_ports(self.timed, shown, question, self.profile.option, self.profile.start)
         wrong = [Wrong(port, each.start, each.end, int(each.value, 16)) for port, found in verdict.stretches.items() for each in found]
         return [left for one in wrong if (left := self.without_waits(one)) and not self.is_held(left)]
 

@@ -1,5 +1,6 @@
 """The proved programs, run on a log; what they answer is counted line by line."""
 
+import contextlib
 import functools
 import pathlib
 import subprocess
@@ -16,7 +17,7 @@ CHUNK, LARGE_CHUNK = 1 << 16, 1 << 20
 @functools.cache
 def ready(name):
     """Proves and builds a program where that has not been done; its progress goes to standard error."""
-    built = subprocess.run([str(ROOT / ".ci" / "built"), name], stdin=subprocess.DEVNULL, stdout=subprocess.DEVNULL)
+    built = subprocess.run([str(ROOT / "tools" / "built"), name], stdin=subprocess.DEVNULL, stdout=subprocess.DEVNULL)
     if built.returncode != 0:
         raise Trouble("the program %s is not built" % name)
 
@@ -27,7 +28,7 @@ TAKE_START = ("replay", "outgoing", "counts", "words", "heartbeat", "facts", "ve
 
 def command(name, *arguments, start=()):
     """A program's call; START where it takes one."""
-    return [str(ROOT / ".ci" / "program"), name, *map(str, arguments), *(start if name in TAKE_START else ())]
+    return [str(ROOT / "tools" / "program"), name, *map(str, arguments), *(start if name in TAKE_START else ())]
 
 
 class LineCount:
@@ -164,6 +165,31 @@ def put_out(name, path, out, start=()):
     profiles.of_log(words.option_in(data), start)
     write(out, b"".join(line + b"\n" for line in answers(name, data, start)))
     return data[:CHUNK]
+
+
+# What stands alone where a start is refused.
+REFUSED_START = b"06\n"
+
+
+def handed_on(name, path, *arguments):
+    """A program run on a file as it is; what it says goes to standard output as it comes. What it says on standard error, a
+    wrong call above all, is trouble, and so is a start that it refuses."""
+    ready(name)
+    with opened(path) as source:
+        process = subprocess.Popen(command(name, *arguments), stdin=source, stdout=subprocess.PIPE, stderr=subprocess.PIPE)
+    told = b""
+    try:
+        while piece := process.stdout.read1(CHUNK):
+            told = (told + piece)[:len(REFUSED_START) + 1]
+            write_out(piece)
+    except BaseException:
+        with contextlib.suppress(ProcessLookupError):
+            process.kill()
+        raise
+    said = process.stderr.read()
+    went_on(name, process.wait(), said)
+    if told == REFUSED_START:
+        raise Trouble("the program %s refuses this start with 6" % name)
 
 
 def opened(path):

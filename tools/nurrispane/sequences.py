@@ -8,6 +8,7 @@ makes them."""
 
 import collections
 import hashlib
+import re
 
 from nurrispane import faults, jitter, words
 from nurrispane.files import ROOT, Trouble, read_text
@@ -229,15 +230,17 @@ Table = collections.namedtuple("Table", "made_of finds entries under out_of_reac
 
 
 def digest(texts=None):
-    """A name made of all that the table is made of and of the set: its files, or these texts by their names."""
+    """A name made of all that the table is made of and of the set: its files, or these texts by their names. Of a log in words its
+    name, what it shows and its lines count; comments and other words for the same line don't."""
     if texts is None:
         texts = {path.stem: path.read_text() for path in (HERE / "known").glob("*.words")}
     made_of = sorted(path for folder in (BY_HAND, LOOKED, ETHERNET) for path in (HERE / folder).glob("*.words"))
     made_of.append(STORED / "hand-made.txt")
+    told = [(path.name, path.read_text()) for path in made_of] + sorted(texts.items())
     parts = [part for named in faults.sources(faults.RIGHT).items() for part in named]
     parts += [repr(fault) for fault in faults.known()]
-    parts += [part for path in made_of for part in (path.name, path.read_text())]
-    parts += [part for named in sorted(texts.items()) for part in named]
+    for name, text in told:
+        parts += [name, *(part for log in words.logs(text, name) for part in (str(log.name), log.shows, log.data().decode("latin-1")))]
     parts.append(repr((jitter.LEVELS, jitter.SEEDS)))
     return hashlib.sha256("\0".join(parts).encode()).hexdigest()[:24]
 
@@ -267,20 +270,23 @@ def is_stale(table):
     return table.made_of != [digest()]
 
 
-# ---- the page on jitter
+# ---- the guide's table on jitter
+
+GUIDE = ROOT / "docs" / "LABORATORY.md"
+MARKED = re.compile(r"(<!-- the table, by sequences/make -->\n).*(<!-- end -->\n)", re.S)
 
 
-def jitter_page(table):
-    """docs/JITTER.md: how many logs of the set that is written by default find each known fault, the least and the most of
-    all seeds, for each amount of jitter."""
+def jitter_table(table):
+    """How many logs of the set that is written by default find each known fault, the least and the most of all seeds, for
+    each amount of jitter."""
     amounts = ["%d ms" % amount for amount in jitter.LEVELS]
-    yield "# What the set finds under jitter"
-    yield ""
-    yield "`sequences/make` makes this page. The set is what `./nurrispane bench DIR` writes, for a jitter of %d ms. A cell says how many of" % jitter.DEFAULT
-    yield "its logs find the fault: the least and the most of %d seeds. 0 at the least: with some seed no log finds it. docs/BENCH.md says" % jitter.SEEDS
-    yield "what jitter is, and why a fault of a millisecond is lost."
-    yield ""
     yield "| Known fault | %s |" % " | ".join(amounts)
     yield "|---|%s" % ("---|" * len(amounts))
     for fault, cells in table.under.items():
         yield "| %s | %s |" % (fault, " | ".join("%d" % least if least == most else "%d to %d" % (least, most) for least, most in cells))
+
+
+def guide(table):
+    """docs/LABORATORY.md with that table in it."""
+    made = "".join(line + "\n" for line in jitter_table(table))
+    return MARKED.sub(lambda found: found.group(1) + made + found.group(2), GUIDE.read_text())

@@ -1,5 +1,5 @@
 """What a card shows over time, as a table has it: a header row, comma or tab, a time column, and any of selected, state, quality and
-switch, in the card's own words. docs/SEE.md, "judge", says what a table may have."""
+switch, in the card's own words. docs/LABORATORY.md says what a table may have."""
 
 import collections
 import csv
@@ -51,7 +51,7 @@ def from_zero(rows, said):
 
 
 def arguments(parser):
-    parser.add_argument("--shown", metavar="FILE", help="a table of what the card shows over time: docs/SEE.md")
+    parser.add_argument("--shown", metavar="FILE", help="a table of what the card shows over time: docs/LABORATORY.md")
     parser.add_argument("--times", metavar="FILE", help="the same of a selection alone: lines of \"TIME INPUT\" in ms, - for none")
     parser.add_argument("--tolerance", metavar="TIME", help="how late the card may be, as 50ms, 1s or 2min; 0 without it")
     parser.add_argument("--early", metavar="TIME", help="how early the card's clock may be; 1ms without it")
@@ -99,7 +99,7 @@ def question(shown, options, last):
         raise Trouble("%s shows nothing up to %s ms, so there is no verdict" % (shown.name, format(end, ",")))
     late = sum(row.time > end for row in shown.rows)
     if late:
-        shown.said.append("%d rows are behind the end and not judged" % late)
+        shown.said.append("%d %s behind the end and not judged" % (late, "row is" if late == 1 else "rows are"))
     return verdicts.Question(shown.form, *tolerance(options), end)
 
 

@@ -229,17 +229,18 @@ def longest(right, wrong, marks, ports):
 
 
 class Looked:
-    """A log as it is looked at: its right codes, and what a fault makes of them."""
+    """A log as it is looked at, of option II with this START: its right codes, and what a fault makes of them."""
 
-    def __init__(self, lines):
+    def __init__(self, lines, start=()):
+        self.start = start
         self.data, self.marks = looked_at(lines)
-        self.right = programs.answers("outgoing", self.data)
-        if self.right != faults.run(faults.build(faults.RIGHT), "outgoing", self.data):
+        self.right = programs.answers("outgoing", self.data, start)
+        if self.right != faults.run(faults.build(faults.RIGHT), "outgoing", self.data, start):
             raise Trouble("the independent program and the proved outgoing differ")
 
     def shows(self, fault):
         """The views in which a fault makes a code wrong for longer than the tolerance."""
-        wrong = faults.run(faults.build(fault), "outgoing", self.data)
+        wrong = faults.run(faults.build(fault), "outgoing", self.data, self.start)
         if wrong == self.right:
             return []
         return [view for view, ports in VIEWS.items() if longest(self.right, wrong, self.marks, ports) > TOLERANCE]

@@ -1,4 +1,4 @@
-"""The words of an event log, both ways: docs/WORDS.md has the language.
+"""The words of an event log, both ways: docs/LABORATORY.md has the language.
 
 `logs` reads words, `log_in_words` writes them. Line N of what it writes is line N of the log.
 """
@@ -169,25 +169,23 @@ def line_of_words(said, option):
     return line
 
 
-def code(word, largest, option):
-    """A code: four binary digits, the name of a quality, or a plain number, which has no leading 0."""
+def code(word, option):
+    """A code: four binary digits or the name of a quality. A plain number is none: 11 would be three to one reader, eleven to another."""
     if BINARY_CODE.fullmatch(word.text):
         return int(word.text, 2)
     codes = profiles.of_option(option).codes
     for value, name in codes.items():
         if name == word.text:
             return value
-    if not re.fullmatch("0|[1-9][0-9]{0,29}", word.text):
-        names = ", ".join(codes.values())
-        raise Wrong(word.column, f"a code is four binary digits, as 0010, or one of {names}, not {ascii(word.text)}")
-    return number(word, largest, "a code")
+    names = ", ".join(codes.values())
+    raise Wrong(word.column, f"a code is four binary digits, as 1011, or a quality's name ({names}), not {ascii(word.text)}")
 
 
 def known_event(kind, time, take, option):
     input_number = number(take("an input"), LARGEST_INPUT, "an input") if kind.has_input else 0
     argument = 0
     if kind.word == "code":
-        argument = code(take("a code"), LARGEST_ARGUMENT, option)
+        argument = code(take("a code"), option)
     elif kind.names is not None:
         word = take("an argument")
         named = kind.names.get(word.text)
@@ -200,7 +198,7 @@ def known_event(kind, time, take, option):
 
 def frame_line(time, take, said, option):
     input_number = number(take("an input"), LARGEST_INPUT, "an input")
-    octets = sound_frame(code(take("a code"), LARGEST_CODE, option))
+    octets = sound_frame(code(take("a code"), option))
     while said:
         octets = change_frame(octets, said.popleft())
     return event_line(FRAME_KIND, time, input_number, 0, octets, option)
@@ -408,7 +406,7 @@ def line_in_words(data, option=None):
     said = ["%d" % event.time, kind.word]
     if kind.has_input:
         said.append("%d" % event.input)
-    if kind.word == "code" and event.argument <= LARGEST_CODE:
+    if kind.word == "code":
         said.append(f"{event.argument:04b}")
     elif kind.names is not None:
         names = [name for name, value in kind.names.items() if value == event.argument]
@@ -417,10 +415,9 @@ def line_in_words(data, option=None):
 
 
 def has_words(kind, event):
-    """Whether an event can be said with its kind's word: one without input or argument has 0 there, and an argument that is no
-    code is not written as one."""
+    """Whether an event can be said with its kind's word: one without input or argument has 0 there, and a code has four bits."""
     if kind.word == "code" and event.argument > LARGEST_CODE:
-        return not BINARY_CODE.fullmatch(f"{event.argument}")
+        return False
     return (kind.has_input or event.input == 0) and (kind.names is not None or event.argument == 0)
 
 

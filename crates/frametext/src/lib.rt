@@ -13,7 +13,7 @@ ghost use mathlib.Core.List.{[], _∷_, _++_};
 ghost use mathlib.Core.Path.{_≡_};
 ghost use Prim.Native.Nat.{_+_, _-_, _*_, _/_, _≤_};
 ghost use lib.ListN.{length, replicate};
-ghost use Rattle.digits.specs.Digits.{isDigit, allDigits, digitValue, octetsOf, digitsOf};
+ghost use Rattle.digits.specs.Digits.{allDigits, octetsOf, digitsOf};
 ghost use Rattle.frame.specs.Octets.{longestFrame};
 ghost use Rattle.frametext.specs.Message.{flagDigit, codeText, messageText, inFront, messageLine};
 
@@ -29,22 +29,6 @@ pub struct MessageLine {
     pub length: usize,
 }
 
-// The value of a digit: its character's lower half, and nine more for a letter, whose bit 6 is set.
-fn digit_value(digit: u8) -> u8
-    requires { ⌜ isDigit digit ≡ true ⌝ }
-    ensures { λ answer. ⌜ answer ≡ digitValue digit ⌝ }
-{
-    digit % 16 + digit / 64 % 2 * 9
-}
-
-// The octet that two digits stand for.
-fn octet_of(upper: u8, lower: u8) -> u8
-    requires { ⌜ (isDigit upper ≡ true) × (isDigit lower ≡ true) ⌝ }
-    ensures { λ answer. ⌜ answer ≡ digitValue upper * 16 + digitValue lower ⌝ }
-{
-    digit_value(upper) * 16 + digit_value(lower)
-}
-
 // The octets that digits stand for, no more than a frame may have, and zeros after them.
 fn octets_of(line: &[u8]) -> [u8; LONGEST_FRAME]
     requires { ⌜ (allDigits (now line) ≡ true) × (length (now line) / 2 ≤ longestFrame) ⌝ }
@@ -56,7 +40,7 @@ fn octets_of(line: &[u8]) -> [u8; LONGEST_FRAME]
     let mut octets = [0; LONGEST_FRAME];
     let mut passed = 0;
     while passed < line.len() / 2 {
-        octets[passed] = octet_of(line[passed * 2], line[passed * 2 + 1]);
+        octets[passed] = digits::octet_of(line[passed * 2], line[passed * 2 + 1]);
         passed += 1;
     }
     octets

@@ -1,19 +1,23 @@
 -- One moment in place, call by call. Assumes nothing.
 use Prim.Native.Nat.{ℕ}
-use mathlib.Core.Bool.{Bool}
+use mathlib.Core.Bool.{Bool, true, false}
 use mathlib.Core.List.{List, map}
 use mathlib.Core.Path.{_≡_, refl, sym, ap, _∙_}
-use lib.ListN.{set}
+use lib.ListN.{set, replicate}
 use Rattle.input.specs.declared.Input.{Input}
-use Rattle.input.specs.Record.{inputBroughtTo}
+use Rattle.numbers.specs.declared.Profile.{Profile}
+use Rattle.input.specs.Record.{freshInput, inputBroughtTo}
 use Rattle.choice.specs.declared.Candidate.{Candidate}
 use Rattle.choice.specs.declared.Selection.{Selection}
+use Rattle.choice.specs.declared.Selection.the-variants as S
 use Rattle.switch.specs.declared.AfterChoice.{AfterChoice}
 use Rattle.switch.specs.declared.Switch.{Switch}
+use Rattle.switch.specs.declared.Switch.the-variants as W
 use Rattle.switch.specs.OneChoice.{decide}
 use Rattle.selector.specs.declared.Selector.{Selector}
-use Rattle.selector.specs.State.{candidatesOf, withChoice, decided, tickedOnce}
-use Rattle.inplace.specs.Lists.{selectorAt, withInputs, withTime, heldChoice}
+use Rattle.selector.specs.Clock.{selectedNumber, switchNumber, switchInput}
+use Rattle.selector.specs.State.{candidatesOf, freshSelector, withChoice, decided, tickedOnce}
+use Rattle.inplace.specs.Lists.{switchOf, selectionOf, isSelected, selectorAt, withInputs, withTime, withProfile, withCommand, heldSwitch, heldChoice}
 use Rattle.inplace.proofs.Named.{On, switchOf-on, choice-again}
 
 -- the switch that lists hold is on an input
@@ -55,3 +59,24 @@ moment state brought timed after time mode m b t d =
     withTime
     (withInputs state (map (λ (input : Input). inputBroughtTo input time (m j)) (state .inputs)))
     time))
+
+-- a fresh state stored part by part
+pub fresh-stored : (state inputs timed commanded chosen after : Selector) (profile : Profile)
+    → inputs ≡ withInputs state (replicate 16 freshInput)
+    → timed ≡ withTime inputs 0
+    → commanded ≡ withCommand timed true (heldSwitch W.Nothing)
+    → chosen
+    ≡ withChoice commanded (heldChoice (record { switch = W.Nothing; selection = S.Nothing; held = false }))
+    → after ≡ withProfile chosen profile
+    → after ≡ freshSelector profile
+unfolding switchOf selectionOf isSelected switchNumber switchInput selectedNumber
+fresh-stored state inputs timed commanded chosen after profile i t d c p =
+    p ∙
+    ap (λ (one : Selector). withProfile one profile)
+    (c ∙
+    ap
+    (λ (one : Selector). withChoice one
+    (heldChoice (record { switch = W.Nothing; selection = S.Nothing; held = false })))
+    (d ∙
+    ap (λ (one : Selector). withCommand one true (heldSwitch W.Nothing))
+    (t ∙ ap (λ (one : Selector). withTime one 0) i)))

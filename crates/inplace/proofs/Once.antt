@@ -11,6 +11,9 @@ use lib.Seq.{getD-set-same, getD-set-other}
 use borrow.Author.Tests.{eqb-true, eqb-false, ltb-true, eq-eqb, ne-eqb}
 use Rattle.numbers.proofs.Truth.{byBool, both-first, both-second}
 use Rattle.numbers.specs.declared.InputNumber.{InputNumber}
+use Rattle.numbers.specs.declared.Profile.{Profile}
+use Rattle.numbers.specs.declared.Profile.the-variants as P
+use Rattle.numbers.specs.Profile.{profileIn, optionOf, placeOf, marksOf}
 use Rattle.choice.specs.declared.Selection.{Selection}
 use Rattle.choice.specs.declared.Selection.the-variants as S
 use Rattle.switch.specs.declared.AfterChoice.{AfterChoice}
@@ -20,7 +23,7 @@ use Rattle.selector.specs.Clock.{ports, selectedNumber, switchNumber, switchInp
 use Rattle.selector.specs.declared.Selector.{Selector}
 use Rattle.selector.specs.State.{withChoice}
 use Rattle.selector.proofs.Ports.{ports-same}
-use Rattle.inplace.specs.Lists.{isSet, column, rest, inputIn, inputAt, selectorIn, selectorAt, switchOf, selectionOf, isSelected, withTime, withCommand, heldSwitch, heldChoice}
+use Rattle.inplace.specs.Lists.{isSet, column, rest, inputIn, inputAt, selectorIn, selectorAt, switchOf, selectionOf, isSelected, withTime, withProfile, withCommand, heldSwitch, heldChoice}
 use Rattle.inplace.proofs.Columns.{put, puts, isSet-byte}
 
 -- numbers stored among those that stand once, one after another, in a list
@@ -82,25 +85,26 @@ onces-rest from room (pair ∷ pairs) list below long =
 
 -- ---- the state
 
-module _ (times small words : List ℕ) (ts ss : List (ℕ × ℕ))
+module _ (times small words : List ℕ) (ts ss ws : List (ℕ × ℕ))
     (tsame : rest (onces times 32 ts) 32 ≡ puts (rest times 32) ts)
-    (ssame : rest (onces small 224 ss) 224 ≡ puts (rest small 224) ss) where
+    (ssame : rest (onces small 224 ss) 224 ≡ puts (rest small 224) ss)
+    (wsame : rest (onces words 32 ws) 32 ≡ puts (rest words 32) ws) where
   each : (port : ℕ) → port < 16
-      → inputAt (onces times 32 ts) (onces small 224 ss) words port ≡ inputAt times small words port
+      → inputAt (onces times 32 ts) (onces small 224 ss) (onces words 32 ws) port ≡ inputAt times small words port
   unfolding inputAt
   each port h = λ j.
-      inputIn (onces-column 2 ts times port h j) (onces-column 14 ss small port h j) (column words port)
+      inputIn (onces-column 2 ts times port h j) (onces-column 14 ss small port h j) (onces-column 2 ws words port h j)
 
-  pub selector-once : selectorAt (onces times 32 ts) (onces small 224 ss) words
+  pub selector-once : selectorAt (onces times 32 ts) (onces small 224 ss) (onces words 32 ws)
       ≡ selectorIn (selectorAt times small words .inputs) (puts (rest times 32) ts) (puts (rest small 224) ss)
-      (rest words 32)
+      (puts (rest words 32) ws)
   unfolding selectorAt
   selector-once = λ j.
       selectorIn
-      (ports-same (inputAt (onces times 32 ts) (onces small 224 ss) words) (inputAt times small words) each j)
+      (ports-same (inputAt (onces times 32 ts) (onces small 224 ss) (onces words 32 ws)) (inputAt times small words) each j)
       (tsame j)
       (ssame j)
-      (rest words 32)
+      (wsame j)
 
 -- ---- what is stored together
 
@@ -109,7 +113,7 @@ pub time-stored : (times : List ℕ) (time : ℕ) → length times ≡ 33
 unfolding selectorAt
 time-stored times time long small words =
     let ts : List (ℕ × ℕ) = (0, time) ∷ [] in
-    selector-once times small words ts [] (onces-rest 32 1 ts times refl (omega arith)) refl
+    selector-once times small words ts [] [] (onces-rest 32 1 ts times refl (omega arith)) refl refl
 
 -- the numbers of a choice stored
 abbrev pub choiceIn : List ℕ → Bool → ℕ → ℕ → ℕ → ℕ → List ℕ
@@ -127,7 +131,7 @@ unfolding selectorAt
 choice-stored small choice kind on selection number wide k o s n times words =
     let ss : List (ℕ × ℕ) =
     (1, boolByte (choice .held)) ∷ (2, kind) ∷ (3, on) ∷ (4, selection) ∷ (5, number) ∷ [] in
-    selector-once times small words [] ss refl (onces-rest 224 8 ss small refl (omega arith)) ∙
+    selector-once times small words [] ss [] refl (onces-rest 224 8 ss small refl (omega arith)) refl ∙
     rw (isSet-byte (choice .held), k, o, s, n)
 
 -- the numbers of a command stored
@@ -142,5 +146,25 @@ pub command-stored : (small : List ℕ) (mode : Bool) (switch : Switch) (kind on
 unfolding selectorAt
 command-stored small mode switch kind on wide k o times words =
     let ss : List (ℕ × ℕ) = (0, boolByte mode) ∷ (2, kind) ∷ (3, on) ∷ [] in
-    selector-once times small words [] ss refl (onces-rest 224 8 ss small refl (omega arith)) ∙
+    selector-once times small words [] ss [] refl (onces-rest 224 8 ss small refl (omega arith)) refl ∙
     rw (isSet-byte mode, k, o)
+
+-- a profile of its numbers
+pub profileIn-back : (profile : Profile) → profileIn (optionOf profile) (placeOf profile) (marksOf profile) ≡ profile
+unfolding profileIn optionOf placeOf marksOf
+profileIn-back P.OptionOne = refl
+profileIn-back (P.OptionTwo place marks) = refl
+
+pub profile-stored : (small words : List ℕ) (profile : Profile) (option place marks : ℕ) → length small ≡ 232
+    → length words ≡ 33
+    → option ≡ optionOf profile → place ≡ placeOf profile → marks ≡ marksOf profile
+    → (times : List ℕ)
+    → selectorAt times (set (set small 230 option) 231 place) (set words 32 marks)
+    ≡ withProfile (selectorAt times small words) profile
+unfolding selectorAt
+profile-stored small words profile option place marks wide high o p m times =
+    let ss : List (ℕ × ℕ) = (6, option) ∷ (7, place) ∷ [] in
+    let ws : List (ℕ × ℕ) = (0, marks) ∷ [] in
+    selector-once times small words [] ss ws refl (onces-rest 224 8 ss small refl (omega arith))
+    (onces-rest 32 1 ws words refl (omega arith)) ∙
+    rw (o, p, m, profileIn-back profile)

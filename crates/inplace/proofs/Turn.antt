@@ -1,23 +1,32 @@
 -- A turn of a loop that changes one input after another in place, and its end, for any change. Assumes nothing.
-use Prim.Native.Nat.{ℕ, zero, suc, _+_, _<_, _≤_}
-use mathlib.Core.Bool.{Bool}
+use Prim.Native.Nat.{ℕ, zero, suc, _+_, _%_, _<_, _≤_}
+use mathlib.Core.Bool.{Bool, true, cond}
 use mathlib.Core.List.{List, [], _∷_, map}
 use mathlib.Core.Path.{_≡_, refl, sym, ap, _∙_}
 use native.Mathlib.Omega.{arith}
-use lib.ListN.{getD, set, length}
+use native.Mathlib.Nat.{add-zero}
+use lib.Dec.{eqb}
+use lib.ListN.{getD, set, length, replicate}
+use Rattle.numbers.specs.declared.Answer.{Answer}
 use Rattle.numbers.specs.declared.Profile.{Profile}
+use Rattle.numbers.specs.declared.Quality.{Quality}
+use Rattle.numbers.specs.Profile.{halved, marksOf, toldBy}
+use Rattle.numbers.specs.Quality.{quality}
+use Rattle.numbers.specs.Refusal.{accepted}
 use Rattle.run.specs.declared.Run.{Run}
 use Rattle.input.specs.declared.Input.{Input}
 use Rattle.input.specs.Record.{freshInput, withRun, inputBroughtTo, inputAtMoment}
 use Rattle.choice.specs.declared.Candidate.{Candidate}
 use Rattle.selector.specs.declared.Selector.{Selector}
 use Rattle.selector.specs.State.{candidateFor, candidatesOf}
+use Rattle.selector.specs.Answer.{answerOf, qualityOf, selectedNumber, signFor, ports}
 use Rattle.selector.proofs.Filled.{filled, filled-turn, filled-turn-in-place, filled-done}
-use Rattle.selector.proofs.Laws.{getD-past}
+use Rattle.selector.proofs.Laws.{getD-past, signFor-turn}
 use Rattle.selector.proofs.Ports.{getD-ports}
 use Rattle.due.specs.Next.{lesser, nextOf, nextAmong, nextOfAll, nextDue}
 use Rattle.due.proofs.Laws.{nextAmong-more, nextAmong-all}
-use Rattle.inplace.specs.Lists.{inputAt, selectorAt, withInputs, withInput}
+use Rattle.inplace.specs.Lists.{inputAt, selectorAt, withInputs, withInput, framedAt, withFramed}
+use Rattle.inplace.proofs.Columns.{writes-same, selector-stored}
 
 -- a state whose first inputs have been changed
 abbrev pub changed : (Input → Input) → ℕ → Selector → Selector
@@ -57,6 +66,14 @@ done f first now at l e h k =
     e ∙
     ap (λ (inputs : List Input). withInputs first inputs)
     (filled-done f 16 at (first .inputs) (first .inputs) (filled f at (first .inputs) (first .inputs)) refl l l h k)
+
+-- all made fresh
+pub fresh-done : (times small words : List ℕ) (now : Selector) (at : ℕ)
+    → now ≡ changed (λ (one : Input). freshInput) at (selectorAt times small words) → at ≤ 16 → 16 ≤ at
+    → now ≡ withInputs (selectorAt times small words) (replicate 16 freshInput)
+unfolding selectorAt
+fresh-done times small words now at e h k =
+    done (λ (one : Input). freshInput) (selectorAt times small words) now at (inputs-length times small words) e h k
 
 -- an input brought to a time, by its run
 pub brought : (input before after : Input) (time : ℕ) (mode : Bool) → before ≡ input
@@ -100,6 +117,26 @@ stored-past times small words number input h =
     ap (λ (list : List Input). withInputs (selectorAt times small words) list)
     (sym (set-past (selectorAt times small words .inputs) number input m))
 
+-- when the last frame came stored
+pub framed-stored : (times : List ℕ) (at framed : ℕ) → at < 16 → length times ≡ 33
+    → (small words : List ℕ)
+    → selectorAt (set times at framed) small words ≡ withFramed (selectorAt times small words) at framed
+unfolding inputAt
+framed-stored times at framed h long small words =
+    let ts : List (ℕ × ℕ) = (0, framed) ∷ [] in
+    ap (λ (place : ℕ). selectorAt (set times place framed) small words) (sym (add-zero at)) ∙
+    selector-stored times small words at h ts [] [] refl refl refl
+    (writes-same 2 at h ts times refl (omega arith)) refl refl ∙
+    ap (λ (input : Input). withInput (selectorAt times small words) at (framedAt input framed))
+    (sym (inputs-at times small words at freshInput h))
+
+pub framed-past : (times : List ℕ) (number framed : ℕ) → 16 ≤ number
+    → (small words : List ℕ)
+    → selectorAt times small words ≡ withFramed (selectorAt times small words) number framed
+framed-past times number framed h small words =
+    stored-past times small words number
+    (framedAt (getD (selectorAt times small words .inputs) number freshInput) framed) h
+
 -- ---- a loop that looks at one input after another
 
 module _ (times small words : List ℕ) (at : ℕ) (input : Input) (seen : input ≡ inputAt times small words at)
@@ -114,6 +151,24 @@ module _ (times small words : List ℕ) (at : ℕ) (input : Input) (seen : input
   seen-turn g into now result e q l =
       filled-turn g 16 at (selectorAt times small words .inputs) into now freshInput result e
       (q ∙ ap g (seen-at freshInput))
+      (inputs-length times small words)
+      l
+      h
+
+  -- and tells a port its code or its word
+  pub sign-turn : (rule : Bool → Bool → Bool → ℕ → ℕ) (mode : Bool) (selected marks sign first rest : ℕ)
+      (into now : List ℕ) (chosen told : ℕ)
+      → now ≡ filled (signFor rule (selectorAt times small words .inputs) mode selected marks sign first) at ports into
+      → rest ≡ halved at marks
+      → chosen ≡ cond (eqb (rest % 2) 1) first sign
+      → told ≡ rule mode (input .settings .sending) (eqb selected at) chosen
+      → length into ≡ 16
+      → set now at told
+      ≡ filled (signFor rule (selectorAt times small words .inputs) mode selected marks sign first) (at + 1) ports into
+  sign-turn rule mode selected marks sign first rest into now chosen told e r c o l =
+      signFor-turn rule (selectorAt times small words .inputs) mode selected marks sign first at rest into now chosen
+      told freshInput e r c
+      (o ∙ ap (λ (one : Input). rule mode (one .settings .sending) (eqb selected at) chosen) (seen-at freshInput))
       (inputs-length times small words)
       l
       h
@@ -154,3 +209,26 @@ pub due-done : (times small words : List ℕ) (mode : Bool) (time at due : ℕ)
 due-done times small words mode time at due e m t h k =
     nextAmong-all (selectorAt times small words .inputs) mode time at due e h k ∙
     (λ j. nextOfAll (selectorAt times small words .inputs) (m j) (t j))
+
+-- what goes out of the sixteen ports, call by call
+pub signs-told : (rule : Bool → Bool → Bool → ℕ → ℕ) (say : Profile → Quality → ℕ) (state : Selector)
+    (profile : Profile) (mode : Bool) (told : Answer) (later : Quality) (sign first marks : ℕ) (list : List ℕ)
+    → told ≡ answerOf accepted state → profile ≡ state .profile → mode ≡ state .mode
+    → sign ≡ say profile (quality (told .quality)) → later ≡ toldBy true (quality (told .quality))
+    → first ≡ say profile later → marks ≡ marksOf profile
+    → list ≡ map (signFor rule (state .inputs) mode (told .selected) marks sign first) ports
+    → list
+    ≡ map
+    (signFor rule (state .inputs) (state .mode) (selectedNumber (state .selection)) (marksOf (state .profile))
+    (say (state .profile) (qualityOf state))
+    (say (state .profile) (toldBy true (qualityOf state))))
+    ports
+unfolding answerOf
+signs-told rule say state profile mode told later sign first marks list t p m s l f k e =
+    let n : told .selected ≡ selectedNumber (state .selection) = ap (λ (one : Answer). one .selected) t in
+    let q : quality (told .quality) ≡ qualityOf state = ap (λ (one : Answer). quality (one .quality)) t in
+    let s′ : sign ≡ say (state .profile) (qualityOf state) = s ∙ (λ j. say (p j) (q j)) in
+    let f′ : first ≡ say (state .profile) (toldBy true (qualityOf state)) =
+    f ∙ (λ j. say (p j) ((l ∙ ap (toldBy true) q) j)) in
+    let k′ : marks ≡ marksOf (state .profile) = k ∙ ap marksOf p in
+    e ∙ (λ j. map (signFor rule (state .inputs) (m j) (n j) (k′ j) (s′ j) (f′ j)) ports)

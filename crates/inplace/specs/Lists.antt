@@ -6,6 +6,7 @@ use mathlib.Core.List.{List, map}
 use lib.Dec.{eqb, ltb}
 use lib.ListN.{getD, set}
 use Rattle.numbers.specs.declared.InputNumber.{InputNumber}
+use Rattle.numbers.specs.declared.Profile.{Profile}
 use Rattle.numbers.specs.Inputs.{lastInput}
 use Rattle.numbers.specs.Quality.{quality}
 use Rattle.numbers.specs.Kind.{inputKindOf}
@@ -14,6 +15,7 @@ use Rattle.run.specs.declared.Run.{Run}
 use Rattle.input.specs.declared.Heard.{Heard}
 use Rattle.input.specs.declared.Settings.{Settings}
 use Rattle.input.specs.declared.Input.{Input}
+use Rattle.input.specs.Record.{freshInput}
 use Rattle.choice.specs.declared.Selection.{Selection}
 use Rattle.choice.specs.declared.Selection.the-variants as S
 use Rattle.switch.specs.declared.AfterChoice.{AfterChoice}
@@ -129,6 +131,27 @@ withInputs state inputs =
 abbrev pub withInput : Selector → ℕ → Input → Selector
 withInput state at input = withInputs state (set (state .inputs) at input)
 
+-- an input whose last frame came at another time
+abbrev pub framedAt : Input → ℕ → Input
+framedAt input framed =
+    record {
+      heard =
+          record {
+            framed = framed;
+            frame = input .heard .frame;
+            line = input .heard .line;
+            last = input .heard .last;
+            count = input .heard .count;
+            signal = input .heard .signal;
+          };
+      run = input .run;
+      settings = input .settings;
+    }
+
+-- a state with such an input in one place
+abbrev pub withFramed : Selector → ℕ → ℕ → Selector
+withFramed state at framed = withInput state at (framedAt (getD (state .inputs) at freshInput) framed)
+
 -- a state at another time
 abbrev pub withTime : Selector → ℕ → Selector
 withTime state time =
@@ -138,6 +161,19 @@ withTime state time =
       switch = state .switch;
       selection = state .selection;
       profile = state .profile;
+      mode = state .mode;
+      held = state .held;
+    }
+
+-- a state of another profile
+abbrev pub withProfile : Selector → Profile → Selector
+withProfile state profile =
+    record {
+      inputs = state .inputs;
+      time = state .time;
+      switch = state .switch;
+      selection = state .selection;
+      profile = profile;
       mode = state .mode;
       held = state .held;
     }

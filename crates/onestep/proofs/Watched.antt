@@ -13,6 +13,7 @@ use Rattle.numbers.specs.declared.Answer.{Answer}
 use Rattle.numbers.specs.declared.Event.{Event}
 use Rattle.numbers.specs.declared.Profile.{Profile}
 use Rattle.numbers.specs.Inputs.{inputCount}
+use Rattle.numbers.specs.Kind.{kindFrame}
 use Rattle.numbers.specs.Profile.{limitsOf}
 use Rattle.numbers.specs.Refusal.{accepted}
 use Rattle.numbers.proofs.Truth.{byBool}
@@ -20,9 +21,10 @@ use Rattle.frame.specs.declared.FrameRead.{FrameRead}
 use Rattle.input.specs.declared.Input.{Input}
 use Rattle.input.specs.Record.{freshInput}
 use Rattle.selector.specs.declared.Selector.{Selector}
-use Rattle.selector.specs.State.{decided}
+use Rattle.selector.specs.State.{freshSelector, decided}
 use Rattle.selector.specs.Answer.{answerOf}
-use Rattle.inplace.specs.Lists.{rest, selectorAt, withInput, withTime}
+use Rattle.due.specs.Next.{nextDue}
+use Rattle.inplace.specs.Lists.{rest, selectorAt, withInput, framedAt, withFramed, withTime}
 use Rattle.inplace.proofs.Once.{onces-rest}
 use Rattle.events.specs.declared.Stepped.{Stepped}
 use Rattle.events.specs.Refusals.{earlyRefusal}
@@ -33,9 +35,9 @@ use Rattle.quickstep.specs.declared.Left.{Left}
 use Rattle.quickstep.specs.declared.Left.the-variants.{Nothing, Choice, Service}
 use Rattle.quickstep.specs.declared.Own.{Own}
 use Rattle.quickstep.specs.declared.Watch.{Watch}
-use Rattle.quickstep.specs.Again.{ownOf, saysAgain, againOwn}
+use Rattle.quickstep.specs.Again.{ownOf, saysAgain, againInput, againOwn}
 use Rattle.quickstep.specs.Own.{isServed, seenAlike, ownTake, ownStep}
-use Rattle.quickstep.specs.Watch.{watchOf, numbered, movedTo, dueAnew, dueAfter, servedWatch, completed, ownPlace, ownPut, ownAt, takeStep, watchStep}
+use Rattle.quickstep.specs.Watch.{watchOf, freshWatch, numbered, movedTo, dueAnew, dueAfter, servedWatch, completed, ownPlace, ownPut, ownAt, takeStep, watchStep}
 use Rattle.onestep.specs.Watched.{sixValues, answerIn, watchHeld, watchAt}
 
 -- ---- what was answered
@@ -76,6 +78,17 @@ pub own-moved : (state one after : Selector) (place : ℕ) (input : Input) (time
     → one ≡ withInput state place input → after ≡ withTime one time
     → after ≡ movedTo state (set (state .inputs) place input) time
 own-moved state one after place input time o a = a ∙ ap (λ (moved : Selector). withTime moved time) o
+
+-- ---- a start
+
+pub fresh-told : (profile : Profile) (state : Selector) (next : ℕ) (answer : Answer) (held : Watch)
+    → state ≡ freshSelector profile → next ≡ nextDue state → answer ≡ answerOf accepted state
+    → held ≡ watchOf state next answer 0
+    → held ≡ freshWatch profile
+fresh-told profile state next answer held s n a h =
+    h ∙
+    (λ j. watchOf state (n j) (a j) 0) ∙
+    ap (λ (one : Selector). watchOf one (nextDue one) (answerOf accepted one) 0) s
 
 -- ---- a choice made
 
@@ -218,6 +231,22 @@ module _ (watch : Watch) (event : Event) (read : FrameRead) (before : Input) (pr
         (sym l) ∙
         taken-put
 
+-- ---- what is said again
+
+framed-again : (before : Input) (kind time : ℕ)
+    → framedAt before (againInput before kind time .heard .framed) ≡ againInput before kind time
+unfolding againInput
+framed-again before kind time = byBool (eqb kind kindFrame) (λ e. rw e) (λ e. rw e)
+
+framed-own : (there before : Input) (due : ℕ) (event : Event) (own : Own) → before ≡ there
+    → own ≡ againOwn before due event
+    → framedAt there (own .input .heard .framed) ≡ own .input
+unfolding againOwn
+framed-own there before due event own b o =
+    (λ j. framedAt (sym b j) (o j .input .heard .framed)) ∙
+    framed-again before (event .kind) (event .time) ∙
+    ap (λ (one : Own). one .input) (sym o)
+
 -- ---- any event
 
 module _ (watch : Watch) (event : Event) (read : FrameRead) (before : Input) (profile : Profile) (time : ℕ)
@@ -243,6 +272,20 @@ module _ (watch : Watch) (event : Event) (read : FrameRead) (before : Input) (pr
       (numbered (one .number) (watch .answer)) 0)
       (o ∙ ap (λ (input : Input). againOwn input (watch .due) event) b) ∙
       rw (← says, y)
+
+  -- of the own input only the time of the last frame is stored
+  pub step-framed : (own : Own) (after : Selector) (held : Watch) → again ≡ true
+      → own ≡ againOwn before (watch .due) event
+      → after ≡ withTime (withFramed (watch .state) (ownPlace event) (own .input .heard .framed)) (own .time)
+      → held ≡ watchOf after (own .due) (numbered (own .number) (watch .answer)) 0
+      → held ≡ watchStep watch event read
+  step-framed own after held y o a h =
+      step-again own after held y o
+      (a ∙
+      ap
+      (λ (input : Input). movedTo (watch .state) (set (watch .state .inputs) (ownPlace event) input) (own .time))
+      (framed-own (ownAt (watch .state) event) before (watch .due) event own b o))
+      h
 
   pub step-taken : (held : Watch) → again ≡ false → held ≡ takeStep watch event read
       → held ≡ watchStep watch event read

@@ -14,28 +14,33 @@ use inplace::make_choice;
 use inplace::mode_at;
 use inplace::next_due;
 use inplace::profile_at;
+use inplace::put_framed;
 use inplace::put_input;
 use inplace::put_time;
+use inplace::start;
 use inplace::time_at;
 use input::Input;
+use numbers::ACCEPTED;
 use numbers::Answer;
 use numbers::Event;
 use numbers::INPUT_COUNT;
 use numbers::InputNumber;
+use numbers::Profile;
 use quickstep::Left;
 use quickstep::again_own;
 use quickstep::own_step;
 use quickstep::says_again;
 ghost use Prim.Native.Nat.{ℕ};
 ghost use mathlib.Core.Path.{_≡_};
+ghost use mathlib.Core.List.{List};
 ghost use lib.ListN.{length, set};
 ghost use Rattle.numbers.specs.Refusal.{accepted};
 ghost use Rattle.selector.specs.declared.Selector.{Selector};
 ghost use Rattle.selector.specs.State.{decided};
 ghost use Rattle.selector.specs.Answer.{answerOf};
-ghost use Rattle.inplace.specs.Lists.{selectorAt};
+ghost use Rattle.inplace.specs.Lists.{selectorAt, withFramed, withTime};
 ghost use Rattle.events.specs.Step.{earlyNumber};
-ghost use Rattle.quickstep.specs.Watch.{watchOf, numbered, movedTo, dueAnew, dueAfter, servedWatch, ownAt, takeStep, watchStep};
+ghost use Rattle.quickstep.specs.Watch.{watchOf, freshWatch, numbered, movedTo, dueAnew, dueAfter, servedWatch, ownAt, takeStep, watchStep};
 ghost use Rattle.onestep.specs.Watched.{answerIn, watchHeld, watchAt};
 
 // How many numbers each of the two arrays has.
@@ -72,7 +77,7 @@ fn know_told(told: [u8; TOLD])
 
 // The number of an event stored that no moment was served for and that changes no other value of
 // the answer, with a time before which nothing is due.
-fn put_number(due: &mut [u64; DUE], told: &mut [u8; TOLD], next: u64, number: u8)
+pub fn put_number(due: &mut [u64; DUE], told: &mut [u8; TOLD], next: u64, number: u8)
     ensures { λ _. ⌜ ((state : Selector) →
         watchHeld state (now (due .exit)) (now (told .exit)) ≡
         watchOf state next (numbered number (answerIn (now (told .entry)))) 0) ⌝ }
@@ -85,7 +90,7 @@ fn put_number(due: &mut [u64; DUE], told: &mut [u8; TOLD], next: u64, number: u8
 }
 
 // An answer stored, with how many moments were served and a time before which nothing is due.
-fn tell(due: &mut [u64; DUE], told: &mut [u8; TOLD], next: u64, answer: Answer, count: u8)
+pub fn tell(due: &mut [u64; DUE], told: &mut [u8; TOLD], next: u64, answer: Answer, count: u8)
     ensures { λ _. ⌜ ((state : Selector) →
         watchHeld state (now (due .exit)) (now (told .exit)) ≡ watchOf state next answer count) ⌝ }
 {
@@ -117,6 +122,36 @@ fn put_own(
 {
     put_input(times, small, words, number, input);
     put_time(times, time);
+}
+
+// When an input's last frame came stored, and the time.
+fn put_again(times: &mut [u64; TIMES], number: InputNumber, framed: u64, time: u64)
+    ensures { λ _. ⌜ ((small words : List ℕ) → selectorAt (now (times .exit)) small words ≡
+        withTime (withFramed (selectorAt (now (times .entry)) small words) (number .0) framed)
+        time) ⌝ }
+{
+    put_framed(times, number, framed);
+    put_time(times, time);
+}
+
+// A fresh state of a profile, whatever the arrays held, with what is answered of it.
+pub fn start_watch(
+    times: &mut [u64; TIMES],
+    small: &mut [u8; SMALL],
+    words: &mut [u16; WORDS],
+    due: &mut [u64; DUE],
+    told: &mut [u8; TOLD],
+    profile: Profile,
+)
+    ensures { λ _. ⌜
+        watchAt (now (times .exit)) (now (small .exit)) (now (words .exit)) (now (due .exit))
+        (now (told .exit)) ≡
+        freshWatch profile ⌝ }
+{
+    start(times, small, words, profile);
+    let next = next_due(times, small, words);
+    let answer = answer_at(times, small, words, ACCEPTED);
+    tell(due, told, next, answer, 0);
 }
 
 // A time before which nothing is due; once it has come, when something is next due.
@@ -275,7 +310,8 @@ pub fn step_watch(
     if says_again(before, profile, time, due[NEXT], event, read) {
         let own = again_own(before, due[NEXT], event);
         let input = own.input;
-        put_own(times, small, words, place, input, own.time);
+        let heard = input.heard;
+        put_again(times, place, heard.framed, own.time);
         put_number(due, told, own.due, own.number);
         return;
     }

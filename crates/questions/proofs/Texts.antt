@@ -173,12 +173,6 @@ module _ (text : List ℕ) (count : ℕ) (is : isSource text ≡ true) where
   pub source-fits : length text ≤ 64
   source-fits = isSource-address text is .fits
 
-  pub source-digits : 2 * count + 1 < length text
-      → (isDigit (getD text (2 * count) 0) ≡ true) × (isDigit (getD text (2 * count + 1) 0) ≡ true)
-  source-digits inside =
-      let all = isSource-address text is .all (omega arith) in
-      (allDigits-at text (2 * count) all (omega arith), allDigits-at text (2 * count + 1) all (omega arith))
-
   half : length (octetsOf text) ≡ length text / 2
   half = octetsOf-length text
 

@@ -271,7 +271,7 @@ impl Selector {
 }
 
 // One of two codes.
-fn code_by(marked: bool, first: u8, code: u8) -> u8
+pub fn code_by(marked: bool, first: u8, code: u8) -> u8
     ensures { λ answer. ⌜ answer ≡ cond marked first code ⌝ }
 {
     if marked {
@@ -308,11 +308,11 @@ fn codes_for(
 }
 
 // One of two words.
-fn word_by(marked: bool, first: u16, word: u16) -> u16
-    ensures { λ answer. ⌜ answer ≡ cond marked first word ⌝ }
+pub fn word_by(marked: bool, other: u16, word: u16) -> u16
+    ensures { λ answer. ⌜ answer ≡ cond marked other word ⌝ }
 {
     if marked {
-        return first;
+        return other;
     }
     word
 }
@@ -344,7 +344,7 @@ fn words_for(
 }
 
 // The word that goes out of a port.
-fn outgoing_word(mode: bool, sending: bool, selected: bool, word: u16) -> u16
+pub fn outgoing_word(mode: bool, sending: bool, selected: bool, word: u16) -> u16
     ensures { λ answer. ⌜ answer ≡ outgoingWord mode sending selected word ⌝ }
 {
     if sending {
@@ -404,7 +404,7 @@ pub fn clock_quality(own: Quality, mode: bool, candidate: Candidate) -> Quality
 }
 
 // The code that goes out of a port.
-fn outgoing_code(mode: bool, sending: bool, selected: bool, code: u8) -> u8
+pub fn outgoing_code(mode: bool, sending: bool, selected: bool, code: u8) -> u8
     ensures { λ answer. ⌜ answer ≡ outgoingCode mode sending selected code ⌝ }
 {
     if mode {

@@ -2,13 +2,13 @@
 use Prim.Native.Nat.{ℕ, _+_, _≤_, _<_}
 use mathlib.Core.Bool.{Bool, true, false}
 use mathlib.Core.List.{List, [], _∷_}
-use mathlib.Core.Path.{_≡_, refl, sym, _∙_}
+use mathlib.Core.Path.{_≡_, refl, sym, _∙_, ap}
 use native.Mathlib.Omega.{arith}
 use lib.Dec.{leb, ltb}
 use lib.ListN.{length, getD, take}
 use borrow.Author.Tests.{eq-eqb, ne-eqb, lt-ltb, le-ltb, le-leb, lt-leb, eqb-true, leb-false, ltb-false, not-false}
 use Rattle.numbers.specs.Inputs.{lastInput, inputCount, timeLimit}
-use Rattle.numbers.specs.Refusal.{accepted, timeTooLarge, timeBeforeState, inputOutOfRange, bufferTooShort, sourceNotSix}
+use Rattle.numbers.specs.Refusal.{accepted, timeTooLarge, timeBeforeState, inputOutOfRange, argumentOutOfRange, bufferTooShort, sourceNotSix}
 use Rattle.numbers.specs.Rows.{firstThatApplies}
 use Rattle.numbers.proofs.Rows.{none-exact}
 use Rattle.frame.specs.declared.FrameWrite.{FrameWrite}
@@ -23,7 +23,7 @@ use Rattle.sender.specs.declared.Heartbeat.the-variants as H
 use Rattle.sender.specs.declared.Sender.{Sender}
 use Rattle.sender.specs.declared.Senders.{Senders}
 use Rattle.sender.specs.Heartbeat.{Question, questionOf, questionRows, codeAsked, questionNumber, period, window, windowFrames, contentBy}
-use Rattle.sender.specs.Sender.{tenth, freshSender, isFull, heartbeatDue, heartbeatOf, withFrame, withQuestion, afterHeartbeat, senderAt, askedNumber, withSender, answeredWith, asked, AskSenders}
+use Rattle.sender.specs.Sender.{tenth, freshSender, isFull, heartbeatDue, heartbeatOf, withFrame, withQuestion, afterHeartbeat, senderAt, askedNumber, withSender, answeredWith, asked, AskSenders, lastAsked, oneNumber, oneWith, askedOne, AskOne}
 use Rattle.sender.proofs.Codes.{codeOfPort-small}
 
 -- ---- ten times
@@ -247,6 +247,51 @@ pub ruleset lent-laws = (source-six, buffer-long)
 pub code-small : (state : Selector) (codes : List ℕ) (port : ℕ) → codes ≡ outgoingCodes state
     → getD codes port 0 ≤ largestCode
 code-small state codes port told = rw told (codeOfPort-small state port)
+
+-- ---- one sender by itself
+
+module _ (sender : Sender) (port : ℕ) where
+  pub lastAsked-none : lastInput < port → 0 ≡ lastAsked sender port
+  unfolding lastAsked
+  lastAsked-none past = rw (lt-ltb _ _ past)
+
+  pub lastAsked-port : port ≤ lastInput → sender .asked ≡ lastAsked sender port
+  unfolding lastAsked
+  lastAsked-port inside = rw (le-ltb _ _ inside)
+
+pub ruleset lastAsked-laws = (lastAsked-none, lastAsked-port)
+
+module _ (sender : Sender) (port time code : ℕ) (source before : List ℕ) (last number : ℕ)
+    (l : last ≡ lastAsked sender port)
+    (given : number ≡ questionNumber (ltb time last) port time (length before) (length source)) where
+  one-same : number ≡ oneNumber sender port time source before
+  one-same = given ∙ ap (λ (one : ℕ). questionNumber (ltb time one) port time (length before) (length source)) l
+
+  pub one-refused : (number ≡ accepted → ⊥)
+      → AskOne sender port time code source before (oneWith sender (H.Refused number)) before
+  unfolding askedOne
+  one-refused refused =
+      record { answered = rw (← one-same, ne-eqb _ _ refused); content = rw (← one-same, ne-eqb _ _ refused) }
+
+  pub one-no-code : number ≡ accepted → largestCode < code
+      → AskOne sender port time code source before (oneWith sender (H.Refused argumentOutOfRange)) before
+  unfolding askedOne
+  one-no-code none above =
+      record {
+        answered = rw (← one-same, eq-eqb _ _ none, lt-ltb _ _ above);
+        content = rw (← one-same, eq-eqb _ _ none, lt-ltb _ _ above);
+      }
+
+  pub one-accepted : (heartbeat : Heartbeat) (next : Sender) (after : List ℕ) → number ≡ accepted → code ≤ largestCode
+      → heartbeat ≡ heartbeatOf sender time code → next ≡ afterHeartbeat heartbeat sender time code
+      → after ≡ contentBy heartbeat code source before
+      → AskOne sender port time code source before (oneWith next heartbeat) after
+  unfolding askedOne
+  one-accepted heartbeat next after none small beat kept content =
+      record {
+        answered = rw (← one-same, eq-eqb _ _ none, le-ltb _ _ small, kept, beat);
+        content = content ∙ (rw (← one-same, eq-eqb _ _ none, le-ltb _ _ small, beat));
+      }
 
 -- ---- AskSenders
 

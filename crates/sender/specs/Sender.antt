@@ -6,9 +6,11 @@ use mathlib.Core.List.{List, _∷_}
 use mathlib.Core.Path.{_≡_}
 use lib.Dec.{eqb, leb, ltb}
 use lib.ListN.{length, getD, set, take, replicate}
-use Rattle.numbers.specs.Inputs.{inputCount}
-use Rattle.numbers.specs.Refusal.{accepted}
+use Rattle.numbers.specs.Inputs.{inputCount, lastInput}
+use Rattle.numbers.specs.Refusal.{accepted, argumentOutOfRange}
+use Rattle.frame.specs.Write.{largestCode}
 use Rattle.sender.specs.declared.Asked.{Asked}
+use Rattle.sender.specs.declared.AskedOne.{AskedOne}
 use Rattle.sender.specs.declared.Heartbeat.{Heartbeat}
 use Rattle.sender.specs.declared.Heartbeat.the-variants as H
 use Rattle.sender.specs.declared.Sender.{Sender}
@@ -77,6 +79,38 @@ askedNumber senders question =
     questionNumber (ltb (question .time) (senderAt senders (question .port) .asked)) (question .port) (question .time)
     (length (question .buffer))
     (length (question .source))
+
+-- ---- one sender by itself
+
+-- the time of a port's last question; a port above 15 has none
+unfoldable pub lastAsked : Sender → ℕ → ℕ
+lastAsked sender port = cond (ltb lastInput port) 0 (sender .asked)
+
+-- the number that a question to a port's sender is refused with
+abbrev pub oneNumber : Sender → ℕ → ℕ → List ℕ → List ℕ → ℕ
+oneNumber sender port time source buffer =
+    questionNumber (ltb time (lastAsked sender port)) port time (length buffer) (length source)
+
+-- a sender and what is answered beside it
+abbrev pub oneWith : Sender → Heartbeat → AskedOne
+oneWith sender heartbeat = record { sender = sender; heartbeat = heartbeat }
+
+-- what a question to a port's sender comes to; a code above 15 is none, and is refused with 6
+unfoldable pub askedOne : Sender → ℕ → ℕ → ℕ → List ℕ → List ℕ → AskedOne
+askedOne sender port time code source buffer =
+    let heartbeat = heartbeatOf sender time code in
+    cond (not (eqb (oneNumber sender port time source buffer) accepted))
+    (oneWith sender (H.Refused (oneNumber sender port time source buffer)))
+    (cond (ltb largestCode code) (oneWith sender (H.Refused argumentOutOfRange))
+    (oneWith (afterHeartbeat heartbeat sender time code) heartbeat))
+
+-- and what it leaves in the buffer
+pub record AskOne (sender : Sender) (port time code : ℕ) (source buffer : List ℕ) (answer : AskedOne) (after : List ℕ)
+    : Type 0 where
+  pub answered : answer ≡ askedOne sender port time code source buffer
+  pub content : after ≡ contentBy (askedOne sender port time code source buffer .heartbeat) code source buffer
+
+-- ---- sixteen of them
 
 -- senders with another in the place of a port's
 abbrev pub withSender : Senders → ℕ → Sender → Senders

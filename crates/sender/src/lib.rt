@@ -8,6 +8,7 @@ use frame::SOURCE_LENGTH;
 use frame::WRITTEN_LENGTH;
 use frame::write_frame;
 use numbers::ACCEPTED;
+use numbers::ARGUMENT_OUT_OF_RANGE;
 use numbers::BUFFER_TOO_SHORT;
 use numbers::INPUT_OUT_OF_RANGE;
 use numbers::SOURCE_NOT_SIX;
@@ -24,7 +25,7 @@ ghost use lib.ListN.{length, take};
 ghost use Rattle.numbers.specs.Inputs.{lastInput, inputCount};
 ghost use Rattle.frame.specs.Write.{writtenLength, sourceLength, largestCode};
 ghost use Rattle.sender.specs.Heartbeat.{questionOf, questionNumber, contentBy};
-ghost use Rattle.sender.specs.Sender.{freshSenders, isFull, heartbeatDue, heartbeatOf, withFrame, afterHeartbeat, AskSenders};
+ghost use Rattle.sender.specs.Sender.{freshSenders, isFull, heartbeatDue, heartbeatOf, withFrame, afterHeartbeat, lastAsked, AskOne, AskSenders};
 
 // "1,000 ms or more have passed since the port's last frame"
 const PERIOD: u64 = 1_000;
@@ -37,6 +38,9 @@ const WINDOW_FRAMES: u32 = 10;
 
 // Where the tenth of the last ten frames stands among their times.
 const TENTH: usize = 9;
+
+// The last of the sixteen codes.
+const LARGEST_CODE: u8 = 15;
 
 // "port above 15"
 const LAST_PORT: u64 = 15;
@@ -73,6 +77,12 @@ pub enum Heartbeat {
 // The senders after a question, and what it is answered with.
 pub struct Asked {
     pub senders: Senders,
+    pub heartbeat: Heartbeat,
+}
+
+// One sender after a question to it, and what it is answered with.
+pub struct AskedOne {
+    pub sender: Sender,
     pub heartbeat: Heartbeat,
 }
 
@@ -229,6 +239,54 @@ fn send(heartbeat: Heartbeat, code: u8, source: &[u8], buffer: &mut [u8])
         }
         Heartbeat::Nothing => {}
         Heartbeat::Refused(_) => {}
+    }
+}
+
+// The time of a port's last question: a port above 15 has no sender, and no last question.
+fn last_asked(sender: Sender, port: u64) -> u64
+    ensures { λ answer. ⌜ answer ≡ lastAsked sender port ⌝ }
+{
+    if LAST_PORT < port {
+        return NEVER_ASKED;
+    }
+    sender.asked
+}
+
+// Asks one port's sender at a time, where the port has a code. An answered frame stands in the first
+// 60 octets of `buffer`; all else in it is kept. A code above 15 is none, and is refused with 6 where
+// nothing else refuses the question.
+pub fn ask_one(
+    sender: Sender,
+    port: u64,
+    time: u64,
+    code: u8,
+    source: &[u8],
+    buffer: &mut [u8],
+) -> AskedOne
+    ensures { λ answer. ⌜
+        AskOne sender port time code (now (source .entry)) (now (buffer .entry)) answer
+        (now (buffer .exit)) ⌝ }
+{
+    let asked = last_asked(sender, port);
+    let number = question_number(asked, port, time, buffer.len(), source.len());
+    if number != ACCEPTED {
+        return AskedOne {
+            sender,
+            heartbeat: Heartbeat::Refused(number),
+        };
+    }
+    if LARGEST_CODE < code {
+        return AskedOne {
+            sender,
+            heartbeat: Heartbeat::Refused(ARGUMENT_OUT_OF_RANGE),
+        };
+    }
+    let heartbeat = sender.heartbeat(time, code as u32);
+    let after = sender.after(heartbeat, time, code as u32);
+    send(heartbeat, code, source, buffer);
+    AskedOne {
+        sender: after,
+        heartbeat,
     }
 }
 

@@ -13,17 +13,15 @@ use Rattle.numbers.specs.declared.Profile.the-variants as P
 use Rattle.numbers.specs.Refusal.{accepted}
 use Rattle.numbers.specs.Profile.{placeOf, lastPlace, startNumber}
 use Rattle.numbers.proofs.Truth.{byBool}
-use Rattle.digits.specs.Digits.{numeral0, numeral9, isBetween, isNumeral, isDigit, allDigits, digitValue, allNumerals}
+use Rattle.digits.specs.Digits.{numeral0, numeral9, isBetween, isNumeral, allDigits, digitValue, allNumerals}
 use Rattle.digits.specs.Decimal.{decimalValue}
 use Rattle.digits.proofs.Runs.{and-parts}
-use Rattle.digits.proofs.Values.{digitValue-below}
 use Rattle.text.specs.declared.NumberRead.{NumberRead}
 use Rattle.text.specs.declared.NumberRead.the-variants.{Number, NoNumber}
 use Rattle.text.specs.Text.{readNumber}
 use Rattle.start.specs.declared.StartRead.{StartRead}
 use Rattle.start.specs.declared.StartRead.the-variants.{Started, Refused, NoStart}
 use Rattle.start.specs.Start.{numeral2, isOptionWord, isDecimal, isMarks, digitsValue, startOf, startIn, startBy}
-use Rattle.start.specs.Parts.{ValueOf, FourDigits}
 
 -- ---- isOptionWord, isMarks
 
@@ -84,44 +82,23 @@ numerals-end word passed over = rw (drop-of-length-le word over)
 
 -- ---- digitsValue
 
--- four digits, and their number
-pub four : (word : List ℕ) → isMarks word ≡ true → FourDigits word
-unfolding isMarks allDigits
-four word holds =
-    let parts = and-parts (eqb (length word) 4) (allDigits word) holds in
-    go word (eqb-true (length word) 4 (parts .0)) (parts .1)
-  where
-    go : (word : List ℕ) → length word ≡ 4 → allDigits word ≡ true → FourDigits word
-    go [] size digits = absurd (omega arith)
-    go (a ∷ []) size digits = absurd (omega arith)
-    go (a ∷ b ∷ []) size digits = absurd (omega arith)
-    go (a ∷ b ∷ c ∷ []) size digits = absurd (omega arith)
-    go (a ∷ b ∷ c ∷ d ∷ []) size digits =
-        let one = and-parts (isDigit a) (allDigits (b ∷ c ∷ d ∷ [])) digits in
-        let two = and-parts (isDigit b) (allDigits (c ∷ d ∷ [])) (one .1) in
-        let three = and-parts (isDigit c) (allDigits (d ∷ [])) (two .1) in
-        let end = and-parts (isDigit d) (allDigits []) (three .1) in
-        record { size = refl; first = one .0; second = two .0; third = three .0; last = end .0 }
-    go (a ∷ b ∷ c ∷ d ∷ e ∷ rest) size digits = absurd (omega arith)
+-- marks are four characters
+pub marks-size : (word : List ℕ) → isMarks word ≡ true → length word ≡ 4
+unfolding isMarks
+marks-size word holds = eqb-true (length word) 4 (and-parts (eqb (length word) 4) (allDigits word) holds .0)
 
-pub four-value : (word : List ℕ) (first second third last : ℕ) → FourDigits word
-    → ValueOf (getD word 0 0) first
-    → ValueOf (getD word 1 0) second
-    → ValueOf (getD word 2 0) third
-    → ValueOf (getD word 3 0) last
-    → ((first * 16 + second) * 16 + third) * 16 + last ≡ digitsValue 0 word
+-- the number of four digits, by their two octets
+pub four-value : (word : List ℕ) (upper lower : ℕ) → length word ≡ 4
+    → upper ≡ digitValue (getD word 0 0) * 16 + digitValue (getD word 1 0)
+    → lower ≡ digitValue (getD word 2 0) * 16 + digitValue (getD word 3 0)
+    → upper * 256 + lower ≡ digitsValue 0 word
 unfolding digitsValue
-four-value [] first second third last four a b c d = absurd (omega (arith, four .size))
-four-value (w ∷ []) first second third last four a b c d = absurd (omega (arith, four .size))
-four-value (w ∷ x ∷ []) first second third last four a b c d = absurd (omega (arith, four .size))
-four-value (w ∷ x ∷ y ∷ []) first second third last four a b c d = absurd (omega (arith, four .size))
-four-value (w ∷ x ∷ y ∷ z ∷ []) first second third last four a b c d =
-    omega (arith, a .value, b .value, c .value, d .value)
-four-value (w ∷ x ∷ y ∷ z ∷ v ∷ rest) first second third last four a b c d = absurd (omega (arith, four .size))
-
--- a digit's value
-pub value-of : (digit answer : ℕ) → isDigit digit ≡ true → answer ≡ digitValue digit → ValueOf digit answer
-value-of digit answer is value = record { value = value; below = omega (arith, value, digitValue-below digit is) }
+four-value [] upper lower four one other = absurd (omega (arith, four))
+four-value (w ∷ []) upper lower four one other = absurd (omega (arith, four))
+four-value (w ∷ x ∷ []) upper lower four one other = absurd (omega (arith, four))
+four-value (w ∷ x ∷ y ∷ []) upper lower four one other = absurd (omega (arith, four))
+four-value (w ∷ x ∷ y ∷ z ∷ []) upper lower four one other = omega (arith, one, other)
+four-value (w ∷ x ∷ y ∷ z ∷ v ∷ rest) upper lower four one other = absurd (omega (arith, four))
 
 -- ---- startOf
 
@@ -233,8 +210,8 @@ pub decimal-holds : (place : List ℕ) (decimal : Bool) → decimal ≡ isDecima
 decimal-holds place decimal is holds = sym is ∙ not-false decimal holds
 
 pub marks-hold : (marks : List ℕ) (four-digits : Bool) → four-digits ≡ isMarks marks → not four-digits ≡ false
-    → FourDigits marks
-marks-hold marks four-digits is holds = four marks (sym is ∙ not-false four-digits holds)
+    → length marks ≡ 4
+marks-hold marks four-digits is holds = marks-size marks (sym is ∙ not-false four-digits holds)
 
 -- ---- startBy
 

@@ -1,4 +1,3 @@
--- START: what the words say with which a program is started; what the parts of the code promise one another.
+-- START: what the words say with which a program is started.
 pub mod Start
-pub mod Parts
 pub mod Said

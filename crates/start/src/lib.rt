@@ -16,10 +16,8 @@ ghost use mathlib.Core.Bool.{true};
 ghost use mathlib.Core.Path.{_≡_};
 ghost use lib.ListN.{length};
 ghost use Rattle.calls.specs.Calls.{TextSaid};
-ghost use Rattle.digits.specs.Digits.{isDigit};
 ghost use Rattle.digits.specs.Decimal.{decimalValue};
 ghost use Rattle.start.specs.Start.{isOptionWord, isDecimal, isMarks, digitsValue, startOf, startIn, startBy, StartReadRight};
-ghost use Rattle.start.specs.Parts.{ValueOf, FourDigits};
 ghost use Rattle.start.specs.Said.{startStream, startSaid};
 
 // The words of `2 PLACE MARKS`.
@@ -86,28 +84,14 @@ fn is_marks(word: &[u8]) -> bool
     digits::all_digits(word)
 }
 
-// The value of a digit.
-fn digit_value(digit: u8) -> u16
-    requires { ⌜ isDigit digit ≡ true ⌝ }
-    ensures { λ answer. ⌜ ValueOf digit answer ⌝ }
-{
-    if digit <= b'9' {
-        (digit - b'0') as u16
-    } else {
-        (digit - b'a' + 10) as u16
-    }
-}
-
 // The number of four digits, the first of which counts most: "bit i (of value 2^i) for port i".
 fn marks_in(word: &[u8]) -> u16
-    requires { ⌜ FourDigits (now word) ⌝ }
+    requires { ⌜ length (now word) ≡ 4 ⌝ }
     ensures { λ answer. ⌜ answer ≡ digitsValue 0 (now (word .entry)) ⌝ }
 {
-    let first = digit_value(word[0]);
-    let second = digit_value(word[1]);
-    let third = digit_value(word[2]);
-    let last = digit_value(word[3]);
-    ((first * 16 + second) * 16 + third) * 16 + last
+    let upper = digits::octet_of(word[0], word[1]);
+    let lower = digits::octet_of(word[2], word[3]);
+    upper as u16 * 256 + lower as u16
 }
 
 // A start with a place and marks: "A place above 8" is refused.

@@ -77,7 +77,7 @@ fn frame_ahead(heard: Heard, time: u64) -> u64
 }
 
 // What is known of an input's record at a time, in a profile and a quality mode.
-fn status_of(profile: Profile, input: Input, mode: bool, time: u64) -> Status
+pub fn status_of(profile: Profile, input: Input, mode: bool, time: u64) -> Status
     ensures { λ answer. ⌜ answer ≡ statusOf profile input mode time ⌝ }
 {
     let forecast = input.forecast(mode);

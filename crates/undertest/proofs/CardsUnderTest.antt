@@ -1,5 +1,5 @@
--- L14 of what C holds. Cites `nothing-shows` and `unit-line-under-test`; of the cards `card-right` and
--- `half-card-right`. Assumes nothing.
+-- L14 of what C holds. Cites `nothing-shows` and `unit-line-under-test`; of the cards `lent-right` and
+-- `half-lent-right`. Assumes nothing.
 use Prim.Native.Nat.{ℕ}
 use mathlib.Core.List.{List, [], _∷_}
 use mathlib.Core.Path.{_≡_, refl, sym, ap, _∙_}
@@ -14,15 +14,14 @@ use Rattle.unit.specs.declared.Half.{Half}
 use Rattle.unit.specs.declared.Half.the-variants as H
 use Rattle.unit.specs.Unit.{Addressed, UnitSequence, Telling, Output, ownEvents}
 use Rattle.unit.specs.Sequence.{unitAfter, halfAfter, tellingOf, tellings, stationOutput, outputs}
-use Rattle.unit.proofs.Halves.{half-after}
-use Rattle.card.specs.declared.Card.{Card}
-use Rattle.card.specs.Flat.{flatAnswer, selectorOf, cardOf}
-use Rattle.card.specs.Card.{cardCodes, cardWords}
-use Rattle.card.specs.Calls.{cardAfter, latestNumber}
-use Rattle.card.proofs.Calls.{card-right}
-use Rattle.unitcard.specs.Flat.{cardIn}
-use Rattle.unitcard.specs.Calls.{unitCardAfter, halfLatestNumber}
-use Rattle.unitcard.proofs.Calls.{half-card, half-card-right, squelched-of, source-of}
+use Rattle.unit.specs.Kept.{isSquelched, sourceOf}
+use Rattle.unit.proofs.Halves.{half-after, minimum-after}
+use Rattle.quickstep.specs.declared.Watch.{Watch}
+use Rattle.card.specs.Calls.{lentAfter, latestNumber}
+use Rattle.card.proofs.Calls.{lent-right}
+use Rattle.unitcard.specs.Lent.{LentUnit, watchIn, sentBy}
+use Rattle.unitcard.specs.Calls.{unitLentAfter, halfLatestNumber}
+use Rattle.unitcard.proofs.Calls.{half-held, half-lent-right, sent-of}
 use Rattle.undertest.specs.UnderTest.{EqualButFor, begun, equal, paired, OffThroughout, NothingShows}
 use Rattle.undertest.specs.UnitUnderTest as Units
 use Rattle.undertest.specs.UnitUnderTest.{UnitsEqualButFor, OffInBoth, NothingShowsOfUnit}
@@ -32,28 +31,26 @@ use Rattle.undertest.proofs.UnitUnderTest.{unit-line-under-test}
 
 -- ---- a card
 
-card-itself : (card : Card) → NothingShowsInCards card card
-card-itself card = record { answer = refl; codes = refl; words = refl }
+card-itself : (watch : Watch) → NothingShowsInCards watch watch
+card-itself watch = record { answer = refl; codes = refl; words = refl }
 
 -- what does not show of two selectors does not show of the two cards
 shows-in-cards : (one other : Given) (earlier otherEarlier : Sequence) → NothingShows one earlier other otherEarlier
-    → NothingShowsInCards (cardAfter (one following earlier)) (cardAfter (other following otherEarlier))
-unfolding latestNumber cardCodes cardWords
+    → NothingShowsInCards (lentAfter (one following earlier)) (lentAfter (other following otherEarlier))
+unfolding latestNumber
 shows-in-cards one other earlier otherEarlier nothing =
-    let here = card-right (one following earlier) in
-    let there = card-right (other following otherEarlier) in
-    let codes = here .codes ∙ nothing .codes ∙ sym (there .codes) in
-    let words = here .words ∙ nothing .words ∙ sym (there .words) in
+    let here = lent-right (one following earlier) in
+    let there = lent-right (other following otherEarlier) in
     record {
-      answer = here .answer ∙ ap flatAnswer (nothing .answer) ∙ sym (there .answer);
-      codes = λ j. record { codes = codes j };
-      words = λ j. record { words = words j };
+      answer = here .answer ∙ nothing .answer ∙ sym (there .answer);
+      codes = ap outgoingCodes (here .state) ∙ nothing .codes ∙ sym (ap outgoingCodes (there .state));
+      words = ap outgoingWords (here .state) ∙ nothing .words ∙ sym (ap outgoingWords (there .state));
     }
 
 -- A LINE UNDER TEST shows in no card.
 pub card-under-test : (input : ℕ) (one other : Sequence) → EqualButFor input one other → OffThroughout input one
-    → NothingShowsInCards (cardAfter one) (cardAfter other)
-card-under-test input _ _ (begun profile) off = card-itself (cardAfter (started profile))
+    → NothingShowsInCards (lentAfter one) (lentAfter other)
+card-under-test input _ _ (begun profile) off = card-itself (lentAfter (started profile))
 card-under-test input _ _ (equal given earlier otherEarlier before) off =
     shows-in-cards given given earlier otherEarlier
     (nothing-shows input given given earlier otherEarlier (equal given earlier otherEarlier before) off)
@@ -79,57 +76,69 @@ module _ (minimum : Quality) (half : Half) (none : Telling) (addressed : Address
   abbrev told : Telling
   told = lastTold none (tellings minimum half sequence)
 
-  abbrev card : Card
-  card = cardIn half (unitCardAfter minimum sequence)
+  abbrev watch : Watch
+  watch = watchIn half (unitLentAfter minimum sequence)
 
   own : halfAfter minimum half sequence ≡ stateAfter (ownEvents half sequence)
   own = half-after minimum sequence half
 
-  card-told : card .answer ≡ flatAnswer (told .answer)
-  unfolding tellings halfLatestNumber cardOf
-  card-told =
-      ap (λ (one : Card). one .answer) (half-card minimum half sequence)
-      ∙ ap (λ (state : Selector). flatAnswer (answerOf (halfLatestNumber minimum half sequence) state)) (sym own)
+  half-told : watch .answer ≡ told .answer
+  unfolding tellings halfLatestNumber
+  half-told =
+      ap (λ (one : Watch). one .answer) (half-held minimum half sequence)
+      ∙ ap (λ (state : Selector). answerOf (halfLatestNumber minimum half sequence) state) (sym own)
 
-  state : selectorOf card ≡ halfAfter minimum half sequence
-  state = half-card-right minimum half sequence .state ∙ sym own
+  state : watch .state ≡ halfAfter minimum half sequence
+  state = half-lent-right minimum half sequence .state ∙ sym own
 
-  card-codes : cardCodes card .codes ≡ told .codes
-  unfolding tellings cardCodes
-  card-codes = ap outgoingCodes state
+  half-codes : outgoingCodes (watch .state) ≡ told .codes
+  unfolding tellings
+  half-codes = ap outgoingCodes state
 
-  card-words : cardWords card .words ≡ told .words
-  unfolding tellings cardWords
-  card-words = ap outgoingWords state
+  half-words : outgoingWords (watch .state) ≡ told .words
+  unfolding tellings
+  half-words = ap outgoingWords state
+
+-- what the octets of an output are, behind a minimum
+abbrev sentOf : Quality → Output → List ℕ
+sentOf minimum output = minimum .0 ∷ flag (output .squelched) ∷ output .source ∷ []
 
 module _ (minimum : Quality) (one other : Addressed) (earlier otherEarlier : UnitSequence)
     (nothing : NothingShowsOfUnit minimum (one following earlier) (other following otherEarlier)) where
   shows-in-halves : (half : Half)
-      → NothingShowsInCards (cardIn half (unitCardAfter minimum (one following earlier)))
-      (cardIn half (unitCardAfter minimum (other following otherEarlier)))
-  unfolding cardCodes cardWords
+      → NothingShowsInCards (watchIn half (unitLentAfter minimum (one following earlier)))
+      (watchIn half (unitLentAfter minimum (other following otherEarlier)))
   shows-in-halves half =
       let none : Telling = tellingOf accepted (halfAfter minimum half earlier) in
       let same : lastTold none (tellings minimum half (one following earlier))
       ≡ lastTold none (tellings minimum half (other following otherEarlier)) =
       ap (lastTold none) (nothing .told half) in
-      let codes =
-      card-codes minimum half none one earlier ∙ ap (λ (told : Telling). told .codes) same
-      ∙ sym (card-codes minimum half none other otherEarlier) in
-      let words =
-      card-words minimum half none one earlier ∙ ap (λ (told : Telling). told .words) same
-      ∙ sym (card-words minimum half none other otherEarlier) in
       record {
         answer =
-            card-told minimum half none one earlier
-            ∙ ap (λ (told : Telling). flatAnswer (told .answer)) same
-            ∙ sym (card-told minimum half none other otherEarlier);
-        codes = λ j. record { codes = codes j };
-        words = λ j. record { words = words j };
+            half-told minimum half none one earlier ∙ ap (λ (told : Telling). told .answer) same
+            ∙ sym (half-told minimum half none other otherEarlier);
+        codes =
+            half-codes minimum half none one earlier ∙ ap (λ (told : Telling). told .codes) same
+            ∙ sym (half-codes minimum half none other otherEarlier);
+        words =
+            half-words minimum half none one earlier ∙ ap (λ (told : Telling). told .words) same
+            ∙ sym (half-words minimum half none other otherEarlier);
       }
 
-  shows-in-units : NothingShowsInUnits (unitCardAfter minimum (one following earlier))
-      (unitCardAfter minimum (other following otherEarlier))
+  -- what is sent is the minimum, and what the output sends
+  sent-output : (addressed : Addressed) (before : UnitSequence)
+      → unitLentAfter minimum (addressed following before) .sent
+      ≡ sentOf minimum (stationOutput (unitAfter minimum (addressed following before)))
+  unfolding sentBy isSquelched sourceOf
+  sent-output addressed before =
+      sent-of minimum (addressed following before)
+      ∙ (λ j. minimum-after minimum (addressed following before) j .0
+      ∷ flag (stationOutput (unitAfter minimum (addressed following before)) .squelched)
+      ∷ stationOutput (unitAfter minimum (addressed following before)) .source
+      ∷ [])
+
+  shows-in-units : NothingShowsInUnits (unitLentAfter minimum (one following earlier))
+      (unitLentAfter minimum (other following otherEarlier))
   unfolding outputs
   shows-in-units =
       let none : Output = stationOutput (unitAfter minimum earlier) in
@@ -138,28 +147,16 @@ module _ (minimum : Quality) (one other : Addressed) (earlier otherEarlier : Uni
       record {
         equipment = shows-in-halves H.Equipment;
         station = shows-in-halves H.Station;
-        squelched =
-            squelched-of minimum (one following earlier)
-            ∙ ap (λ (sent : Output). flag (sent .squelched)) same
-            ∙ sym (squelched-of minimum (other following otherEarlier));
-        source =
-            source-of minimum (one following earlier)
-            ∙ ap (λ (sent : Output). sent .source) same
-            ∙ sym (source-of minimum (other following otherEarlier));
+        sent = sent-output one earlier ∙ ap (sentOf minimum) same ∙ sym (sent-output other otherEarlier);
       }
 
 -- A LINE UNDER TEST shows in no unit.
 pub units-under-test : (minimum : Quality) (input : ℕ) (one other : UnitSequence)
     → UnitsEqualButFor input one other → OffInBoth input one
-    → NothingShowsInUnits (unitCardAfter minimum one) (unitCardAfter minimum other)
+    → NothingShowsInUnits (unitLentAfter minimum one) (unitLentAfter minimum other)
 units-under-test minimum input _ _ (Units.begun profile) off =
-    let unit = unitCardAfter minimum (started profile) in
-    record {
-      equipment = card-itself (unit .equipment);
-      station = card-itself (unit .station);
-      squelched = refl;
-      source = refl;
-    }
+    let unit = unitLentAfter minimum (started profile) in
+    record { equipment = card-itself (unit .equipment); station = card-itself (unit .station); sent = refl }
 units-under-test minimum input _ _ (Units.equal given to other earlier otherEarlier alike before) off =
     shows-in-units minimum _ _ earlier otherEarlier
     (unit-line-under-test minimum input _ _ (Units.equal given to other earlier otherEarlier alike before) off)

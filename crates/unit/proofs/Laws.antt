@@ -13,7 +13,7 @@ use Rattle.numbers.specs.declared.Quality.{Quality}
 use Rattle.numbers.specs.Kind.{kindWord}
 use Rattle.numbers.specs.Profile.{limitsOf, placeOf, startNumber}
 use Rattle.numbers.specs.Quality.{quality}
-use Rattle.numbers.specs.Refusal.{accepted, argumentOutOfRange, frameLength}
+use Rattle.numbers.specs.Refusal.{argumentOutOfRange, frameLength}
 use Rattle.numbers.specs.Rows.{firstThatApplies}
 use Rattle.frame.specs.declared.FrameRead.{FrameRead}
 use Rattle.frame.specs.declared.FrameRead.the-variants as R
@@ -21,15 +21,14 @@ use Rattle.frame.specs.Read.{rightLength, frameNumber, readCode}
 use Rattle.choice.specs.declared.Rank.{Rank}
 use Rattle.choice.specs.Rank.{rankOf}
 use Rattle.selector.specs.declared.Selector.{Selector}
-use Rattle.selector.specs.Answer.{noInput, locked, answerOf}
+use Rattle.selector.specs.Answer.{noInput, locked}
 use Rattle.events.specs.declared.Stepped.{Stepped}
 use Rattle.events.specs.Given.{tickAt}
 use Rattle.events.specs.Step.{stepRead}
 use Rattle.unit.specs.declared.Half.{Half}
 use Rattle.unit.specs.declared.Half.the-variants as H
-use Rattle.unit.specs.declared.Unit.{Unit}
 use Rattle.unit.specs.Unit.{unitStartNumber, goesToBoth, isTo, goesTo}
-use Rattle.unit.specs.Kept.{halfStep, isSquelched, sourceOf}
+use Rattle.unit.specs.Kept.{halfStep, squelchedBy, sourceBy}
 
 -- ---- unitStartNumber
 
@@ -115,39 +114,29 @@ module _ (state : Selector) (goes : Bool) (event : Event) (read : FrameRead) (ti
 
 pub ruleset halfStep-laws = (halfStep-event, halfStep-tick)
 
--- ---- isSquelched, sourceOf
+-- ---- squelchedBy
 
-module _ (unit : Unit) (answer : Answer) where
-  pub isSquelched-unlocked : answer ≡ answerOf accepted (unit .station) → (answer .state ≡ locked → ⊥)
-      → true ≡ isSquelched unit
-  unfolding isSquelched
-  isSquelched-unlocked a n = rw (← a, ne-eqb (answer .state) locked n)
+module _ (answer : Answer) (mode : Bool) (profile : Profile) (minimum : Quality) where
+  pub squelchedBy-unlocked : (answer .state ≡ locked → ⊥) → true ≡ squelchedBy answer mode profile minimum
+  squelchedBy-unlocked n = rw (ne-eqb (answer .state) locked n)
 
-  pub isSquelched-mode : (place : ℕ) (worst passed : Rank) → answer ≡ answerOf accepted (unit .station)
-      → answer .state ≡ locked → unit .station .mode ≡ true → place ≡ placeOf (unit .station .profile)
-      → worst ≡ rankOf place (unit .minimum) → passed ≡ rankOf place (quality (answer .quality))
-      → ltb (worst .0) (passed .0) ≡ isSquelched unit
-  unfolding isSquelched
-  isSquelched-mode place worst passed a l m p w q =
-      rw (← a, eq-eqb (answer .state) locked l, m, ← p, ← w, ← q)
+  pub squelchedBy-mode : (place : ℕ) (worst passed : Rank) → answer .state ≡ locked → mode ≡ true
+      → place ≡ placeOf profile → worst ≡ rankOf place minimum → passed ≡ rankOf place (quality (answer .quality))
+      → ltb (worst .0) (passed .0) ≡ squelchedBy answer mode profile minimum
+  squelchedBy-mode place worst passed l m p w q = rw (eq-eqb (answer .state) locked l, m, ← p, ← w, ← q)
 
-  pub isSquelched-off : answer ≡ answerOf accepted (unit .station) → answer .state ≡ locked
-      → unit .station .mode ≡ false
-      → false ≡ isSquelched unit
-  unfolding isSquelched
-  isSquelched-off a l m = rw (← a, eq-eqb (answer .state) locked l, m)
+  pub squelchedBy-off : answer .state ≡ locked → mode ≡ false → false ≡ squelchedBy answer mode profile minimum
+  squelchedBy-off l m = rw (eq-eqb (answer .state) locked l, m)
 
-pub ruleset isSquelched-laws = (isSquelched-unlocked, isSquelched-mode, isSquelched-off)
+pub ruleset squelchedBy-laws = (squelchedBy-unlocked, squelchedBy-mode, squelchedBy-off)
 
-module _ (unit : Unit) (squelched : Bool) where
-  pub sourceOf-none : squelched ≡ isSquelched unit → squelched ≡ true → noInput ≡ sourceOf unit
-  unfolding sourceOf
-  sourceOf-none s t = rw (← s, t)
+-- ---- sourceBy
 
-  pub sourceOf-selected : (answer : Answer) → squelched ≡ isSquelched unit → squelched ≡ false
-      → answer ≡ answerOf accepted (unit .station)
-      → answer .selected ≡ sourceOf unit
-  unfolding sourceOf
-  sourceOf-selected answer s f a = rw (← s, f, a)
+module _ (squelched : Bool) (answer : Answer) where
+  pub sourceBy-none : squelched ≡ true → noInput ≡ sourceBy squelched answer
+  sourceBy-none s = rw s
 
-pub ruleset sourceOf-laws = (sourceOf-none, sourceOf-selected)
+  pub sourceBy-selected : squelched ≡ false → answer .selected ≡ sourceBy squelched answer
+  sourceBy-selected s = rw s
+
+pub ruleset sourceBy-laws = (sourceBy-none, sourceBy-selected)

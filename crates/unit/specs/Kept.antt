@@ -4,6 +4,7 @@ use Prim.Native.Nat.{ℕ}
 use mathlib.Core.Bool.{Bool, not, _&&_, _||_, cond}
 use mathlib.Core.List.{List, []}
 use lib.Dec.{eqb, ltb}
+use Rattle.numbers.specs.declared.Answer.{Answer}
 use Rattle.numbers.specs.declared.Event.{Event}
 use Rattle.numbers.specs.declared.Profile.{Profile}
 use Rattle.numbers.specs.declared.Quality.{Quality}
@@ -57,15 +58,23 @@ stepUnitRead unit to event read =
 unfoldable pub stepUnit : Unit → Half → Event → List ℕ → UnitStepped
 stepUnit unit to event frame = stepUnitRead unit to event (readCode frame)
 
--- the station output squelches, by the station selector's answer: its clock is not locked, or, quality mode on, what
--- the locked clock tells is worse than the minimum
+-- an output squelches, by its selector's answer: the clock is not locked, or, quality mode on, what the locked clock
+-- tells is worse than the minimum
+abbrev pub squelchedBy : Answer → Bool → Profile → Quality → Bool
+squelchedBy answer mode profile minimum =
+    let place = placeOf profile in
+    not (eqb (answer .state) locked) ||
+    (mode && ltb (rankOf place minimum .0) (rankOf place (quality (answer .quality)) .0))
+
+-- the source identifier of an output that squelches, or doesn't
+abbrev pub sourceBy : Bool → Answer → ℕ
+sourceBy squelched answer = cond squelched noInput (answer .selected)
+
+-- the station output squelches, by the station selector's answer
 unfoldable pub isSquelched : Unit → Bool
 isSquelched unit =
-    let answer = answerOf accepted (unit .station) in
-    let place = placeOf (unit .station .profile) in
-    not (eqb (answer .state) locked) ||
-    (unit .station .mode && ltb (rankOf place (unit .minimum) .0) (rankOf place (quality (answer .quality)) .0))
+    squelchedBy (answerOf accepted (unit .station)) (unit .station .mode) (unit .station .profile) (unit .minimum)
 
 -- the source identifier of the station output
 unfoldable pub sourceOf : Unit → ℕ
-sourceOf unit = cond (isSquelched unit) noInput (answerOf accepted (unit .station) .selected)
+sourceOf unit = sourceBy (isSquelched unit) (answerOf accepted (unit .station))

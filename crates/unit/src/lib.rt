@@ -10,6 +10,7 @@ use frame::FrameRead;
 use frame::read_code;
 use numbers::ACCEPTED;
 use numbers::ARGUMENT_OUT_OF_RANGE;
+use numbers::Answer;
 use numbers::Event;
 use numbers::FRAME_LENGTH;
 use numbers::KIND_FRAME;
@@ -29,7 +30,7 @@ use selector::NO_INPUT;
 use selector::Selector;
 ghost use mathlib.Core.Path.{_≡_};
 ghost use Rattle.unit.specs.Unit.{unitStartNumber, goesToBoth, isTo, goesTo};
-ghost use Rattle.unit.specs.Kept.{freshUnit, halfStep, stepUnitRead, stepUnit, isSquelched, sourceOf};
+ghost use Rattle.unit.specs.Kept.{freshUnit, halfStep, stepUnitRead, stepUnit, squelchedBy, sourceBy, isSquelched, sourceOf};
 
 // The two selectors of a unit, by what they are for.
 pub enum Half {
@@ -100,7 +101,7 @@ fn is_to(to: Half, half: Half) -> bool
 }
 
 // Whether an event goes to a half.
-fn goes_to(limits: Limits, kind: u8, to: Half, half: Half) -> bool
+pub fn goes_to(limits: Limits, kind: u8, to: Half, half: Half) -> bool
     ensures { λ answer. ⌜ answer ≡ goesTo limits kind to half ⌝ }
 {
     if goes_to_both(limits, kind) {
@@ -127,6 +128,34 @@ fn half_step(state: Selector, goes: bool, event: Event, read: FrameRead) -> Step
         return step_read(brought, event, read);
     }
     ticked
+}
+
+// Whether an output squelches, which is to send AIS, by what its selector answers: nothing usable is
+// selected, or, quality mode on, the selected input's passed quality is worse than the minimum. A
+// locked clock's quality is that passed quality.
+pub fn squelches(answer: Answer, mode: bool, profile: Profile, minimum: Quality) -> bool
+    ensures { λ squelched. ⌜ squelched ≡ squelchedBy answer mode profile minimum ⌝ }
+{
+    if answer.state != LOCKED {
+        return true;
+    }
+    if mode {
+        let place = place_of(profile);
+        let worst = rank_of(place, minimum);
+        let passed = rank_of(place, Quality(answer.quality));
+        return worst.0 < passed.0;
+    }
+    false
+}
+
+// The source identifier of an output: none while it squelches, otherwise the selected input.
+pub fn source_by(squelched: bool, answer: Answer) -> u8
+    ensures { λ source. ⌜ source ≡ sourceBy squelched answer ⌝ }
+{
+    if squelched {
+        return NO_INPUT;
+    }
+    answer.selected
 }
 
 impl Unit {
@@ -179,38 +208,24 @@ impl Unit {
         self.step_read(to, event, read)
     }
 
-    // Whether the station output squelches, which is to send AIS: nothing usable is selected, or,
-    // quality mode on, the selected input's passed quality is worse than the minimum. A locked
-    // clock's quality is that passed quality.
+    // Whether the station output squelches, which is to send AIS.
     pub fn is_squelched(self) -> bool
         ensures { λ answer. ⌜ answer ≡ isSquelched self ⌝ }
     {
         let station = self.station;
+        let profile = station.profile;
+        let minimum = self.minimum;
         let answer = station.answer(ACCEPTED);
-        if answer.state != LOCKED {
-            return true;
-        }
-        if station.mode {
-            let profile = station.profile;
-            let place = place_of(profile);
-            let minimum = self.minimum;
-            let worst = rank_of(place, minimum);
-            let passed = rank_of(place, Quality(answer.quality));
-            return worst.0 < passed.0;
-        }
-        false
+        squelches(answer, station.mode, profile, minimum)
     }
 
-    // The source identifier of the station output: none while it squelches, otherwise the selected
-    // input.
+    // The source identifier of the station output.
     pub fn source(self) -> u8
         ensures { λ answer. ⌜ answer ≡ sourceOf self ⌝ }
     {
-        if self.is_squelched() {
-            return NO_INPUT;
-        }
+        let squelched = self.is_squelched();
         let station = self.station;
         let answer = station.answer(ACCEPTED);
-        answer.selected
+        source_by(squelched, answer)
     }
 }

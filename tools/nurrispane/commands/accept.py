@@ -1,5 +1,5 @@
 """Accepts a card, or doesn't: plays the sequences of sequences/wire to it one after the other, judges each from the wire alone, and
-writes a report. docs/ACCEPTANCE.md is the guide.
+writes a report. docs/ACCEPTANCE.md is the guide. --lines adds those of sequences/wire-lines, for a hook that can give line codes.
 
 REPORT is a directory: report.html is one page that prints, report.json has the same, report.xml is JUnit's form; below records/ is the
 record of each sequence, which `./nurrispane wire` judges again at any time. It runs unattended and says how long it will take. Where it was
@@ -20,7 +20,7 @@ EXAMPLES = [
     "./nurrispane accept --map 4=eth1 5=eth2 3=eth3 2=eth4 --hook './our-card' -o REPORT",
     "./nurrispane accept --short --map 4=eth1 5=eth2 3=eth3 2=eth4 --hook 'hooks/ask' --patience 5min -o REPORT",
 ]
-SET = ROOT / "sequences" / "wire"
+SET, LINES = ROOT / "sequences" / "wire", ROOT / "sequences" / "wire-lines"
 SHORT = SET / "short.txt"
 # A fresh card and a judgement take about so long beside a sequence, ms.
 BESIDE = 2_500
@@ -32,6 +32,7 @@ def arguments(parser):
     profiles.argument(parser)
     parser.add_argument("--option", type=int, choices=words.OPTIONS, default=1, help="the card's option (1)")
     parser.add_argument("--short", action="store_true", help="the short set, for each morning")
+    parser.add_argument("--lines", action="store_true", help="also the sequences with line codes, which the hook gives to the card")
     parser.add_argument("--only", nargs="+", metavar="NAME", help="these sequences alone")
     parser.add_argument("--resume", action="store_true", help="go on where REPORT stopped")
     parser.add_argument("-o", "--out", required=True, type=pathlib.Path, metavar="REPORT", help="a directory that is made")
@@ -39,9 +40,10 @@ def arguments(parser):
 
 def chosen(options):
     """The files of the set; those of the short set come first, in its order."""
-    first = read_text(SHORT).split()
-    paths = sorted(SET.glob("*.words"), key=lambda path: (first.index(path.stem) if path.stem in first else len(first), path.stem))
-    names = options.only or (first if options.short else None)
+    first, lines = read_text(SHORT).split(), list(LINES.glob("*.words"))
+    found = [*SET.glob("*.words"), *(lines if options.lines or options.only else [])]
+    paths = sorted(found, key=lambda path: (first.index(path.stem) if path.stem in first else len(first), path.stem))
+    names = options.only or ([*first, *(path.stem for path in lines)] if options.short else None)
     if names is not None:
         missing = set(names) - {path.stem for path in paths}
         if options.only and missing:

@@ -239,7 +239,7 @@ def pace_of(events):
 
 PLAYING = """
 To play one: bring the card to its fresh state, call this moment 0 ms, and
-  - give it each line of commands.words at its time (docs/WORDS.md has the words; "tick": read its state),
+  - give it each line of commands.words at its time (docs/LABORATORY.md has the words; "tick": read its state),
   - start each capture file at the time in its name, on the port in its name:
         tcpreplay --intf1 INTERFACE port-03-from-1000ms.pcap
     the times between its frames are kept; the times in all files of a folder are ms from the same 0,

@@ -7,7 +7,7 @@ gets that time. VLAN-tagged, short and oversized frames are kept as they are; re
 with document 01's number. --map says which input a frame is heard
 on, by the sender's address or by the interface of the capture (its name, or its number from 0; in a cooked
 capture of version 2 also index-N, N as `ip link` has it). A cooked capture (interface "any") lacks each frame's
-destination: that of ESMC is put in, and it says so.
+destination, and in version 2 VLAN tags: ESMC's destination is put in, and it says so.
 The card is of option I; of option II where --setup has a line "option 2", or with --option 2.
 Where the capture's clock was set back, the order of the file is kept and time goes on from there; --clock times
 takes the times as they are. What is left out is counted on standard error, and why. Exit status 1: frames of a mapped
@@ -220,7 +220,7 @@ class Taken:
         self.addresses, self.interfaces = read_map(options.map)
         self.options, self.capture = options, captures.Capture(options.file)
         self.clock, self.content = Clock(options.clock), Content(options.all)
-        self.events, self.reasons, self.first, self.cooked = [], collections.Counter(), {}, 0
+        self.events, self.reasons, self.first, self.links = [], collections.Counter(), {}, collections.Counter()
         for frame in self.capture.frames():
             self.take(frame)
 
@@ -231,7 +231,7 @@ class Taken:
         why = left_out(frame, number, self.options.all)
         if why is None:
             self.events.append((time, number, frame.octets))
-            self.cooked += frame.link != captures.ETHERNET
+            self.links[frame.link] += 1
             return
         self.reasons[why] += 1
         self.first.setdefault(why, frame.number)
@@ -290,8 +290,11 @@ def report(taken):
     oversized = sum(1 for _, _, octets in taken.events if len(octets) > LARGEST_FRAME)
     if oversized:
         say("%d of more than %d octets: too long for a line, replay refuses it with 1" % (oversized, LARGEST_FRAME))
-    if taken.cooked:
-        say(f"{taken.cooked} were captured cooked, without their destination: ESMC's is put in, and a wrong one doesn't show")
+    cooked = len(taken.events) - taken.links[captures.ETHERNET]
+    if cooked:
+        say(f"{cooked} were captured cooked, without their destination: ESMC's is put in, and a wrong one doesn't show")
+    if taken.links[captures.COOKED_2]:
+        say(f"{taken.links[captures.COOKED_2]} of these in version 2, in which tcpdump leaves VLAN tags out: a tag doesn't show")
     if capture.dropped:
         say("the capture says that it dropped %d frames" % capture.dropped)
     for text in [*taken.clock.told(), *nothing_heard(taken)]:

@@ -19,7 +19,7 @@ EXAMPLES = [
 PROGRAM = ROOT / "target" / "livecard" / "livecard"
 # Options with a value, in the order in which the help lists them; and those without.
 VALUES = {
-    "--setup": ("FILE", "words without a time that a fresh card is given first: docs/WORDS.md"),
+    "--setup": ("FILE", "words without a time that a fresh card is given first: docs/LABORATORY.md"),
     "--console": ("PATH", "a Unix socket: a line in, a line out"),
     "--log": ("DIR", "write every event and its answer there"),
     "--log-size": ("MIB", "size of a file of the log (64)"),

@@ -32,7 +32,7 @@ def arguments(parser):
 def run(options):
     form, over_time = options.out.rpartition(".")[2], shown.is_given(options)
     if form not in FORMS:
-        raise Trouble("%s: a picture is a FILE.html, a FILE.svg or a FILE.vcd" % options.out)
+        raise Trouble("%s: a picture is a FILE.html, a FILE.svg or a FILE.vcd" % name_of(options.out))
     if over_time and options.answers is not None:
         raise Trouble("either ANSWERS or --shown FILE, not both")
     log = logs.taken("picture", options.log, options.start)
@@ -42,7 +42,8 @@ def run(options):
         logs.judged_by(log)
     picture, found = over(log, options) if over_time else by_lines(log, options)
     write(options.out, FORMS[form](picture).encode())
-    write_out(("%d lines in %d lanes are in %s%s\n" % (len(log.lines), len(picture.lanes), options.out, picture.summary.partition(" lines")[2])).encode())
+    summary = picture.summary.partition(" lines")[2]
+    write_out(f"{len(log.lines)} lines in {len(picture.lanes)} lanes are in {name_of(options.out)}{summary}\n".encode())
     return FINDING if found else FINE
 
 

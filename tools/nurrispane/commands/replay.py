@@ -3,13 +3,16 @@
 An answer is twelve digits: the number of the refusal or 00, the selected input or ff, the clock
 state, the clock quality, the switch and its input or ff. With --words it is told in words. A log with
 CR LF line ends, or of another wrong form, gets a line on standard error that says so; with --summary
-how many lines were accepted, and refused for what reason, is told there too."""
+how many lines were accepted, and refused for what reason, is told there too.
+
+Without LOG it is standard input that is replayed; at a terminal the example, examples/whole-replay.log. The
+first call builds and proves the program, which takes some minutes. ./replay is the same."""
 
 import collections
 import sys
 
 from nurrispane import answers, logs, profiles, programs, words
-from nurrispane.files import FINE, read, write
+from nurrispane.files import FINE, ROOT, read, write
 
 SUMMARY = "an event log's answers, by the proved program"
 EXAMPLES = [
@@ -20,27 +23,35 @@ EXAMPLES = [
 
 
 def arguments(parser):
-    parser.add_argument("log", help="an event log; - for standard input")
+    parser.add_argument("log", nargs="?", help="an event log; - or nothing for standard input")
     profiles.argument(parser)
-    parser.add_argument("--words", action="store_true", help="answers in words: docs/WORDS.md")
+    parser.add_argument("--words", action="store_true", help="answers in words: docs/LABORATORY.md")
     parser.add_argument("--summary", action="store_true", help="how many lines were accepted and refused, on standard error")
     parser.add_argument("--out", metavar="FILE", help="write to FILE, whole or not at all")
 
 
+def log_of(options):
+    """The log that is replayed: as it is given, else standard input, or at a terminal the example."""
+    if options.log is not None or sys.stdin is None or not sys.stdin.isatty():
+        return options.log or "-"
+    sys.stderr.write("nurrispane replay: no log given, so this is the example, examples/whole-replay.log\n")
+    return ROOT / "examples" / "whole-replay.log"
+
+
 def run(options):
-    start = profiles.start_of(options.start)
+    start, log = profiles.start_of(options.start), log_of(options)
     if options.words or options.summary:
-        data = read(options.log)
+        data = read(log)
         profile = profiles.of_log(words.option_in(data), start)
         right = programs.answers("replay", data, start)
         said = [answers.words(line).encode() for line in right] if options.words else right
         write(options.out, b"".join(line + b"\n" for line in said))
-        logs.word_on_form("replay", options.log, data)
+        logs.word_on_form("replay", log, data)
         if options.summary:
             sys.stderr.write("".join(line + "\n" for line in summary(right, profile)))
     else:
-        front = programs.put_out("replay", options.log, options.out, start)
-        logs.word_on_form("replay", options.log, front)
+        front = programs.put_out("replay", log, options.out, start)
+        logs.word_on_form("replay", log, front)
     return FINE
 
 

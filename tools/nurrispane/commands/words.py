@@ -1,4 +1,4 @@
-"""An event log in words, a line for each of its lines, and back with --log: docs/WORDS.md.
+"""An event log in words, a line for each of its lines, and back with --log: docs/LABORATORY.md.
 
 Both ways give the same log, byte for byte, malformed lines and a missing last LF included. A word
 that is wrong is told with its file, line and column."""

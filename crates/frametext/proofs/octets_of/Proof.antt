@@ -6,7 +6,6 @@ use mathlib.Core.Path.{_≡_, refl, sym, _∙_}
 use native.Mathlib.Omega.{arith}
 use lib.ListN.{length, take, replicate}
 use Rattle.digits.specs.Digits.{octetsOf}
-use Rattle.digits.proofs.Runs.{allDigits-at}
 use Rattle.frame.specs.Octets.{longestFrame}
 use Rattle.frametext.proofs.Laws.{octetsOf-at, octets-next, octets-all}
 use borrow.Author.Needs.{needs}
@@ -40,13 +39,7 @@ shared-slice-read-octet-of-2 : tie.Need-shared-slice-read-octet-of-2 Inv-loop μ
 shared-slice-read-octet-of-2 c = search needs
 
 octet-of-requires : tie.Need-octet-of-requires Inv-loop μ-loop
-octet-of-requires c κs =
-    let l = c .before .before .before in
-    let line = l .before .before .args .line .now in
-    let digits = l .before .before .pre .0 in (
-      allDigits-at line (l .loop .passed * 2) digits (omega arith),
-      allDigits-at line (l .loop .passed * 2 + 1) digits (omega arith),
-    )
+octet-of-requires c κs = search needs
 
 array-write-octets : tie.Need-array-write-octets Inv-loop μ-loop
 array-write-octets c = search needs

@@ -6,7 +6,7 @@ use mathlib.Core.Path.{_≡_, refl}
 use lib.ListN.{length, take}
 use Rattle.digits.specs.Digits.{octetsOf}
 use Rattle.questions.specs.Asked.{padded}
-use Rattle.questions.proofs.Texts.{source-fits, source-digits, source-turn, source-all, source-done}
+use Rattle.questions.proofs.Texts.{source-fits, source-turn, source-all, source-done}
 use borrow.Author.Needs.{needs}
 use Rattle.questions.proofs.source_octets.Statement.{statement}
 use Rattle.questions.proofs.source_octets.Tie as tie
@@ -43,9 +43,7 @@ shared-slice-read-octet-of-2 : tie.Need-shared-slice-read-octet-of-2 Inv-loop μ
 shared-slice-read-octet-of-2 c = search needs
 
 octet-of-requires : tie.Need-octet-of-requires Inv-loop μ-loop
-octet-of-requires c κs =
-    let l = c .before .before .before in
-    source-digits (l .before .before .args .text .now) (l .loop .count) (l .before .before .pre) (omega arith)
+octet-of-requires c κs = search needs
 
 array-write-octets : tie.Need-array-write-octets Inv-loop μ-loop
 array-write-octets c =

@@ -1,7 +1,7 @@
 -- `onestep::watch::step_watch` meets its contract: each way is a law. Assumes nothing.
 use Rattle.inplace.specs.Lists.{selectorAt}
 use Rattle.onestep.specs.Watched.{watchHeld, watchAt}
-use Rattle.onestep.proofs.Watched.{step-again, step-taken}
+use Rattle.onestep.proofs.Watched.{step-framed, step-taken}
 use borrow.Author.Needs.{needs}
 use Rattle.onestep.proofs.watch.step_watch.Statement.{statement}
 use Rattle.onestep.proofs.watch.step_watch.Tie as tie
@@ -27,35 +27,35 @@ element-copy-out-again-own c = search needs
 again-own-requires : tie.Need-again-own-requires
 again-own-requires c κs = search needs
 
-put-own-requires : tie.Need-put-own-requires
-put-own-requires c κs = search needs
+put-again-requires : tie.Need-put-again-requires
+put-again-requires c κs = search needs
 
 put-number-requires : tie.Need-put-number-requires
 put-number-requires c κs = search needs
 
 returns : tie.Need-returns
 unfolding watchAt
-returns c = let args = c .before .before .before .before .before .before .before .before .before .before .before .before .before .before .before .before .before .before .before .before .before .before .before .args in
-    let put = c .before .before .before .put-own in
-    let after = selectorAt (put .last .0) (put .last .1 .0) (put .last .1 .1 .0) in
-    step-again
+returns c = let args = c .before .before .before .before .before .before .before .before .before .before .before .before .before .before .before .before .before .before .before .before .before .before .args in
+    let put = c .before .before .before .put-again in
+    let after = selectorAt (put .last .0) (args .small .now) (args .words .now) in
+    step-framed
     (watchAt (args .times .now) (args .small .now) (args .words .now) (args .due .now) (args .told .now))
     (args .event)
     (args .read)
-    (c .before .before .before .before .before .before .before .before .before .before .before .before .before .before .before .before .before .before .input-at .result)
-    (c .before .before .before .before .before .before .before .before .before .before .before .before .before .before .before .profile-at .result)
-    (c .before .before .before .before .before .before .before .before .before .before .before .before .before .time-at .result)
-    (c .before .before .before .before .before .before .before .before .before .before .before .says-again .result)
-    (c .before .before .before .before .before .before .before .before .before .before .before .before .before .before .before .before .before .before .input-at .ensures)
-    (c .before .before .before .before .before .before .before .before .before .before .before .before .before .before .before .profile-at .ensures (args .times .now))
-    (c .before .before .before .before .before .before .before .before .before .before .before .before .before .time-at .ensures (args .small .now) (args .words .now))
-    (c .before .before .before .before .before .before .before .before .before .before .before .says-again .ensures)
-    (c .before .before .before .before .before .before .before .before .again-own .result)
+    (c .before .before .before .before .before .before .before .before .before .before .before .before .before .before .before .before .before .input-at .result)
+    (c .before .before .before .before .before .before .before .before .before .before .before .before .before .before .profile-at .result)
+    (c .before .before .before .before .before .before .before .before .before .before .before .before .time-at .result)
+    (c .before .before .before .before .before .before .before .before .before .before .says-again .result)
+    (c .before .before .before .before .before .before .before .before .before .before .before .before .before .before .before .before .before .input-at .ensures)
+    (c .before .before .before .before .before .before .before .before .before .before .before .before .before .before .profile-at .ensures (args .times .now))
+    (c .before .before .before .before .before .before .before .before .before .before .before .before .time-at .ensures (args .small .now) (args .words .now))
+    (c .before .before .before .before .before .before .before .before .before .before .says-again .ensures)
+    (c .before .before .before .before .before .before .before .again-own .result)
     after
     (watchHeld after (c .put-number .last .0) (c .put-number .last .1 .0))
     (search needs)
-    (c .before .before .before .before .before .before .before .before .again-own .ensures)
-    (put .ensures)
+    (c .before .before .before .before .before .before .before .again-own .ensures)
+    (put .ensures (args .small .now) (args .words .now))
     (c .put-number .ensures after)
 
 take-requires : tie.Need-take-requires
@@ -92,7 +92,7 @@ step-watch-spec =
     says-again-requires
     element-copy-out-again-own
     again-own-requires
-    put-own-requires
+    put-again-requires
     put-number-requires
     returns
     take-requires

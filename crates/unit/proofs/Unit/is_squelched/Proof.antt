@@ -1,6 +1,6 @@
--- `unit::Unit::is_squelched` meets its contract: each way is a law.
+-- `unit::Unit::is_squelched` meets its contract: it is the definition, call by call.
 -- Assumes nothing.
-use Rattle.unit.proofs.Laws.{isSquelched-laws}
+use Rattle.unit.specs.Kept.{isSquelched}
 use borrow.Author.Needs.{needs}
 use Rattle.unit.proofs.Unit.is_squelched.Statement.{statement}
 use Rattle.unit.proofs.Unit.is_squelched.Tie as tie
@@ -8,32 +8,12 @@ use Rattle.unit.proofs.Unit.is_squelched.Tie as tie
 answer-requires : tie.Need-answer-requires
 answer-requires c κs = search needs
 
+squelches-requires : tie.Need-squelches-requires
+squelches-requires c κs = search needs
+
 returns : tie.Need-returns
-returns c = search isSquelched-laws
-
-place-of-requires : tie.Need-place-of-requires
-place-of-requires c κs = search needs
-
-rank-of-requires : tie.Need-rank-of-requires
-rank-of-requires c κs = search needs
-
-rank-of-requires-2 : tie.Need-rank-of-requires-2
-rank-of-requires-2 c κs = search needs
-
-returns-2 : tie.Need-returns-2
-returns-2 c = search isSquelched-laws
-
-returns-3 : tie.Need-returns-3
-returns-3 c = search isSquelched-laws
+unfolding isSquelched
+returns c = rw (c .squelches .ensures, c .before .answer .ensures)
 
 pub is-squelched-spec : {M : Type 1} → statement M
-is-squelched-spec =
-    tie.close
-    (tie.spec
-    answer-requires
-    returns
-    place-of-requires
-    rank-of-requires
-    rank-of-requires-2
-    returns-2
-    returns-3)
+is-squelched-spec = tie.close (tie.spec answer-requires squelches-requires returns)

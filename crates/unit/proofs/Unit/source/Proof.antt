@@ -1,6 +1,7 @@
--- `unit::Unit::source` meets its contract: each way is a law.
+-- `unit::Unit::source` meets its contract: it is the definition, call by call.
 -- Assumes nothing.
-use Rattle.unit.proofs.Laws.{sourceOf-laws}
+use mathlib.Core.Path.{_∙_}
+use Rattle.unit.specs.Kept.{sourceBy, sourceOf}
 use borrow.Author.Needs.{needs}
 use Rattle.unit.proofs.Unit.source.Statement.{statement}
 use Rattle.unit.proofs.Unit.source.Tie as tie
@@ -8,14 +9,17 @@ use Rattle.unit.proofs.Unit.source.Tie as tie
 is-squelched-requires : tie.Need-is-squelched-requires
 is-squelched-requires c κs = search needs
 
-returns : tie.Need-returns
-returns c = search sourceOf-laws
-
 answer-requires : tie.Need-answer-requires
 answer-requires c κs = search needs
 
-returns-2 : tie.Need-returns-2
-returns-2 c = search sourceOf-laws
+source-by-requires : tie.Need-source-by-requires
+source-by-requires c κs = search needs
+
+returns : tie.Need-returns
+unfolding sourceOf
+returns c =
+    c .source-by .ensures
+    ∙ (λ j. sourceBy (c .before .before .before .is-squelched .ensures j) (c .before .answer .ensures j))
 
 pub source-spec : {M : Type 1} → statement M
-source-spec = tie.close (tie.spec is-squelched-requires returns answer-requires returns-2)
+source-spec = tie.close (tie.spec is-squelched-requires answer-requires source-by-requires returns)

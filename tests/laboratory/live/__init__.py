@@ -1,0 +1,1 @@
+"""Parts of tests/laboratory/livecard: namespaces, the wire, a running card, and what is right of it."""

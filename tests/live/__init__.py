@@ -1,1 +1,0 @@
-"""Parts of tests/livecard: namespaces, the wire, a running card, and what is right of it."""
