@@ -7,9 +7,9 @@ use mathlib.Core.Path.{_≡_, refl, sym, ap, subst, _∙_}
 use native.Mathlib.Omega.{arith}
 use lib.Dec.{eqb, ltb}
 use borrow.Author.Tests.{eqb-true, ne-eqb, not-false}
-use Rattle.numbers.specs.declared.Profile.{Profile}
-use Rattle.numbers.specs.declared.Profile.the-variants as P
-use Rattle.numbers.specs.declared.Quality.{Quality}
+use Rattle.numbers.specs.declared.profile.Profile.{Profile}
+use Rattle.numbers.specs.declared.profile.Profile.the-variants as P
+use Rattle.numbers.specs.declared.quality.Quality.{Quality}
 use Rattle.numbers.specs.Recorded.{Recorded}
 use Rattle.numbers.specs.From.{started, _following_, profileOf}
 use Rattle.numbers.specs.Codes.{Sign, saidBy, codesOf, words, qualityOfCode, qualityOfWord, saidIn}

@@ -5,8 +5,8 @@ use mathlib.Core.Bool.{true, false}
 use mathlib.Core.List.{List}
 use mathlib.Core.Path.{_≡_}
 use lib.ListN.{getD}
-use Rattle.numbers.specs.declared.Profile.{Profile}
-use Rattle.numbers.specs.declared.Profile.the-variants as P
+use Rattle.numbers.specs.declared.profile.Profile.{Profile}
+use Rattle.numbers.specs.declared.profile.Profile.the-variants as P
 use Rattle.numbers.specs.From.{profileOf}
 use Rattle.numbers.specs.Inputs.{lastInput}
 use Rattle.frame.specs.Write.{largestCode}

@@ -7,7 +7,7 @@ use mathlib.Core.Path.{_≡_}
 use lib.Dec.{eqb, ltb}
 use lib.ListN.{take}
 use Rattle.numbers.specs.declared.Answer.{Answer}
-use Rattle.numbers.specs.declared.Profile.the-variants as P
+use Rattle.numbers.specs.declared.profile.Profile.the-variants as P
 use Rattle.numbers.specs.Kind.{flag}
 use Rattle.frame.specs.Write.{writtenLength, zeros, writeAnswer, contentAfter}
 use Rattle.selector.specs.Clock.{noInput}

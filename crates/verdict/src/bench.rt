@@ -11,7 +11,7 @@ use logline::LogWatch;
 use logline::NO_OPTION;
 use logline::opened;
 use logline::step_of;
-use numbers::KIND_SENDING;
+use numbers::kind::KIND_SENDING;
 use quickstep::Left;
 use selector::Selector;
 ghost use mathlib.Core.Path.{_≡_};
