@@ -5,8 +5,8 @@
  * each event, which changes them in place; its senders, one a port, are others, with one call for each
  * question whether a frame is to be sent. The functions with the usual names are below, `static inline`:
  * each hands the arrays to one of the library's, whose name has _in behind it. What each of these does with
- * any arrays, event, frame and buffer is proved of its code (crates/lentcard, crates/sender); the library
- * itself is what `rt staticlib lentcard` writes, liblentcard.a, and for Arm what `tools/card-for-arm`
+ * any arrays, event, frame and buffer is proved of its code (crates/card, crates/sender); the library
+ * itself is what `rt staticlib card` writes, libcard.a, and for Arm what `tools/card-for-arm`
  * does. Words and numbers are those of documents 01 and 02. docs/FIRMWARE.md says what to do at a reboot,
  * when the time jumps, in an interrupt and with two cards. The station clock unit of document 02, L13, two
  * cards with one time, is in a library of its own: "The unit", below.
@@ -114,7 +114,7 @@
  *   later answer. nurrispane_served() says how many due moments the last event's tick served: never
  *   more than 48, which bounds the time that a call takes; nurrispane_tick_part() serves fewer in a call.
  *   Before what is due an event that tells its input nothing new, or is refused, takes a small part of it.
- * - The machine. liblentcard.a is for x86-64 with the System V calling convention, its red zone and its
+ * - The machine. libcard.a is for x86-64 with the System V calling convention, its red zone and its
  *   SSE2 registers included; docs/BENCHMARKS.md has its size, and that of those for Arm. There and on
  *   aarch64 and armv7 it needs no more than memcpy, memmove and memset. On a Cortex-M it needs no more than
  *   these by the names of Arm's convention, __aeabi_memcpy, __aeabi_memcpy4, __aeabi_memcpy8, __aeabi_memmove,
@@ -735,9 +735,9 @@ static inline void nurrispane_ask(struct nurrispane_senders *senders,
  * ---- The unit
  *
  * The station clock unit: two selectors of one profile, one for the equipment clock and one for the
- * 2 Mbit/s station output, which squelches; crates/unit and crates/lentunit. Its four functions are
- * in liblentunit.a, what `rt staticlib lentunit` writes, and for Arm `tools/card-for-arm lentunit`; all
- * others are in liblentcard.a: firmware with a unit links both, and neither has a name that the other has.
+ * 2 Mbit/s station output, which squelches; crates/unit and crates/unitcard. Its four functions are
+ * in libunitcard.a, what `rt staticlib unitcard` writes, and for Arm `tools/card-for-arm unitcard`; all
+ * others are in libcard.a: firmware with a unit links both, and neither has a name that the other has.
  * It needs no other functions than the card's.
  *
  * What C owes is what it owes of a card, of the unit as a whole: start from nurrispane_unit_fresh(),

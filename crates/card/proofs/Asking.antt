@@ -1,68 +1,79 @@
--- The senders in C's hands: questions in a row are the senders' own. Assumes nothing.
-use Prim.Native.Nat.{ℕ}
-use mathlib.Core.List.{List, [], _∷_}
-use mathlib.Core.Path.{_≡_, refl, sym, _∙_, ap}
+-- One sender in C's hands, a law for each way through the functions that lend it. Assumes nothing.
+use Prim.Native.Nat.{ℕ, _*_, _≤_, _<_}
+use mathlib.Core.List.{List}
+use mathlib.Core.Path.{_≡_, refl, sym, ap, _∙_}
+use native.Mathlib.Omega.{arith}
+use lib.ListN.{getD, length}
+use Rattle.numbers.specs.Inputs.{lastInput}
 use Rattle.selector.specs.declared.Selector.{Selector}
-use Rattle.sender.specs.declared.Asked.{Asked}
-use Rattle.sender.specs.declared.Senders.{Senders}
-use Rattle.sender.specs.Heartbeat.{Question, Questions, questionOf, heartbeatBy}
-use Rattle.sender.specs.Sender.{asked, contentOf, AskSenders}
-use Rattle.sender.specs.Sequence.{sendersAfter}
-use Rattle.sender.proofs.Sending.{sending}
-use Rattle.card.specs.declared.Card.{Card}
-use Rattle.card.specs.declared.senders.CardSenders.{CardSenders}
-use Rattle.card.specs.Flat.{selectorOf}
-use Rattle.card.specs.Asking.{numberOf, frameOf, cardQuestion, answeredCard, AskCard, cardSendersAfter, CardSendersRight}
+use Rattle.selector.specs.Answer.{outgoingCodes}
+use Rattle.selector.proofs.Laws.{getD-past}
+use Rattle.sender.specs.declared.AskedOne.{AskedOne}
+use Rattle.sender.specs.declared.Heartbeat.{Heartbeat}
+use Rattle.sender.specs.declared.Heartbeat.the-variants as H
+use Rattle.sender.specs.declared.Sender.{Sender}
+use Rattle.sender.specs.Heartbeat.{codeOfPort}
+use Rattle.sender.specs.Sender.{AskOne}
+use Rattle.card.specs.Asking.{senderTimes, senderNumbers, heartbeatTold, AskLent}
 
--- ---- AskCard
+-- ---- heartbeatTold
 
-pub askCard-asked : (before : CardSenders) (card : Card) (port time : ℕ) (source buffer : List ℕ) (state : Selector)
-    (after : Asked) (number frame : ℕ) (content : List ℕ)
-    → state ≡ selectorOf card
-    → AskSenders (before .senders) (questionOf port time state source buffer) after content
-    → number ≡ numberOf (after .heartbeat)
-    → frame ≡ frameOf (after .heartbeat)
-    → AskCard before (cardQuestion card port time source buffer)
-    (record { senders = after .senders; number = number; frame = frame })
-    content
-askCard-asked before card port time source buffer state after number frame content told ask numbered framed =
-    let same : after ≡ asked (before .senders) (cardQuestion card port time source buffer) =
-    ask .answered ∙ (rw told) in
-    record {
-      answered = rw (numbered, framed) (ap answeredCard same);
-      content = ask .content ∙ (rw told);
-    }
+module _ (heartbeat : Heartbeat) where
+  pub told-information : heartbeat ≡ H.Information → 1 ≡ heartbeatTold heartbeat
+  unfolding heartbeatTold
+  told-information e = rw e
 
--- the promise admits one answer and one content
-pub askCard-unique : (before : CardSenders) (question : Question) (one other : CardSenders) (after later : List ℕ)
-    → AskCard before question one after
-    → AskCard before question other later
-    → (one ≡ other) × (after ≡ later)
-askCard-unique before question one other after later first second =
-    (first .answered ∙ sym (second .answered), first .content ∙ sym (second .content))
+  pub told-event : heartbeat ≡ H.Event → 2 ≡ heartbeatTold heartbeat
+  unfolding heartbeatTold
+  told-event e = rw e
 
--- ---- questions in a row
+  pub told-nothing : heartbeat ≡ H.Nothing → 0 ≡ heartbeatTold heartbeat
+  unfolding heartbeatTold
+  told-nothing e = rw e
 
-cardSendersAfter-senders : (questions : Questions) → cardSendersAfter questions .senders ≡ sendersAfter questions
-unfolding cardSendersAfter sendersAfter
-cardSendersAfter-senders [] = refl
-cardSendersAfter-senders (question ∷ earlier) =
-    ap (λ (before : Senders). asked before question .senders) (cardSendersAfter-senders earlier)
+  pub told-refused : (number wide : ℕ) → heartbeat ≡ H.Refused number → wide ≡ number
+      → 256 * wide ≡ heartbeatTold heartbeat
+  unfolding heartbeatTold
+  told-refused number wide e w = rw (e, w)
 
--- Questions in a row are the senders' own.
-pub card-senders-right : (earlier : Questions) (question : Question) → CardSendersRight earlier question
-unfolding cardSendersAfter
-card-senders-right earlier question =
-    record {
-      senders = cardSendersAfter-senders earlier;
-      number = ap numberOf answer;
-      frame = ap frameOf answer;
-      buffer =
-          ap (λ (before : Senders). contentOf before question) (cardSendersAfter-senders earlier)
-          ∙ sending earlier question .buffer;
-    }
+pub ruleset heartbeatTold-laws = (told-information, told-event, told-nothing, told-refused)
+
+-- ---- the code of a port
+
+codes-length : (state : Selector) → length (outgoingCodes state) ≡ 16
+unfolding outgoingCodes
+codes-length state = refl
+
+module _ (state : Selector) (port : ℕ) where
+  pub code-none : lastInput < port → 0 ≡ codeOfPort state port
+  code-none past =
+      let l : length (outgoingCodes state) ≤ port = omega (arith, codes-length state) in
+      sym (getD-past (outgoingCodes state) port 0 l)
+
+  pub code-there : (codes : List ℕ) → codes ≡ outgoingCodes state → getD codes port 0 ≡ codeOfPort state port
+  code-there codes c = ap (λ (list : List ℕ). getD list port 0) c
+
+pub ruleset code-laws = (code-none, code-there)
+
+-- ---- a question, call by call
+
+pub asked-lent : (sender before : Sender) (state : Selector) (port time : ℕ) (source buffer : List ℕ) (code : ℕ)
+    (asked : AskedOne) (frames : List ℕ) (answer : ℕ) (after : List ℕ)
+    → before ≡ sender
+    → code ≡ codeOfPort state port
+    → AskOne before port time code source buffer asked after
+    → frames ≡ senderTimes (asked .sender)
+    → answer ≡ heartbeatTold (asked .heartbeat)
+    → AskLent sender state port time source buffer frames (senderNumbers (asked .sender)) answer after
+asked-lent sender before state port time source buffer code asked frames answer after b c a f t =
+    go (rw (b, c) at a)
   where
-    answer : asked (cardSendersAfter earlier .senders) question .heartbeat ≡ heartbeatBy earlier question
-    answer =
-        ap (λ (before : Senders). asked before question .heartbeat) (cardSendersAfter-senders earlier)
-        ∙ sending earlier question .heartbeat
+    go : AskOne sender port time (codeOfPort state port) source buffer asked after
+        → AskLent sender state port time source buffer frames (senderNumbers (asked .sender)) answer after
+    go one =
+        record {
+          times = f ∙ ap (λ (told : AskedOne). senderTimes (told .sender)) (one .answered);
+          numbers = ap (λ (told : AskedOne). senderNumbers (told .sender)) (one .answered);
+          answered = t ∙ ap (λ (told : AskedOne). heartbeatTold (told .heartbeat)) (one .answered);
+          content = one .content;
+        }

@@ -1,64 +1,68 @@
 -- Calls in a row are steps in a row. Assumes nothing.
 use Prim.Native.Nat.{ℕ, _+_, _-_, _≤_, _<_}
-use mathlib.Core.Bool.{true, false, or-true}
+use mathlib.Core.Bool.{Bool, true, false, _&&_, or-true}
 use mathlib.Core.List.{List, [], _++_}
 use mathlib.Core.Logic.{_≢_}
 use mathlib.Core.Path.{_≡_, refl, sym, _∙_, ap, subst}
 use native.Mathlib.Omega.{arith}
 use lib.ListN.{getD, drop}
-use lib.Dec.{eqb}
-use borrow.Author.Tests.{eq-eqb, ne-eqb, eqb-true, lt-ltb, le-ltb}
-use Rattle.numbers.specs.From.{started, _following_}
-use Rattle.numbers.specs.Inputs.{timeLimit}
-use Rattle.numbers.specs.Kind.{kindFrame}
+use lib.Dec.{eqb, ltb}
+use borrow.Author.Tests.{eq-eqb, ne-eqb, eqb-true, ltb-true, lt-ltb, le-ltb}
+use Rattle.numbers.specs.declared.Answer.{Answer}
+use Rattle.numbers.specs.declared.Event.{Event}
+use Rattle.numbers.specs.From.{started, _following_, profileOf}
+use Rattle.numbers.specs.declared.profile.Profile.{Profile}
+use Rattle.numbers.specs.Inputs.{lastInput, timeLimit}
 use Rattle.numbers.specs.Profile.{placeOf, lastPlace, startNumber, limitsOf, optionOne, optionTwo, profileIn}
 use Rattle.numbers.specs.Refusal.{accepted, argumentOutOfRange}
-use Rattle.numbers.proofs.Truth.{byBool}
+use Rattle.numbers.proofs.Truth.{byBool, both-first, both-second}
+use Rattle.frame.specs.declared.FrameRead.{FrameRead}
 use Rattle.frame.specs.Read.{readCode}
 use Rattle.frame.specs.Write.{writtenLength, frameOctets}
 use Rattle.selector.specs.declared.Selector.{Selector}
 use Rattle.selector.specs.State.{freshSelector}
 use Rattle.selector.specs.Answer.{answerOf, outgoingCodes, outgoingWords}
 use Rattle.selector.proofs.Ports.{getD-ports}
-use Rattle.due.specs.Next.{nextDue}
+use Rattle.due.specs.Next.{never, nextDue}
 use Rattle.due.proofs.Calm.{movedTo}
 use Rattle.due.proofs.Jump.{each-before, nextDue-later}
 use Rattle.due.proofs.Right.{ticked-each}
 use Rattle.events.specs.declared.Stepped.{Stepped}
-use Rattle.events.specs.Step.{kindAt, earlyNumber, step}
+use Rattle.events.specs.Refusals.{earlyRefusal}
+use Rattle.events.specs.Step.{earlyNumber, stepRead, step}
 use Rattle.events.specs.Given.{Given, Sequence, tickAt}
 use Rattle.events.specs.Sequence.{stateAfter, numberAfter, countAfter}
 use Rattle.events.specs.Due.{mostDue}
-use Rattle.events.specs.Demand1.{FourteenToSeventeen}
 use Rattle.events.specs.NextDue.{NextRight}
 use Rattle.events.specs.Past.{pastOf, recorded}
 use Rattle.events.specs.Told.{answerBy, codeBy, codesBy}
 use Rattle.events.proofs.Happened.{happened}
-use Rattle.events.proofs.Agrees.{step-accepted, sequence-early}
-use Rattle.events.proofs.Refused.{accepted-limit}
-use Rattle.events.proofs.Calm.{accepted-or-not, stepRead-refused, stepRead-taken, not-before, sequence-calm}
-use Rattle.events.proofs.Demand1.{tick-early, tick-state, early-exact, demand-1-events}
+use Rattle.events.proofs.Agrees.{step-accepted, sequence-agrees}
+use Rattle.events.proofs.Calm.{accepted-or-not, sequence-calm}
+use Rattle.events.proofs.Demand1.{tick-early, tick-state, demand-1-events}
+use Rattle.events.proofs.Extra.{sequence-ever}
 use Rattle.events.proofs.Laws.{lateRefusal-other}
 use Rattle.events.proofs.NextDue.{next-right}
 use Rattle.events.proofs.Demand2.{demand-2-answers}
 use Rattle.events.proofs.Demand3.{demand-3}
 use Rattle.events.proofs.Demand4.{demand-4}
-use Rattle.quickstep.specs.Watch.{dueAfter}
-use Rattle.card.specs.declared.Card.{Card}
-use Rattle.card.specs.declared.CardAnswer.{CardAnswer}
-use Rattle.card.specs.Flat.{flatAnswer, selectorOf, cardOf, withNumber}
-use Rattle.card.specs.Card.{freshCard, namesOption, startCard, steppedCard, readFor, stepCard, cardCodes, cardWords, cardDue}
-use Rattle.card.specs.Calls.{called, cardAfter, latestNumber, latestCount, latestBy, StartRight, CardRight, Demand1Card, Demand2Card, Demand3Card, Demand4Card, NextDueCard}
+use Rattle.status.specs.declared.Status.{Status}
+use Rattle.status.specs.Kept.{inputStatus}
+use Rattle.status.proofs.Right.{status-right}
+use Rattle.quickstep.specs.declared.Watch.{Watch}
+use Rattle.quickstep.specs.Again.{saysAgain, againOwn, isAgain}
+use Rattle.quickstep.specs.Own.{ownStep}
+use Rattle.quickstep.specs.Watch.{numbered, freshWatch, dueAnew, completed, ownPut, ownAt, takeStep, watchStep}
+use Rattle.quickstep.proofs.Due.{againDue-later}
+use Rattle.quickstep.proofs.Step.{ever}
+use Rattle.quickstep.proofs.Right.{Kept, Right, own-early, fresh-kept, takeStep-right, watchStep-right, numbered-answer}
+use Rattle.card.specs.Lent.{withNumber, namesOption, startLent, readFor, rangedWatch, eventLent, stepLent}
+use Rattle.card.specs.Known.{endsOf, knownOf, endsKnown, inputKnown}
+use Rattle.card.specs.Calls.{called, lentAfter, latestNumber, latestCount, latestBy, StartRight, LentRight, Demand1Lent, Demand2Lent, Demand3Lent, Demand4Lent, NextDueLent, StatusLent}
+use Rattle.card.specs.Range.{InRange}
 use Rattle.card.proofs.Ports.{port-written}
-use Rattle.card.proofs.Range.{stepRead-readFor, sequence-named}
-use Rattle.card.proofs.Due.{anew}
-use Rattle.card.proofs.Called.{selectorOf-cardOf, withNumber-cardOf, called-refused, called-right, called-due, early-readFor}
-
--- No call reads the answer in a card.
-pub selectorOf-withNumber : (card : Card) (number count : ℕ)
-    → selectorOf (withNumber card number count) ≡ selectorOf card
-unfolding selectorOf
-selectorOf-withNumber card number count = refl
+use Rattle.card.proofs.Range.{stepRead-readFor, sequence-named, answer-inRange, inRange-ranged}
+use Rattle.card.proofs.Due.{takeStep-later}
 
 -- ---- a start
 
@@ -88,218 +92,162 @@ names-neither option one two = rw (ne-eqb option optionOne one, ne-eqb option op
 
 -- L10 in C's hands: a place above 8 starts nothing, nor does a number that is no option's, and any other start is where
 -- calls in a row begin.
-pub start-right : (card : Card) (option place marks : ℕ) → StartRight card option place marks
-unfolding startCard cardAfter
-start-right card option place marks =
+pub lent-start : (watch : Watch) (option place marks : ℕ) → StartRight watch option place marks
+unfolding startLent lentAfter
+lent-start watch option place marks =
     record {
       refused = λ two above. rw (names-two option two, startNumber-refused option place marks two above);
       neither = λ one two. rw (names-neither option one two);
       starts = λ named within. rw (named, startNumber-starts option place marks within);
     }
 
+-- ---- one call
+
+anew-later : (state : Selector) (due time : ℕ) → state .time < due → state .time < nextDue state
+    → state .time < dueAnew (state .inputs) (state .mode) (state .time) due time
+unfolding dueAnew
+anew-later state due time ahead next = byBool (ltb time due) (λ y. rw y ahead) (λ n. rw n next)
+
+module _ (watch : Watch) (event : Event) (read : FrameRead) (kept : Kept watch)
+    (ahead : watch .state .time < watch .due) (late : watch .state .time < never) where
+  abbrev state : Selector
+  state = watch .state
+
+  taken-later : takeStep watch event read .state .time < takeStep watch event read .due
+  unfolding takeStep ownPut completed ownStep
+  taken-later =
+      accepted-or-not (earlyNumber state event read)
+      (λ none.
+      subst (λ (then : Selector). then .time < takeStep watch event read .due)
+      (sym (takeStep-right watch event read kept .state))
+      (takeStep-later watch event read kept none))
+      (λ given. rw (own-early watch event read kept, ne-eqb _ _ given)
+      (anew-later state (watch .due) (event .time) ahead (nextDue-later state late)))
+
+  -- the time that is kept for what is due is still to come
+  step-later : watchStep watch event read .state .time < watchStep watch event read .due
+  unfolding watchStep ownPut completed againOwn saysAgain
+  step-later =
+      let early = earlyRefusal (limitsOf (state .profile)) (state .time) (ownAt state event .settings .kind) event read in
+      byBool (saysAgain (ownAt state event) (state .profile) (state .time) (watch .due) event read)
+      (λ y.
+      let first : (eqb early accepted && ltb (event .time) (watch .due)) ≡ true = both-first (eqb early accepted && ltb (event .time) (watch .due)) (isAgain (ownAt state event) (state .profile) event read) y in
+      let none : earlyNumber state event read ≡ accepted =
+      sym (own-early watch event read kept) ∙ eqb-true early accepted (both-first (eqb early accepted) (ltb (event .time) (watch .due)) first) in
+      let soon : event .time < watch .due =
+      ltb-true (event .time) (watch .due) (both-second (eqb early accepted) (ltb (event .time) (watch .due)) first) in
+      rw y (againDue-later (watch .due) (event .kind) (event .time) soon
+      (ever state event read (watch .due) (kept .calm) (kept .due) none)))
+      (λ n. rw n taken-later)
+
+-- an answer of a state that names inputs is kept
+ranged-same : (watch : Watch) → InRange (watch .answer) → rangedWatch watch ≡ watch
+unfolding rangedWatch
+ranged-same watch range = rw (inRange-ranged (watch .answer) range)
+
 -- ---- calls in a row
 
 -- what C holds after calls is what the selector is, and nothing is due before the time that it keeps
-cardAfter-reached : (sequence : Sequence)
-    → (cardAfter sequence ≡ cardOf (latestNumber sequence) (latestCount sequence) (cardAfter sequence .due)
-    (stateAfter sequence))
-    × (stateAfter sequence .time < cardAfter sequence .due) × (cardAfter sequence .due ≤ nextDue (stateAfter sequence))
-unfolding cardAfter stateAfter numberAfter countAfter latestNumber latestCount freshCard stepCard step cardOf
-cardAfter-reached (started profile) = (refl, nextDue-later (freshSelector profile) (omega arith), omega arith)
-cardAfter-reached (given following earlier) =
-    let before = cardAfter-reached earlier in
-    let right =
-    called-right (latestNumber earlier) (latestCount earlier) (cardAfter earlier .due) (stateAfter earlier)
-    (given .event)
-    (readFor (given .event .kind) (given .frame)) (sequence-named earlier) (sequence-calm earlier) (before .1)
-    (before .2) in
-    let reads = stepRead-readFor (stateAfter earlier) (given .event) (given .frame) in
-    let whole :
-    called (cardAfter earlier) given
-    ≡ steppedCard (right .0) (step (stateAfter earlier) (given .event) (given .frame)) =
-    ap (λ (card : Card). called card given) (before .0) ∙ right .1 ∙ ap (steppedCard (right .0)) reads in
-    let due : called (cardAfter earlier) given .due ≡ right .0 = ap (λ (card : Card). card .due) whole in (
-      whole ∙ ap (λ (kept : ℕ). steppedCard kept (step (stateAfter earlier) (given .event) (given .frame))) (sym due),
-      subst (λ (kept : ℕ). step (stateAfter earlier) (given .event) (given .frame) .state .time < kept) (sym due)
-          (subst (λ (after : Stepped). after .state .time < right .0) reads (right .2)),
-      subst (λ (kept : ℕ). kept ≤ nextDue (step (stateAfter earlier) (given .event) (given .frame) .state)) (sym due)
-          (subst (λ (after : Stepped). right .0 ≤ nextDue (after .state)) reads (right .3)),
-    )
+record Reached (sequence : Sequence) : Type 0 where
+  state : lentAfter sequence .state ≡ stateAfter sequence
+  answer : lentAfter sequence .answer ≡ answerOf (latestNumber sequence) (stateAfter sequence)
+  count : lentAfter sequence .count ≡ latestCount sequence
+  kept : Kept (lentAfter sequence)
+  ahead : lentAfter sequence .state .time < lentAfter sequence .due
 
-cardAfter-whole : (sequence : Sequence)
-    → cardAfter sequence
-    ≡ cardOf (latestNumber sequence) (latestCount sequence) (cardAfter sequence .due) (stateAfter sequence)
-cardAfter-whole sequence = cardAfter-reached sequence .0
-
-cardAfter-state : (sequence : Sequence) → selectorOf (cardAfter sequence) ≡ stateAfter sequence
-cardAfter-state sequence =
-    ap selectorOf (cardAfter-whole sequence) ∙ selectorOf-cardOf _ _ _ (stateAfter sequence) (sequence-named sequence)
-
-cardAfter-answer : (sequence : Sequence)
-    → cardAfter sequence .answer ≡ flatAnswer (answerOf (latestNumber sequence) (stateAfter sequence))
-unfolding cardOf
-cardAfter-answer sequence = ap (λ (card : Card). card .answer) (cardAfter-whole sequence)
-
--- Calls in a row are steps in a row.
-pub card-right : (sequence : Sequence) → CardRight sequence
-unfolding cardCodes cardWords
-card-right sequence =
+reached : (sequence : Sequence) → Reached sequence
+unfolding lentAfter stateAfter numberAfter countAfter latestNumber latestCount stepLent eventLent step
+reached (started profile) =
     record {
-      state = cardAfter-state sequence;
-      whole = cardAfter-whole sequence;
-      ahead = cardAfter-reached sequence .1;
-      due = cardAfter-reached sequence .2;
-      answer = cardAfter-answer sequence;
-      codes = ap outgoingCodes (cardAfter-state sequence);
-      words = ap outgoingWords (cardAfter-state sequence);
+      state = refl;
+      answer = refl;
+      count = refl;
+      kept = fresh-kept profile;
+      ahead = nextDue-later (freshSelector profile) (omega arith);
+    }
+reached (given following earlier) =
+    let before = reached earlier in
+    let watch = lentAfter earlier in
+    let event = given .event in
+    let read = readFor (event .kind) (given .frame) in
+    let range : InRange (watch .answer) =
+    subst InRange (sym (before .answer))
+    (answer-inRange (latestNumber earlier) (stateAfter earlier) (sequence-named earlier)) in
+    let same : watchStep (rangedWatch watch) event read ≡ watchStep watch event read =
+    ap (λ (one : Watch). watchStep one event read) (ranged-same watch range) in
+    let right : Right (stepRead (watch .state) event read) (watchStep watch event read) =
+    watchStep-right watch event read (before .kept) in
+    let plain : stepRead (watch .state) event read ≡ step (stateAfter earlier) event (given .frame) =
+    ap (λ (state : Selector). stepRead state event read) (before .state) ∙
+    stepRead-readFor (stateAfter earlier) event (given .frame) in
+    let late : watch .state .time < never =
+    subst (λ (state : Selector). state .time < never) (sym (before .state)) (sequence-ever earlier) in
+    record {
+      state = ap (λ (one : Watch). one .state) same ∙ right .state ∙ ap (λ (one : Stepped). one .state) plain;
+      answer =
+          ap (λ (one : Watch). one .answer) same ∙ right .answer ∙
+          ap (λ (one : Stepped). answerOf (one .number) (one .state)) plain;
+      count = ap (λ (one : Watch). one .count) same ∙ right .count ∙ ap (λ (one : Stepped). one .count) plain;
+      kept = subst Kept (sym same) (right .kept);
+      ahead =
+          subst (λ (one : Watch). one .state .time < one .due) (sym same)
+          (step-later watch event read (before .kept) (before .ahead) late);
     }
 
--- the card after calls, with another number and count, is that of the state after them
-withNumber-after : (sequence : Sequence) (number count : ℕ)
-    → withNumber (cardAfter sequence) number count ≡ cardOf number count (cardAfter sequence .due) (stateAfter sequence)
-withNumber-after sequence number count =
-    ap (λ (card : Card). withNumber card number count) (cardAfter-whole sequence)
-    ∙ withNumber-cardOf _ number _ count _ (stateAfter sequence)
+-- Calls in a row are steps in a row.
+pub lent-right : (sequence : Sequence) → LentRight sequence
+lent-right sequence =
+    let all = reached sequence in
+    record { state = all .state; answer = all .answer; count = all .count; ahead = all .ahead; due = all .kept .due }
 
 module _ (sequence : Sequence) (given : Given) where
   -- one more call
-  cardAfter-call : cardAfter (given following sequence)
-      ≡ cardOf (numberAfter given sequence) (countAfter given sequence) (cardAfter (given following sequence) .due)
-      (stateAfter (given following sequence))
-  unfolding latestNumber latestCount
-  cardAfter-call = cardAfter-whole (given following sequence)
+  after-answer : lentAfter (given following sequence) .answer
+      ≡ answerOf (numberAfter given sequence) (stateAfter (given following sequence))
+  unfolding latestNumber
+  after-answer = lent-right (given following sequence) .answer
 
-  cardAfter-served : cardAfter (given following sequence) .served ≡ countAfter given sequence
-  unfolding cardOf
-  cardAfter-served = ap (λ (card : Card). card .served) cardAfter-call
+  after-count : lentAfter (given following sequence) .count ≡ countAfter given sequence
+  unfolding latestCount
+  after-count = lent-right (given following sequence) .count
 
-  -- an event that is refused at once
-  abbrev early : ℕ
-  early = earlyNumber (stateAfter sequence) (given .event) (readFor (given .event .kind) (given .frame))
-
-  early-reads : early ≡ earlyNumber (stateAfter sequence) (given .event) (readCode (given .frame))
-  early-reads = early-readFor (stateAfter sequence) (given .event) (given .frame)
-
-  cardAfter-refused : (early ≡ accepted → ⊥)
-      → cardAfter (given following sequence) ≡ withNumber (cardAfter sequence) (numberAfter given sequence) 0
-  unfolding cardAfter stepCard numberAfter step
-  cardAfter-refused given-early =
-      let reached = cardAfter-reached sequence in
-      let number : early ≡ numberAfter given sequence =
-      early-reads
-      ∙ sym
-      (ap (λ (after : Stepped). after .number)
-      (stepRead-refused (stateAfter sequence) (given .event) (readCode (given .frame))
-      (λ e. given-early (early-reads ∙ e)))) in
-      ap (λ (card : Card). called card given) (reached .0)
-      ∙
-      called-refused (latestNumber sequence) (latestCount sequence) (cardAfter sequence .due) (stateAfter sequence)
-      (given .event)
-      (readFor (given .event .kind) (given .frame)) (sequence-named sequence) (sequence-calm sequence)
-      (reached .1) (reached .2)
-      given-early
-      ∙ ap (λ (card : Card). withNumber card early 0) (sym (reached .0))
-      ∙ ap (λ (other : ℕ). withNumber (cardAfter sequence) other 0) number
-
-  -- the time that is kept after an event that is no frame
-  cardAfter-due : early ≡ accepted → (given .event .kind ≡ kindFrame → ⊥)
-      → cardAfter (given following sequence) .due
-      ≡ dueAfter (anew (stateAfter sequence) (cardAfter sequence .due) (given .event .time)) (given .event .time)
-      (stateAfter (given following sequence))
-  unfolding cardAfter stateAfter stepCard
-  cardAfter-due none other =
-      let reached = cardAfter-reached sequence in
-      ap (λ (card : Card). called card given .due) (reached .0)
-      ∙
-      called-due (latestNumber sequence) (latestCount sequence) (cardAfter sequence .due) (stateAfter sequence)
-      (given .event)
-      (readFor (given .event .kind) (given .frame)) (sequence-named sequence) (sequence-calm sequence)
-      (reached .1) (reached .2)
-      none other
-      ∙ ap
-      (λ (after : Stepped). dueAfter (anew (stateAfter sequence) (cardAfter sequence .due) (given .event .time))
-      (given .event .time) (after .state))
-      (stepRead-readFor (stateAfter sequence) (given .event) (given .frame))
-
--- refused with 14 to 17: what is kept is what a tick keeps
-module _ (sequence : Sequence) (given : Given) (high : FourteenToSeventeen (numberAfter given sequence)) where
-  high-early : early sequence given ≡ accepted
-  high-early =
-      accepted-or-not (early sequence given) (λ none. none)
-      (λ refused. absurd
-      (let low =
-      early-exact sequence given .1
-      (λ e. refused (early-reads sequence given ∙ sequence-early sequence given ∙ e)) in
-      omega (arith, low .most, high .least)))
-
-  high-frame : given .event .kind ≡ kindFrame → ⊥
-  unfolding numberAfter step
-  high-frame frame =
-      let none : earlyNumber (stateAfter sequence) (given .event) (readCode (given .frame)) ≡ accepted =
-      sym (early-reads sequence given) ∙ high-early in
-      let unbarred =
-      sym
-      (lateRefusal-other _ _ (given .event .kind) (given .event .input) (λ e. omega (arith, frame, e))
-      (λ e. omega (arith, frame, e))) in
-      let number : numberAfter given sequence ≡ accepted =
-      ap (λ (after : Stepped). after .number)
-      (stepRead-taken (stateAfter sequence) (given .event) (readCode (given .frame)) none unbarred) in
-      omega (arith, number, high .least)
-
-  high-due : stateAfter (given following sequence) ≡ stateAfter (tickAt (given .event .time) following sequence)
-      → cardAfter (given following sequence) .due ≡ cardAfter (tickAt (given .event .time) following sequence) .due
-  high-due same =
-      let none : earlyNumber (stateAfter sequence) (given .event) (readCode (given .frame)) ≡ accepted =
-      sym (early-reads sequence given) ∙ high-early in
-      let later =
-      not-before (stateAfter sequence) (given .event) (readCode (given .frame)) (sequence-calm sequence) none in
-      let below =
-      accepted-limit (limitsOf (stateAfter sequence .profile)) (stateAfter sequence .time)
-      (kindAt (stateAfter sequence .inputs) (given .event .input))
-      (given .event) (readCode (given .frame)) none in
-      cardAfter-due sequence given high-early high-frame
-      ∙ ap
-      (dueAfter (anew (stateAfter sequence) (cardAfter sequence .due) (given .event .time)) (given .event .time))
-      same
-      ∙ sym
-      (cardAfter-due sequence (tickAt (given .event .time))
-      (tick-early (stateAfter sequence) (given .event .time) _ later below) (λ e. omega (arith, e)))
+  -- what is answered after a refusal that leaves a state
+  same-answer : (other : Sequence) → stateAfter (given following sequence) ≡ stateAfter other
+      → lentAfter (given following sequence) .answer
+      ≡ numbered (numberAfter given sequence) (lentAfter other .answer)
+  same-answer other same =
+      after-answer ∙
+      ap (answerOf (numberAfter given sequence)) same ∙
+      sym (numbered-answer (numberAfter given sequence) (latestNumber other) (stateAfter other)) ∙
+      ap (numbered (numberAfter given sequence)) (sym (lent-right other .answer))
 
 -- DEMAND 1 in C's hands, after every sequence of calls and any further one.
-pub demand-1-card : (sequence : Sequence) (given : Given) → Demand1Card sequence given
-unfolding cardOf answerOf
-demand-1-card sequence given =
+pub demand-1-lent : (sequence : Sequence) (given : Given) → Demand1Lent sequence given
+unfolding answerOf
+demand-1-lent sequence given =
     let demand1 = demand-1-events sequence given in
     let demand4 = demand-4 sequence given in
     let ticked = tickAt (given .event .time) following sequence in
     record {
-      number = ap (λ (card : Card). card .answer .number) (cardAfter-call sequence given);
+      number = ap (λ (answer : Answer). answer .number) (after-answer sequence given);
       demand1 = demand1;
-      before = λ low.
-          cardAfter-refused sequence given
-          (λ e. early-exact sequence given .0 low
-          (sym (sequence-early sequence given) ∙ sym (early-reads sequence given) ∙ e));
-      after = λ high.
-          cardAfter-call sequence given
-          ∙
-          ap (λ (due : ℕ). cardOf (numberAfter given sequence) (countAfter given sequence) due
-          (stateAfter (given following sequence)))
-          (high-due sequence given high (demand1 .after high .0))
-          ∙
-          ap (λ (count : ℕ). cardOf (numberAfter given sequence) count (cardAfter ticked .due)
-          (stateAfter (given following sequence)))
-          (demand4 .ticks (λ low. omega (arith, low .most, high .least))
-          ∙ sym (cardAfter-served sequence (tickAt (given .event .time))))
-          ∙
-          ap (cardOf (numberAfter given sequence) (cardAfter ticked .served) (cardAfter ticked .due))
-          (demand1 .after high .0)
-          ∙ sym (withNumber-after ticked (numberAfter given sequence) (cardAfter ticked .served));
+      before = λ low. (
+        lent-right (given following sequence) .state ∙ demand1 .before low .0 ∙ sym (lent-right sequence .state),
+        same-answer sequence given sequence (demand1 .before low .0),
+        after-count sequence given ∙ demand4 .none low,
+      );
+      after = λ high. (
+        lent-right (given following sequence) .state ∙ demand1 .after high .0 ∙ sym (lent-right ticked .state),
+        same-answer sequence given ticked (demand1 .after high .0),
+        after-count sequence given ∙
+            demand4 .ticks (λ low. omega (arith, low .most, high .least)) ∙
+            sym (after-count sequence (tickAt (given .event .time))),
+      );
       taken = λ none.
-          ap (λ (card : Card). card .answer) (cardAfter-call sequence given)
-          ∙ ap flatAnswer
-          (ap (λ (number : ℕ). answerOf number (stateAfter (given following sequence))) none
+          after-answer sequence given
+          ∙ ap (λ (number : ℕ). answerOf number (stateAfter (given following sequence))) none
           ∙ demand-2-answers (given following sequence) .answer accepted
-          ∙ ap (answerBy accepted) (demand1 .taken none));
+          ∙ ap (answerBy accepted) (demand1 .taken none);
     }
 
 -- ---- by what has happened
@@ -309,48 +257,46 @@ unfolding latestNumber latestBy
 latestNumber-by (started profile) = refl
 latestNumber-by (given following earlier) = happened earlier .number given
 
-cardAfter-codes : (sequence : Sequence) → outgoingCodes (selectorOf (cardAfter sequence)) ≡ codesBy (pastOf sequence)
-cardAfter-codes sequence = ap outgoingCodes (cardAfter-state sequence) ∙ demand-2-answers sequence .outgoing
+after-codes : (sequence : Sequence) → outgoingCodes (lentAfter sequence .state) ≡ codesBy (pastOf sequence)
+after-codes sequence = ap outgoingCodes (lent-right sequence .state) ∙ demand-2-answers sequence .outgoing
 
 -- DEMAND 2 in C's hands, after every sequence of calls.
-pub demand-2-card : (sequence : Sequence) → Demand2Card sequence
-unfolding cardCodes cardWords
-demand-2-card sequence =
+pub demand-2-lent : (sequence : Sequence) → Demand2Lent sequence
+demand-2-lent sequence =
     record {
       answer =
-          cardAfter-answer sequence
-          ∙ ap flatAnswer
-          (demand-2-answers sequence .answer (latestNumber sequence)
-          ∙ ap (λ (number : ℕ). answerBy number (pastOf sequence)) (latestNumber-by sequence));
-      codes = cardAfter-codes sequence;
-      words = ap outgoingWords (cardAfter-state sequence) ∙ demand-2-answers sequence .words;
+          lent-right sequence .answer
+          ∙ demand-2-answers sequence .answer (latestNumber sequence)
+          ∙ ap (λ (number : ℕ). answerBy number (pastOf sequence)) (latestNumber-by sequence);
+      codes = after-codes sequence;
+      words = ap outgoingWords (lent-right sequence .state) ∙ demand-2-answers sequence .words;
       frame = λ port event source before answer after write accepts.
-          let written = port-written (cardAfter sequence) port event source before answer after write accepts in
+          let written = port-written (lentAfter sequence .state) port event source before answer after write accepts in
           written .1
           ∙ ap (λ (code : ℕ). frameOctets source event code ++ drop writtenLength before)
-          (ap (λ (codes : List ℕ). getD codes port 0) (cardAfter-codes sequence)
+          (ap (λ (codes : List ℕ). getD codes port 0) (after-codes sequence)
           ∙ getD-ports (codeBy (pastOf sequence)) 0 port (omega (arith, written .0)));
     }
 
--- L4 in C's hands, after every sequence of calls and any further one.
-pub demand-4-card : (sequence : Sequence) (given : Given) → Demand4Card sequence given
-demand-4-card sequence given =
-    let demand4 = demand-4 sequence given in
+-- DEMAND 3 in C's hands, after every sequence of calls.
+pub demand-3-lent : (sequence : Sequence) → Demand3Lent sequence
+unfolding answerOf
+demand-3-lent sequence =
     record {
-      served = cardAfter-served sequence given ∙ demand4 .exact;
-      most = subst (λ (count : ℕ). count ≤ mostDue) (sym (cardAfter-served sequence given)) (demand4 .most);
+      state = lent-right sequence .state;
+      demand3 = demand-3 sequence;
+      selected = ap (λ (answer : Answer). answer .selected) (lent-right sequence .answer);
+      switch = ap (λ (answer : Answer). answer .switch) (lent-right sequence .answer);
+      on = ap (λ (answer : Answer). answer .on) (lent-right sequence .answer);
     }
 
--- DEMAND 3 in C's hands, after every sequence of calls.
-pub demand-3-card : (sequence : Sequence) → Demand3Card sequence
-unfolding answerOf
-demand-3-card sequence =
+-- L4 in C's hands, after every sequence of calls and any further one.
+pub demand-4-lent : (sequence : Sequence) (given : Given) → Demand4Lent sequence given
+demand-4-lent sequence given =
+    let demand4 = demand-4 sequence given in
     record {
-      state = cardAfter-state sequence;
-      demand3 = demand-3 sequence;
-      selected = ap (λ (answer : CardAnswer). answer .selected) (cardAfter-answer sequence);
-      switch = ap (λ (answer : CardAnswer). answer .switch) (cardAfter-answer sequence);
-      on = ap (λ (answer : CardAnswer). answer .on) (cardAfter-answer sequence);
+      served = after-count sequence given ∙ demand4 .exact;
+      most = subst (λ (count : ℕ). count ≤ mostDue) (sym (after-count sequence given)) (demand4 .most);
     }
 
 -- ---- what is next due
@@ -368,7 +314,7 @@ module _ (sequence : Sequence) (time : ℕ) (later : stateAfter sequence .time �
       ∙ each-before state (sequence-calm sequence) (time - state .time) (omega (arith, here))
       ∙ ap (movedTo state (state .inputs)) here
 
-  pub accepts : numberAfter (tickAt time) sequence ≡ accepted
+  accepts : numberAfter (tickAt time) sequence ≡ accepted
   unfolding numberAfter
   accepts =
       ap (λ (after : Stepped). after .number)
@@ -376,53 +322,57 @@ module _ (sequence : Sequence) (time : ℕ) (later : stateAfter sequence .time �
       (tick-early (stateAfter sequence) time (readCode []) later below)
       (sym (lateRefusal-other _ _ _ _ (λ k. omega arith) (λ k. omega arith))))
 
-  quiet-answer : cardAfter (tickAt time following sequence) .answer ≡ withNumber (cardAfter sequence) accepted 0 .answer
-  unfolding answerOf latestNumber
+  quiet-answer : lentAfter (tickAt time following sequence) .answer ≡ numbered accepted (lentAfter sequence .answer)
+  unfolding answerOf
   quiet-answer =
-      cardAfter-answer (tickAt time following sequence)
-      ∙ ap (λ (number : ℕ). flatAnswer (answerOf number (stateAfter (tickAt time following sequence)))) accepts
-      ∙ ap (λ (state : Selector). flatAnswer (answerOf accepted state)) moved
-      ∙ sym
-      (ap
-      (λ (answer : CardAnswer). record {
-        number = accepted;
-        selected = answer .selected;
-        state = answer .state;
-        quality = answer .quality;
-        switch = answer .switch;
-        on = answer .on;
-      })
-      (cardAfter-answer sequence))
+      after-answer sequence (tickAt time)
+      ∙ ap (λ (number : ℕ). answerOf number (stateAfter (tickAt time following sequence))) accepts
+      ∙ ap (answerOf accepted) moved
+      ∙ sym (ap (numbered accepted) (lent-right sequence .answer))
 
-  quiet-codes : outgoingCodes (selectorOf (cardAfter (tickAt time following sequence))) ≡
-      outgoingCodes (selectorOf (cardAfter sequence))
+  quiet-codes : outgoingCodes (lentAfter (tickAt time following sequence) .state) ≡
+      outgoingCodes (lentAfter sequence .state)
   unfolding outgoingCodes
   quiet-codes =
-      ap outgoingCodes (cardAfter-state (tickAt time following sequence))
+      ap outgoingCodes (lent-right (tickAt time following sequence) .state)
       ∙ ap outgoingCodes moved
-      ∙ sym (ap outgoingCodes (cardAfter-state sequence))
+      ∙ sym (ap outgoingCodes (lent-right sequence .state))
 
-  quiet-words : outgoingWords (selectorOf (cardAfter (tickAt time following sequence))) ≡
-      outgoingWords (selectorOf (cardAfter sequence))
+  quiet-words : outgoingWords (lentAfter (tickAt time following sequence) .state) ≡
+      outgoingWords (lentAfter sequence .state)
   unfolding outgoingWords
   quiet-words =
-      ap outgoingWords (cardAfter-state (tickAt time following sequence))
+      ap outgoingWords (lent-right (tickAt time following sequence) .state)
       ∙ ap outgoingWords moved
-      ∙ sym (ap outgoingWords (cardAfter-state sequence))
+      ∙ sym (ap outgoingWords (lent-right sequence .state))
 
 -- L3 in C's hands, after every sequence of calls.
-pub next-due-card : (sequence : Sequence) → NextDueCard sequence
-unfolding cardDue cardCodes cardWords
-next-due-card sequence =
-    let due : nextDue (selectorOf (cardAfter sequence)) ≡ nextDue (stateAfter sequence) =
-    ap nextDue (cardAfter-state sequence) in
+pub next-due-lent : (sequence : Sequence) → NextDueLent sequence
+next-due-lent sequence =
+    let due : nextDue (lentAfter sequence .state) ≡ nextDue (stateAfter sequence) =
+    ap nextDue (lent-right sequence .state) in
     record {
       next = subst (NextRight (recorded sequence)) (sym due) (next-right sequence);
       answer = λ time later below before. quiet-answer sequence time later below (omega (arith, due));
-      codes = λ time later below before.
-          ap (λ (codes : List ℕ). record { codes = codes })
-          (quiet-codes sequence time later below (omega (arith, due)));
-      words = λ time later below before.
-          ap (λ (words : List ℕ). record { words = words })
-          (quiet-words sequence time later below (omega (arith, due)));
+      codes = λ time later below before. quiet-codes sequence time later below (omega (arith, due));
+      words = λ time later below before. quiet-words sequence time later below (omega (arith, due));
+    }
+
+-- ---- what is known of an input
+
+-- WHAT IS KNOWN OF AN INPUT in C's hands, after every sequence of calls.
+pub status-lent : (sequence : Sequence) (input : ℕ) → StatusLent sequence input
+unfolding endsKnown inputKnown
+status-lent sequence input =
+    record {
+      ends = λ within.
+          rw (le-ltb lastInput input within)
+          (ap (λ (state : Selector). endsOf (inputStatus state input)) (lent-right sequence .state)
+          ∙ ap endsOf (status-right sequence .each input (omega arith)));
+      known = λ within.
+          rw (le-ltb lastInput input within)
+          (ap (λ (state : Selector). knownOf (state .profile) (inputStatus state input)) (lent-right sequence .state)
+          ∙ ap (λ (profile : Profile). knownOf profile (inputStatus (stateAfter sequence) input))
+          (sequence-agrees sequence .profile)
+          ∙ ap (knownOf (profileOf (recorded sequence))) (status-right sequence .each input (omega arith)));
     }

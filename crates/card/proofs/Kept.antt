@@ -1,77 +1,66 @@
 -- Every card that events lead to passes the test for a kept card, and one that passes answers in range. Assumes
 -- nothing.
-use Prim.Native.Nat.{ℕ, zero, suc, _≤_, _<_}
+use Prim.Native.Nat.{ℕ, zero, suc, _-_, _≤_, _<_}
 use mathlib.Core.Bool.{Bool, true, false, _&&_, true≢false}
-use mathlib.Core.List.{List, []}
+use mathlib.Core.List.{List}
 use mathlib.Core.Path.{_≡_, refl, sym, _∙_, ap, subst}
 use native.Mathlib.Omega.{arith}
-use lib.Dec.{eqb}
+use lib.Dec.{eqb, leb, ltb}
 use lib.ListN.{getD}
-use borrow.Author.Tests.{eq-eqb, eqb-true}
+use borrow.Author.Tests.{eq-eqb, eqb-true, lt-ltb, le-leb}
+use Rattle.numbers.specs.declared.Answer.{Answer}
 use Rattle.numbers.specs.declared.Event.{Event}
 use Rattle.numbers.specs.From.{started, _following_}
 use Rattle.numbers.specs.Profile.{limitsOf}
 use Rattle.numbers.specs.Inputs.{timeLimit}
-use Rattle.numbers.specs.Kind.{flag, kindTick}
+use Rattle.numbers.specs.Kind.{flag}
 use Rattle.numbers.specs.Refusal.{accepted}
-use Rattle.numbers.proofs.Truth.{both-second}
-use Rattle.frame.specs.declared.FrameRead.the-variants.{Code}
 use Rattle.frame.specs.Read.{readCode}
+use Rattle.input.specs.declared.Input.{Input}
 use Rattle.input.specs.Record.{freshInput}
 use Rattle.selector.specs.declared.Selector.{Selector}
 use Rattle.selector.specs.Answer.{answerOf}
 use Rattle.selector.specs.State.{decided}
 use Rattle.due.specs.Next.{nextDue}
 use Rattle.due.specs.Served.{ticked}
+use Rattle.due.specs.Each.{each}
 use Rattle.due.proofs.Calm.{Calm}
-use Rattle.due.proofs.Jump.{nextDue-later}
+use Rattle.due.proofs.Right.{ticked-each}
 use Rattle.events.specs.declared.Stepped.{Stepped}
-use Rattle.events.specs.Given.{Sequence, tickAt}
+use Rattle.events.specs.Given.{Given, Sequence}
 use Rattle.events.specs.Step.{atItsMoment, kindAt, earlyNumber, lateNumber, stepRead, step}
-use Rattle.events.specs.Sequence.{stateAfter, numberAfter}
+use Rattle.events.specs.Sequence.{stateAfter}
 use Rattle.events.proofs.Refused.{accepted-limit}
 use Rattle.events.proofs.Calm.{accepted-or-not, stepRead-refused, stepRead-barred, stepRead-taken, brought-time, sequence-calm}
 use Rattle.events.proofs.Extra.{sequence-ever}
-use Rattle.quickstep.specs.Watch.{dueAfter}
-use Rattle.card.specs.declared.Card.{Card}
-use Rattle.card.specs.declared.CardInput.{CardInput}
-use Rattle.card.specs.Flat.{flatInput, cardOf}
-use Rattle.card.specs.Card.{eventOf, readFor, steppedCard, plainCard}
-use Rattle.card.specs.Calls.{cardAfter, latestNumber, latestCount}
-use Rattle.card.specs.Range.{IsInput, InRange}
-use Rattle.card.specs.Sound.{sameInput, sameAmong, sameInputs, sameAnswer, sameCard, tickedAgain, cardSound, SoundRight}
-use Rattle.card.proofs.Calls.{card-right, moved, accepts}
-use Rattle.card.proofs.Due.{dueAfter-kept}
-use Rattle.card.proofs.Called.{selectorOf-cardOf}
-use Rattle.card.proofs.Range.{stepRead-readFor, sequence-named, plainCard-inRange}
+use Rattle.quickstep.specs.declared.Watch.{Watch}
+use Rattle.onestep.specs.Watched.{answerIn, watchAt}
+use Rattle.inplace.specs.Lists.{selectorAt}
+use Rattle.card.specs.Sound.{sameRun, sameAmong, sameRuns, sameOnce, sameAnswer, isSound}
+use Rattle.card.specs.Calls.{lentAfter, latestNumber}
+use Rattle.card.specs.Range.{IsInput, InRange, SoundRight}
+use Rattle.card.proofs.Calls.{lent-right}
+use Rattle.card.proofs.Range.{selectorAt-named, answer-inRange}
 
 -- ---- a card is the same as itself
 
-sameInput-itself : (input : CardInput) → sameInput input input ≡ true
-unfolding sameInput
-sameInput-itself input = simp same
-  where
-    same : (number : ℕ) → eqb number number ≡ true
-    same number = eq-eqb number number refl
+same : (number : ℕ) → eqb number number ≡ true
+same number = eq-eqb number number refl
 
-sameAmong-itself : (inputs : List CardInput) (count : ℕ) → sameAmong inputs inputs count ≡ true
+sameAmong-itself : (inputs : List Input) (count : ℕ) → sameAmong inputs inputs count ≡ true
 unfolding sameAmong
 sameAmong-itself inputs zero = refl
-sameAmong-itself inputs (suc count) =
-    rw (sameAmong-itself inputs count, sameInput-itself (getD inputs count (flatInput freshInput)))
+sameAmong-itself inputs (suc count) = rw (sameAmong-itself inputs count) (simp same)
 
--- whatever is answered beside it
-sameCard-cardOf : (number other count later due : ℕ) (state : Selector)
-    → sameCard (cardOf number count due state) (cardOf other later due state) ≡ true
-unfolding sameCard sameAnswer cardOf answerOf
-sameCard-cardOf number other count later due state = rw (sameAmong-itself _ 16) (simp same)
-  where
-    same : (number : ℕ) → eqb number number ≡ true
-    same number = eq-eqb number number refl
+sameOnce-itself : (state : Selector) → sameOnce state state ≡ true
+unfolding sameOnce
+sameOnce-itself state = simp same
 
-number-cardOf : (number count due : ℕ) (state : Selector) → cardOf number count due state .answer .number ≡ number
-unfolding cardOf answerOf
-number-cardOf number count due state = refl
+-- whatever number is answered
+sameAnswer-itself : (number other : ℕ) (state : Selector)
+    → sameAnswer (answerOf number state) (answerOf other state) ≡ true
+unfolding sameAnswer answerOf
+sameAnswer-itself number other state = simp same
 
 -- ---- a card that events lead to
 
@@ -106,68 +95,46 @@ sequence-below (started profile) = omega arith
 sequence-below (given following earlier) =
     stepRead-below (stateAfter earlier) (given .event) (given .frame) earlier refl (sequence-below earlier)
 
-module _ (sequence : Sequence) (number count due : ℕ) (ahead : stateAfter sequence .time < due)
-    (within : due ≤ nextDue (stateAfter sequence)) where
-  abbrev state : Selector
-  state = stateAfter sequence
+-- a tick at its own time leaves it
+stays : (sequence : Sequence) → ticked (stateAfter sequence) (stateAfter sequence .time) ≡ stateAfter sequence
+unfolding each
+stays sequence =
+    let state = stateAfter sequence in
+    let none : state .time - state .time ≡ 0 = omega arith in
+    ticked-each state (state .time) (sequence-calm sequence) (omega arith) (sequence-ever sequence) ∙
+    ap (λ (count : ℕ). each count state) none
 
-  abbrev kept : Card
-  kept = cardOf number count due state
+-- whatever holds the state after a sequence, with an answer of it and a time before which nothing is due
+pub sound-held : (sequence : Sequence) (watch : Watch) (number : ℕ) → watch .state ≡ stateAfter sequence
+    → watch .answer ≡ answerOf number (stateAfter sequence)
+    → watch .state .time < watch .due
+    → watch .due ≤ nextDue (watch .state)
+    → isSound watch ≡ 1
+unfolding isSound
+sound-held sequence watch number is answer ahead due =
+    let state = watch .state in
+    let here : ticked state (state .time) ≡ state =
+    subst (λ (one : Selector). ticked one (one .time) ≡ one) (sym is) (stays sequence) in
+    let below : state .time < timeLimit =
+    subst (λ (one : Selector). one .time < timeLimit) (sym is) (sequence-below sequence) in
+    let told : sameAnswer (watch .answer) (answerOf accepted state) ≡ true =
+    (λ j. sameAnswer (answer j) (answerOf accepted (is j))) ∙
+    sameAnswer-itself number accepted (stateAfter sequence) in
+    rw (
+      lt-ltb _ _ below,
+      here,
+      sameAmong-itself (state .inputs) 16,
+      sameOnce-itself state,
+      lt-ltb _ _ ahead,
+      le-leb _ _ due,
+      told,
+    )
 
-  -- what a tick at its own time comes to
-  abbrev ticking : Stepped
-  ticking = step state (tickAt (state .time) .event) []
-
-  -- that of the card is that of the sequence
-  again : tickedAgain kept ≡ steppedCard (dueAfter due (state .time) (ticking .state)) ticking
-  unfolding plainCard readFor cardOf
-  again =
-      ap
-      (λ (held : Selector).
-      let after = stepRead held (eventOf kindTick (state .time) 0 0) (Code 0) in
-      steppedCard (dueAfter due (state .time) (after .state)) after)
-      (selectorOf-cardOf number count due state (sequence-named sequence))
-      ∙ ap (λ (after : Stepped). steppedCard (dueAfter due (state .time) (after .state)) after)
-      (stepRead-readFor state (tickAt (state .time) .event) [])
-
-  stays : ticking .state ≡ state
-  unfolding stateAfter
-  stays =
-      moved sequence (state .time) (omega arith) (sequence-below sequence)
-      (nextDue-later state (sequence-ever sequence))
-
-  passes : ticking .number ≡ accepted
-  unfolding numberAfter
-  passes =
-      accepts sequence (state .time) (omega arith) (sequence-below sequence)
-      (nextDue-later state (sequence-ever sequence))
-
-  due-same : dueAfter due (state .time) (ticking .state) ≡ due
-  due-same =
-      ap (dueAfter due (state .time)) stays
-      ∙ dueAfter-kept due (state .time) state ahead within
-
-  again-whole : tickedAgain kept ≡ cardOf accepted (ticking .count) due state
-  again-whole =
-      again
-      ∙ ap (λ (kept : ℕ). steppedCard kept ticking) due-same
-      ∙ (λ j. cardOf (passes j) (ticking .count) due (stays j))
-
-  -- a card of it passes, whatever is answered beside it
-  pub sound-cardOf : cardSound kept ≡ 1
-  unfolding cardSound
-  sound-cardOf =
-      ap (λ (after : Card). flag (eqb (after .answer .number) accepted && sameCard after kept)) again-whole
-      ∙ ap
-      (λ (told : ℕ). flag (eqb told accepted && sameCard (cardOf accepted (ticking .count) due state) kept))
-      (number-cardOf accepted (ticking .count) due state)
-      ∙ ap flag (sameCard-cardOf accepted number (ticking .count) count due state)
-
-sound-reached : (sequence : Sequence) → cardSound (cardAfter sequence) ≡ 1
+sound-reached : (sequence : Sequence) → isSound (lentAfter sequence) ≡ 1
 sound-reached sequence =
-    ap cardSound (card-right sequence .whole)
-    ∙ sound-cardOf sequence (latestNumber sequence) (latestCount sequence) (cardAfter sequence .due)
-    (card-right sequence .ahead) (card-right sequence .due)
+    let right = lent-right sequence in
+    sound-held sequence (lentAfter sequence) (latestNumber sequence) (right .state) (right .answer) (right .ahead)
+    (right .due)
 
 -- ---- a card that passes
 
@@ -176,49 +143,46 @@ flag-one true is = refl
 flag-one false is = absurd (omega arith)
 
 each-alike : (a b c d e : Bool) → (a && b && c && d && e) ≡ true
-    → (b ≡ true) × (c ≡ true) × (d ≡ true) × (e ≡ true)
+    → (a ≡ true) × (b ≡ true) × (d ≡ true) × (e ≡ true)
 each-alike false b c d e is = absurd (true≢false (sym is))
 each-alike true false c d e is = absurd (true≢false (sym is))
 each-alike true true false d e is = absurd (true≢false (sym is))
 each-alike true true true false e is = absurd (true≢false (sym is))
 each-alike true true true true e is = (refl, refl, refl, is)
 
-answer-alike : (a b c d e f g h i j k l m n : Bool)
-    → (a && b && c && d && e && f && g && h && i && j && k && l && m && n) ≡ true
-    → b ≡ true
-answer-alike false b c d e f g h i j k l m n is = absurd (true≢false (sym is))
-answer-alike true false c d e f g h i j k l m n is = absurd (true≢false (sym is))
-answer-alike true true c d e f g h i j k l m n is = refl
+answer-alike : (a b c d e f : Bool) → (a && b && c && d && e && f) ≡ true → f ≡ true
+answer-alike false b c d e f is = absurd (true≢false (sym is))
+answer-alike true false c d e f is = absurd (true≢false (sym is))
+answer-alike true true false d e f is = absurd (true≢false (sym is))
+answer-alike true true true false e f is = absurd (true≢false (sym is))
+answer-alike true true true true false f is = absurd (true≢false (sym is))
+answer-alike true true true true true f is = is
 
-module _ (card : Card) (sound : cardSound card ≡ 1) where
-  -- the card after that tick
-  abbrev after : Card
-  after = tickedAgain card
-
-  alike : sameCard after card ≡ true
-  unfolding cardSound
-  alike = both-second (eqb (tickedAgain card .answer .number) accepted) (sameCard after card) (flag-one _ sound)
-
-  sound-inRange : InRange card
-  unfolding sameCard sameAnswer
-  sound-inRange =
-      let range = plainCard-inRange card (eventOf kindTick (card .time) 0 0) (Code 0) in
-      let same = answer-alike (sameInputs (after .inputs) (card .inputs)) (sameAnswer (after .answer) (card .answer))
-      (eqb (after .time) (card .time)) (eqb (after .due) (card .due)) (eqb (after .mode) (card .mode))
-      (eqb (after .held) (card .held)) (eqb (after .switch) (card .switch)) (eqb (after .on) (card .on))
-      (eqb (after .selection) (card .selection)) (eqb (after .selected) (card .selected))
-      (eqb (after .option) (card .option)) (eqb (after .place) (card .place)) (eqb (after .marks) (card .marks))
-      (eqb (after .spare) (card .spare)) alike in
-      let each = each-alike (eqb (after .answer .quality) (card .answer .quality))
-      (eqb (after .answer .selected) (card .answer .selected)) (eqb (after .answer .state) (card .answer .state))
-      (eqb (after .answer .switch) (card .answer .switch)) (eqb (after .answer .on) (card .answer .on)) same in
-      record {
-        selected = subst IsInput (eqb-true _ _ (each .0)) (range .selected);
-        state = subst (λ (number : ℕ). number ≤ 2) (eqb-true _ _ (each .1)) (range .state);
-        switch = subst (λ (number : ℕ). number ≤ 2) (eqb-true _ _ (each .2)) (range .switch);
-        on = subst IsInput (eqb-true _ _ (each .3)) (range .on);
-      }
+sound-inRange : (times small words due told : List ℕ) → isSound (watchAt times small words due told) ≡ 1
+    → InRange (answerIn told)
+unfolding isSound sameAnswer watchAt
+sound-inRange times small words due told sound =
+    let watch = watchAt times small words due told in
+    let state = selectorAt times small words in
+    let answer = answerOf accepted state in
+    let range = answer-inRange accepted state (selectorAt-named times small words) in
+    let alike = answer-alike (ltb (state .time) timeLimit)
+    (sameRuns (state .inputs) (ticked state (state .time) .inputs))
+    (sameOnce state (ticked state (state .time)))
+    (ltb (state .time) (watch .due))
+    (leb (watch .due) (nextDue state))
+    (sameAnswer (answerIn told) answer)
+    (flag-one _ sound) in
+    let each = each-alike (eqb (answerIn told .selected) (answer .selected))
+    (eqb (answerIn told .state) (answer .state)) (eqb (answerIn told .quality) (answer .quality))
+    (eqb (answerIn told .switch) (answer .switch)) (eqb (answerIn told .on) (answer .on)) alike in
+    record {
+      selected = subst IsInput (sym (eqb-true _ _ (each .0))) (range .selected);
+      state = subst (λ (number : ℕ). number ≤ 2) (sym (eqb-true _ _ (each .1))) (range .state);
+      switch = subst (λ (number : ℕ). number ≤ 2) (sym (eqb-true _ _ (each .2))) (range .switch);
+      on = subst IsInput (sym (eqb-true _ _ (each .3))) (range .on);
+    }
 
 -- Every card that events lead to passes, and one that passes answers in range.
-pub sound-right : SoundRight
-sound-right = record { reached = sound-reached; inRange = sound-inRange }
+pub lent-sound-right : SoundRight
+lent-sound-right = record { reached = sound-reached; inRange = sound-inRange }

@@ -1,17 +1,20 @@
--- `Laws`: the code's definitions, way by way. `Element`: one element of an array in memory. `Range`: what C may index
--- by. `Due`: what is next due after an event that is taken. `Called`: one call on the card of a selector. `Calls`: what
--- C holds after calls in a row. `Ports`: what is written for a port. `Status`: what is known of one input. `Asking`:
--- the senders beside the card. `Ranges`: the header's ranges. `Kept`: a kept card.
+-- `Laws`: the definitions, a law for each way through the function that meets it. `Same`: those of a sound card.
+-- `Status`: those of what is known of an input. `Tested`: those of the self-test. `Asking`: those of one sender. `Range`:
+-- what C may index by. `Due`: what is next due after an event that is taken. `Ports`: what is written for a port. `Calls`:
+-- what C holds after calls in a row. `Kept`: a kept card. `SelfTest`: the self-test is passed. `Portions`: a tick
+-- in portions.
+-- `Ranges`: the header's ranges. `Questions`: questions in a row to senders lent one by one.
 pub mod Laws
-pub mod Element
+pub mod Same
+pub mod Status
+pub mod Tested
+pub mod Asking
 pub mod Range
 pub mod Due
-pub mod Called
-pub mod Calls
 pub mod Ports
-pub mod Status
-pub mod Asking
-pub mod Ranges
+pub mod Calls
 pub mod Kept
-pub mod Tested
 pub mod SelfTest
+pub mod Portions
+pub mod Ranges
+pub mod Questions

@@ -1,4 +1,4 @@
--- What is written for a port, whatever the card holds. Assumes nothing.
+-- What is written for a port, whatever the state. Assumes nothing.
 use Prim.Native.Nat.{ℕ, _≤_}
 use mathlib.Core.Bool.{Bool, false}
 use mathlib.Core.List.{List, _++_}
@@ -14,18 +14,18 @@ use Rattle.frame.specs.declared.FrameWrite.the-variants.{Written, Refused}
 use Rattle.frame.specs.Write.{writtenLength, sourceLength, frameOctets, writeAnswer, contentAfter}
 use Rattle.frame.proofs.RoundTrip.{demand-2-round-trip}
 use Rattle.numbers.proofs.Truth.{byBool}
+use Rattle.sender.specs.Heartbeat.{codeOfPort}
 use Rattle.sender.proofs.Codes.{codeOfPort-small}
 use Rattle.numbers.specs.Inputs.{lastInput}
-use Rattle.card.specs.declared.Card.{Card}
-use Rattle.card.specs.Flat.{selectorOf}
-use Rattle.card.specs.Card.{portCode, portWrite, numberOfWrite, WritePort}
+use Rattle.selector.specs.declared.Selector.{Selector}
+use Rattle.card.specs.Lent.{portWrite, numberOfWrite, WritePort}
 use Rattle.card.specs.Ports.{portNumber, PortFrame}
 
 -- ---- an outgoing code is one of the sixteen
 
--- whatever the card holds
-portCode-small : (card : Card) (port : ℕ) → portCode card port ≤ 15
-portCode-small card port = codeOfPort-small (selectorOf card) port
+-- whatever the state
+port-small : (state : Selector) (port : ℕ) → codeOfPort state port ≤ 15
+port-small state port = codeOfPort-small state port
 
 -- ---- what writing comes to
 
@@ -58,18 +58,18 @@ refused-kept : (written : FrameWrite) (before source : List ℕ) (event : Bool) 
 refused-kept Written before source event code refused = absurd (refused refl)
 refused-kept (Refused number) before source event code refused = refl
 
-module _ (card : Card) (port : ℕ) (event : Bool) (source before : List ℕ) (answer : ℕ) (after : List ℕ)
-    (write : WritePort card port event source before answer after) where
+module _ (state : Selector) (port : ℕ) (event : Bool) (source before : List ℕ) (answer : ℕ) (after : List ℕ)
+    (write : WritePort state port event source before answer after) where
   -- a port that there is: what is answered, and what is left
-  there-answered : ltb lastInput port ≡ false → answer ≡ numberOfWrite (portWrite card port source before)
+  there-answered : ltb lastInput port ≡ false → answer ≡ numberOfWrite (portWrite state port source before)
   there-answered there = write .answered ∙ (rw there)
 
   there-content : ltb lastInput port ≡ false
-      → after ≡ contentAfter (portWrite card port source before) before source event (portCode card port)
+      → after ≡ contentAfter (portWrite state port source before) before source event (codeOfPort state port)
   there-content there = write .content ∙ (rw there)
 
   -- What is written for a port tells its outgoing code; the numbers are 5, 19 and 18, and each keeps the buffer.
-  pub port-frame : PortFrame card port event source before answer after
+  pub port-frame : PortFrame state port event source before answer after
   port-frame =
       byBool (ltb lastInput port)
       (λ past.
@@ -80,27 +80,27 @@ module _ (card : Card) (port : ℕ) (event : Bool) (source before : List ℕ) (a
       })
       (λ there.
       record {
-        number = there-answered there ∙ writeAnswer-small before source _ (portCode-small card port) ∙ (rw there);
+        number = there-answered there ∙ writeAnswer-small before source _ (port-small state port) ∙ (rw there);
         kept = λ refused.
             there-content there
-            ∙ refused-kept (portWrite card port source before) before source event (portCode card port)
+            ∙ refused-kept (portWrite state port source before) before source event (codeOfPort state port)
             (λ accepts. refused (there-answered there ∙ accepts));
         reads = λ accepts.
-            demand-2-round-trip before source after event (portCode card port) (portWrite card port source before)
+            demand-2-round-trip before source after event (codeOfPort state port) (portWrite state port source before)
             (record { answered = refl; content = there-content there })
             .front
-            (writeAnswer-written before source _ (portCode-small card port) (sym (there-answered there) ∙ accepts));
+            (writeAnswer-written before source _ (port-small state port) (sym (there-answered there) ∙ accepts));
       })
 
   -- what is written is the frame with the port's code, and the octets after it are kept
   pub port-written : answer ≡ accepted
-      → (port ≤ lastInput) × (after ≡ frameOctets source event (portCode card port) ++ drop writtenLength before)
+      → (port ≤ lastInput) × (after ≡ frameOctets source event (codeOfPort state port) ++ drop writtenLength before)
   port-written accepts =
       byBool (ltb lastInput port)
       (λ past. let five : answer ≡ 5 = write .answered ∙ (rw past) in absurd (omega arith))
       (λ there. (
         ltb-false lastInput port there,
         there-content there
-            ∙ ap (λ (written : FrameWrite). contentAfter written before source event (portCode card port))
-            (writeAnswer-written before source _ (portCode-small card port) (sym (there-answered there) ∙ accepts)),
+            ∙ ap (λ (written : FrameWrite). contentAfter written before source event (codeOfPort state port))
+            (writeAnswer-written before source _ (port-small state port) (sym (there-answered there) ∙ accepts)),
       ))

@@ -1,33 +1,29 @@
 -- The inputs that a selector names stay among the sixteen, so that C may index by what it reads. Assumes nothing.
 use Prim.Native.Nat.{ℕ, zero, suc, _≤_, _<_, _+_}
-use mathlib.Core.Bool.{Bool, true, false, _&&_, cond, true≢false}
+use mathlib.Core.Bool.{Bool, true, false, _&&_, true≢false}
 use mathlib.Core.List.{List}
 use mathlib.Core.Logic.{inl, inr, _≢_}
 use mathlib.Core.Path.{_≡_, refl, sym, subst}
 use native.Mathlib.Omega.{arith}
-use lib.Dec.{eqb, leb, ltb}
-use borrow.Author.Tests.{ltb-false, ne-eqb, leb-true, eqb-true}
+use lib.Dec.{eqb, leb}
+use borrow.Author.Tests.{ne-eqb, leb-true, le-leb, eqb-true}
 use Rattle.numbers.specs.declared.Answer.{Answer}
 use Rattle.numbers.specs.declared.Event.{Event}
-use Rattle.numbers.specs.declared.InputNumber.{InputNumber}
-use Rattle.numbers.specs.declared.Profile.{Profile}
 use Rattle.numbers.specs.Recorded.{Recorded}
 use Rattle.numbers.specs.From.{started, _following_}
 use Rattle.numbers.specs.Profile.{limitsOf}
 use Rattle.numbers.specs.Inputs.{lastInput, inputCount}
-use Rattle.numbers.specs.Kind.{kindFrame, kindForced, kindManual, kindClearSwitch}
+use Rattle.numbers.specs.Kind.{kindFrame}
+use Rattle.numbers.specs.Refusal.{accepted}
+use Rattle.numbers.proofs.Truth.{byBool}
 use Rattle.frame.specs.declared.FrameRead.{FrameRead}
 use Rattle.frame.specs.Read.{readCode}
-use Rattle.numbers.proofs.Truth.{byBool}
-use Rattle.choice.specs.declared.Candidate.{Candidate}
 use Rattle.choice.specs.declared.Selection.{Selection}
 use Rattle.choice.specs.declared.Selection.the-variants as S
-use Rattle.choice.specs.Candidate.{eligibleAmong, betterAmong}
-use Rattle.choice.proofs.Choosing.{Inside, choose-inside}
+use Rattle.choice.proofs.Choosing.{Inside}
 use Rattle.switch.specs.declared.Switch.{Switch}
 use Rattle.switch.specs.declared.Switch.the-variants as W
-use Rattle.switch.specs.OneChoice.{forcedMayStand, manualMayStand, judged, selectedBy, decide}
-use Rattle.switch.specs.Choices.{commanded}
+use Rattle.switch.specs.OneChoice.{judged, decide}
 use Rattle.selector.specs.declared.Selector.{Selector}
 use Rattle.selector.specs.Clock.{noInput, locked, switchManual, clockState, selectedNumber, switchNumber, switchInput}
 use Rattle.selector.specs.Answer.{selectedCandidate, answerOf}
@@ -42,16 +38,17 @@ use Rattle.events.specs.Step.{recordedArgument, recordedEvent, eventTaken, atIt
 use Rattle.events.specs.Sequence.{stateAfter}
 use Rattle.events.proofs.Refused.{accepted-input}
 use Rattle.events.proofs.Calm.{accepted-or-not, stepRead-refused, stepRead-barred, stepRead-taken}
+use Rattle.inplace.specs.Lists.{selectorAt}
+use Rattle.inplace.proofs.Named.{On, switchOf-on, selectionOf-inside, judged-on, selectedBy-inside, commanded-on}
 use Rattle.quickstep.specs.declared.Left.{Left}
 use Rattle.quickstep.specs.declared.Left.the-variants as L
+use Rattle.quickstep.specs.declared.Own.{Own}
 use Rattle.quickstep.specs.declared.Watch.{Watch}
-use Rattle.quickstep.specs.Watch.{servedWatch, completed, ownPut, takeStep}
-use Rattle.card.specs.declared.Card.{Card}
-use Rattle.card.specs.Flat.{switchOf, selectionOf, selectorOf, cardOf}
-use Rattle.card.specs.declared.CardAnswer.{CardAnswer}
-use Rattle.card.specs.declared.CardInput.{CardInput}
-use Rattle.card.specs.Card.{eventOf, plainCard, namesInput, isRanged, profileHeld, ownFlat, quickStep, watchIn, wholeCard, eventCard, readFor, stepCard}
-use Rattle.card.specs.Range.{IsInput, InRange, AnyCard}
+use Rattle.quickstep.specs.Again.{saysAgain, againOwn}
+use Rattle.quickstep.specs.Watch.{numbered, servedWatch, completed, ownPut, ownAt, takeStep, watchStep}
+use Rattle.onestep.specs.Watched.{watchAt}
+use Rattle.card.specs.Lent.{eventOf, readFor, namesInput, isRanged, rangedWatch, eventLent, stepLent}
+use Rattle.card.specs.Range.{IsInput, InRange, AnyLent}
 
 -- ---- a frame is looked at for a frame event alone
 
@@ -67,61 +64,15 @@ stepRead-readFor state event frame = byBool (eqb (event .kind) kindFrame) (λ y.
 
 -- ---- the inputs that a selector names
 
--- a switch is on one of the inputs
-abbrev pub On : Switch → Type 0
-On W.Nothing = Unit {0}
-On (W.Forced on) = on .0 < inputCount
-On (W.Manual on) = on .0 < inputCount
-
 -- what a selector names are inputs
 pub record Named (state : Selector) : Type 0 where
   pub switch : On (state .switch)
   pub selection : Inside (state .selection)
 
-kept-on : (test : Bool) (switch : Switch) → On switch → On (cond test switch W.Nothing)
-kept-on true switch on = on
-kept-on false switch on = tt
-
-switchOf-on : (kind : ℕ) (on : InputNumber) → On (switchOf kind on)
-unfolding switchOf
-switchOf-on kind on =
-    byBool (ltb lastInput (on .0)) (λ past. rw past tt)
-    (λ there. rw there
-    (go (eqb kind 1) (eqb kind 2) (omega (arith, ltb-false lastInput (on .0) there))))
-  where
-    go : (forced manual : Bool) → on .0 < inputCount
-        → On (cond forced (W.Forced on) (cond manual (W.Manual on) W.Nothing))
-    go true manual few = few
-    go false manual few = kept-on manual (W.Manual on) few
-
-selectionOf-inside : (selection : ℕ) (number : InputNumber) → Inside (selectionOf selection number)
-unfolding selectionOf
-selectionOf-inside selection number =
-    byBool (ltb lastInput (number .0)) (λ past. rw past tt)
-    (λ there. rw there (go (eqb selection 0) (omega (arith, ltb-false lastInput (number .0) there))))
-  where
-    go : (none : Bool) → number .0 < inputCount → Inside (cond none S.Nothing (S.At number))
-    go true few = tt
-    go false few = few
-
--- of any card
-pub selectorOf-named : (card : Card) → Named (selectorOf card)
-unfolding selectorOf
-selectorOf-named card = record { switch = switchOf-on _ _; selection = selectionOf-inside _ _ }
-
-judged-on : (candidates : List Candidate) (switch : Switch) → On switch → On (judged candidates switch)
-unfolding judged
-judged-on candidates W.Nothing on = tt
-judged-on candidates (W.Forced number) on = kept-on (forcedMayStand candidates (number .0)) (W.Forced number) on
-judged-on candidates (W.Manual number) on = kept-on (manualMayStand candidates (number .0)) (W.Manual number) on
-
-selectedBy-inside : (candidates : List Candidate) (switch : Switch) (before : Selection) → On switch
-    → Inside (selectedBy candidates switch before)
-unfolding selectedBy
-selectedBy-inside candidates W.Nothing before on =
-    choose-inside (eligibleAmong candidates) (betterAmong candidates) before
-selectedBy-inside candidates (W.Forced number) before on = on
-selectedBy-inside candidates (W.Manual number) before on = on
+-- of any numbers
+pub selectorAt-named : (times small words : List ℕ) → Named (selectorAt times small words)
+unfolding selectorAt
+selectorAt-named times small words = record { switch = switchOf-on _ _; selection = selectionOf-inside _ _ }
 
 decided-named : (state : Selector) → On (state .switch) → Named (decided state)
 unfolding decided decide
@@ -155,20 +106,6 @@ servedFrom-named (suc left) state count time named =
 ticked-named : (state : Selector) (time : ℕ) → Named state → Named (ticked state time)
 unfolding served
 ticked-named state time named = servedFrom-named 48 state 0 time named
-
-commanded-on : (kind number : ℕ) (switch : Switch) → number < inputCount → On switch → On (commanded kind number switch)
-unfolding commanded
-commanded-on kind number switch few on = go (eqb kind kindForced) (eqb kind kindManual) (eqb kind kindClearSwitch)
-  where
-    go : (forced manual clears : Bool)
-        → On
-        (cond forced (W.Forced (record { 0 = number }))
-        (cond manual (W.Manual (record { 0 = number }))
-        (cond clears W.Nothing switch)))
-    go true manual clears = few
-    go false true clears = few
-    go false false true = tt
-    go false false false = on
 
 atItsMoment-named : (state : Selector) (event : Recorded) → event .input < inputCount → Named state
     → Named (atItsMoment state event)
@@ -223,9 +160,9 @@ clockState-most true held = omega arith
 clockState-most false true = omega arith
 clockState-most false false = omega arith
 
-pub cardOf-inRange : (number count due : ℕ) (state : Selector) → Named state → InRange (cardOf number count due state)
-unfolding cardOf answerOf
-cardOf-inRange number count due state named =
+pub answer-inRange : (number : ℕ) (state : Selector) → Named state → InRange (answerOf number state)
+unfolding answerOf
+answer-inRange number state named =
     record {
       selected = selected-input (state .selection) (named .selection);
       on = switch-input (state .switch) (named .switch);
@@ -235,16 +172,21 @@ cardOf-inRange number count due state named =
       switch = switch-kind (state .switch);
     }
 
--- a card whose answer names what is there
+-- an answer with another number names the same
+pub numbered-inRange : (number : ℕ) (told : Answer) → InRange told → InRange (numbered number told)
+numbered-inRange number told range =
+    record { selected = range .selected; on = range .on; state = range .state; switch = range .switch }
+
+-- ---- an answer that names what is there
+
 ranged-input : (number : ℕ) → namesInput number ≡ true → IsInput number
 ranged-input number is =
     byBool (leb number lastInput) (λ y. inl (leb-true number lastInput y))
     (λ n. inr (eqb-true number noInput (rw n at is)))
 
-isRanged-range : (card : Card) → isRanged (card .answer) ≡ true → InRange card
+isRanged-range : (told : Answer) → isRanged told ≡ true → InRange told
 unfolding isRanged
-isRanged-range card is =
-    let told = card .answer in
+isRanged-range told is =
     let all =
     four (namesInput (told .selected)) (namesInput (told .on)) (leb (told .state) locked)
     (leb (told .switch) switchManual) is in
@@ -262,66 +204,74 @@ isRanged-range card is =
     four true false c d e = absurd (true≢false (sym e))
     four false b c d e = absurd (true≢false (sym e))
 
--- the plain step, on any card
-pub plainCard-inRange : (card : Card) (event : Event) (read : FrameRead) → InRange (plainCard card event read)
-unfolding plainCard
-plainCard-inRange card event read =
-    let after = stepRead (selectorOf card) event read in
-    cardOf-inRange (after .number) (after .count) _ (after .state)
-    (stepRead-named (selectorOf card) event read (selectorOf-named card))
+pub inRange-ranged : (told : Answer) → InRange told → isRanged told ≡ true
+unfolding isRanged
+inRange-ranged told range =
+    rw (
+      names (told .selected) (range .selected),
+      names (told .on) (range .on),
+      le-leb (told .state) locked (range .state),
+      le-leb (told .switch) switchManual (range .switch),
+    )
+  where
+    names : (number : ℕ) → IsInput number → namesInput number ≡ true
+    names number (inl within) = rw (le-leb number lastInput within)
+    names number (inr none) = rw none
+
+-- ---- any step
+
+ranged-state : (watch : Watch) → rangedWatch watch .state ≡ watch .state
+unfolding rangedWatch
+ranged-state watch = byBool (isRanged (watch .answer)) (λ y. rw y) (λ n. rw n)
+
+ranged-inRange : (watch : Watch) → Named (watch .state) → InRange (rangedWatch watch .answer)
+unfolding rangedWatch
+ranged-inRange watch named =
+    byBool (isRanged (watch .answer)) (λ y. rw y (isRanged-range (watch .answer) y))
+    (λ n. rw n (answer-inRange accepted (watch .state) named))
 
 -- what is left to do once an own input has taken an event
-completed-named : (state : Selector) (due : ℕ) (answer : Answer) (left : Left) (event : Event) (read : FrameRead)
-    → Named state
-    → Named (completed state due answer left event read .state)
+completed-inRange : (state : Selector) (due : ℕ) (answer : Answer) (left : Left) (event : Event) (read : FrameRead)
+    → Named state → InRange answer
+    → InRange (completed state due answer left event read .answer)
 unfolding completed servedWatch
-completed-named state due answer L.Nothing event read named = named
-completed-named state due answer L.Choice event read named = decided-named state (named .switch)
-completed-named state due answer L.Service event read named = stepRead-named state event read named
+completed-inRange state due answer L.Nothing event read named range = range
+completed-inRange state due answer L.Choice event read named range =
+    answer-inRange (answer .number) (decided state) (decided-named state (named .switch))
+completed-inRange state due answer L.Service event read named range =
+    answer-inRange (stepRead state event read .number) (stepRead state event read .state)
+    (stepRead-named state event read named)
 
--- a watch whose state's names are inputs takes any event and leaves such a one
-takeStep-named : (watch : Watch) (event : Event) (read : FrameRead) → Named (watch .state)
-    → Named (takeStep watch event read .state)
-unfolding takeStep ownPut
-takeStep-named watch event read named =
-    completed-named _ _ _ _ event read (record { switch = named .switch; selection = named .selection })
+put-inRange : (watch : Watch) (own : Own) (event : Event) (read : FrameRead) → Named (watch .state)
+    → InRange (watch .answer)
+    → InRange (ownPut watch own event read .answer)
+unfolding ownPut
+put-inRange watch own event read named range =
+    completed-inRange _ _ _ _ event read (record { switch = named .switch; selection = named .selection })
+    (numbered-inRange (own .number) (watch .answer) range)
 
--- what is not quick
-wholeCard-inRange : (card : Card) (event : Event) (read : FrameRead) → InRange (wholeCard card event read)
-unfolding wholeCard
-wholeCard-inRange card event read =
-    let after = takeStep (watchIn card) event read in
-    cardOf-inRange (after .answer .number) (after .count) (after .due) (after .state)
-    (takeStep-named (watchIn card) event read (selectorOf-named card))
+step-inRange : (watch : Watch) (event : Event) (read : FrameRead) → Named (watch .state) → InRange (watch .answer)
+    → InRange (watchStep watch event read .answer)
+unfolding watchStep takeStep
+step-inRange watch event read named range =
+    let state = watch .state in
+    let says = saysAgain (ownAt state event) (state .profile) (state .time) (watch .due) event read in
+    byBool says
+    (λ y. rw y (put-inRange watch (againOwn (ownAt state event) (watch .due) event) event read named range))
+    (λ n. rw n (put-inRange watch _ event read named range))
 
--- only on a card whose answer names what is there is an event quick
-quick-ranged : (flat : CardInput) (told : CardAnswer) (profile : Profile) (time due : ℕ) (event : Event)
-    (read : FrameRead)
-    → quickStep flat told profile time due event read .is ≡ true
-    → isRanged told ≡ true
-unfolding quickStep
-quick-ranged flat told profile time due event read is =
-    byBool (isRanged told) (λ y. y) (λ n. absurd (true≢false (sym (rw n at is))))
-
--- any step
-eventCard-inRange : (card : Card) (event : Event) (read : FrameRead) → InRange (eventCard card event read)
-unfolding eventCard
-eventCard-inRange card event read =
-    let quick = quickStep (ownFlat card event) (card .answer) (profileHeld card) (card .time) (card .due) event read in
-    byBool (quick .is)
-    (λ y. let range =
-    isRanged-range card (quick-ranged (ownFlat card event) (card .answer) (profileHeld card) (card .time)
-    (card .due) event read y) in
-    rw y (record { selected = range .selected; on = range .on; state = range .state; switch = range .switch }))
-    (λ n. rw n (wholeCard-inRange card event read))
-
--- Whatever card came in, C may index by what it reads; and what is lent beside another event than a frame changes
+-- Whatever the arrays held, C may index by what it reads; and what is lent beside another event than a frame changes
 -- nothing.
-pub any-card : (card : Card) (kind time input argument : ℕ) (frame : List ℕ)
-    → AnyCard card kind time input argument frame
-unfolding stepCard
-any-card card kind time input argument frame =
+pub any-lent : (times small words due told : List ℕ) (kind time input argument : ℕ) (frame : List ℕ)
+    → AnyLent times small words due told kind time input argument frame
+unfolding stepLent eventLent watchAt
+any-lent times small words due told kind time input argument frame =
+    let watch = watchAt times small words due told in
+    let named = selectorAt-named times small words in
     record {
-      inRange = eventCard-inRange card (eventOf kind time input argument) (readFor kind frame);
+      inRange =
+          step-inRange (rangedWatch watch) (eventOf kind time input argument) (readFor kind frame)
+          (subst Named (sym (ranged-state watch)) named)
+          (ranged-inRange watch named);
       unread = λ other lent. rw (readFor-unread kind frame lent other);
     }

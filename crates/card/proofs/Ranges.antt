@@ -1,5 +1,5 @@
 -- Codes and qualities that C reads are in the header's ranges. Cites `never-usable` and `something-usable` of the clock
--- quality, `demand-2-card` and `status-card` of what C reads. Assumes nothing.
+-- quality, `demand-2-lent` and `status-lent` of what C reads. Assumes nothing.
 use Prim.Native.Nat.{ℕ, zero, suc, _+_, _-_, _≤_}
 use mathlib.Core.Bool.{Bool, true, false, not, _&&_, _||_, cond, true≢false, and-false}
 use mathlib.Core.List.{List, [], _∷_}
@@ -7,9 +7,9 @@ use mathlib.Core.Path.{_≡_, refl, sym, ap, subst, _∙_}
 use native.Mathlib.Omega.{arith}
 use lib.Dec.{eqb, ltb}
 use borrow.Author.Tests.{eqb-true, ne-eqb, not-false}
-use Rattle.numbers.specs.declared.Profile.{Profile}
-use Rattle.numbers.specs.declared.Profile.the-variants as P
-use Rattle.numbers.specs.declared.Quality.{Quality}
+use Rattle.numbers.specs.declared.profile.Profile.{Profile}
+use Rattle.numbers.specs.declared.profile.Profile.the-variants as P
+use Rattle.numbers.specs.declared.quality.Quality.{Quality}
 use Rattle.numbers.specs.Recorded.{Recorded}
 use Rattle.numbers.specs.From.{started, _following_, profileOf}
 use Rattle.numbers.specs.Codes.{Sign, saidBy, codesOf, words, qualityOfCode, qualityOfWord, saidIn}
@@ -34,23 +34,18 @@ use Rattle.events.proofs.Agrees.{recorded-profile}
 use Rattle.events.proofs.Usable.{quality-stated, something-usable, never-usable}
 use Rattle.sender.proofs.Codes.{codeOfPort-small}
 use Rattle.status.specs.Status.{statusBy}
-use Rattle.card.specs.declared.Card.{Card}
-use Rattle.card.specs.declared.CardAnswer.{CardAnswer}
-use Rattle.card.specs.declared.known.CardStatus.{CardStatus}
-use Rattle.card.specs.Flat.{selectorOf}
-use Rattle.card.specs.Card.{cardCodes}
-use Rattle.card.specs.Calls.{cardAfter}
-use Rattle.card.specs.Status.{flatStatus, cardStatus}
-use Rattle.card.specs.Ranges.{AnyCodes, lastClockQuality, ClockQualityRanged, lastQuality, QualitiesRanged}
-use Rattle.card.proofs.Calls.{demand-2-card}
-use Rattle.card.proofs.Status.{status-card}
+use Rattle.selector.specs.declared.Selector.{Selector}
+use Rattle.numbers.specs.declared.Answer.{Answer}
+use Rattle.card.specs.Known.{knownOf, inputKnown}
+use Rattle.card.specs.Calls.{lentAfter}
+use Rattle.card.specs.Ranges.{AnyCodes, lastClockQuality, ClockQualityRanged, lastQuality, rawIn, passedIn, QualitiesRanged}
+use Rattle.card.proofs.Calls.{demand-2-lent, status-lent}
 
 -- ---- codes
 
--- ANY CARD: its codes are 0 to 15.
-pub any-codes : (card : Card) → AnyCodes card
-unfolding cardCodes
-any-codes card port = codeOfPort-small (selectorOf card) port
+-- ANY STATE: its codes are 0 to 15.
+pub any-codes : (state : Selector) → AnyCodes state
+any-codes state port = codeOfPort-small state port
 
 -- ---- the clock quality
 
@@ -92,8 +87,8 @@ module _ (sequence : Sequence) where
   same : profileOf (past .history) ≡ profile
   same = recorded-profile sequence
 
-  read : cardAfter sequence .answer .quality ≡ qualityBy past .0
-  read = ap (λ (answer : CardAnswer). answer .quality) (demand-2-card sequence .answer)
+  read : lentAfter sequence .answer .quality ≡ qualityBy past .0
+  read = ap (λ (answer : Answer). answer .quality) (demand-2-lent sequence .answer)
 
   -- a usable quality that is selected, with mode on
   usable-within : modeOn (past .history) ≡ true → candidateSelected past .usable ≡ true
@@ -412,11 +407,9 @@ unfolding statusBy
 qualities-ranged sequence input =
     record {
       raw = λ within.
-          told (λ (known : CardStatus). known .raw) within
-          (raw-ranged profile input history (timeOf history) (sequence-ranged sequence input));
+          told rawIn within (raw-ranged profile input history (timeOf history) (sequence-ranged sequence input));
       passed = λ within.
-          told (λ (known : CardStatus). known .passed) within
-          (passedAt-ranged profile input history (timeOf history) (sequence-ranged sequence input));
+          told passedIn within (passedAt-ranged profile input history (timeOf history) (sequence-ranged sequence input));
     }
   where
     history : History
@@ -425,12 +418,12 @@ qualities-ranged sequence input =
     profile : Profile
     profile = profileOf sequence
 
-    status : CardStatus
-    status = flatStatus profile (statusBy history input)
+    known : List ℕ
+    known = knownOf profile (statusBy history input)
 
-    told : (field : CardStatus → ℕ) → input ≤ lastInput → field status ≤ lastQuality profile
-        → field (cardStatus (cardAfter sequence) input) ≤ lastQuality profile
+    told : (field : List ℕ → ℕ) → input ≤ lastInput → field known ≤ lastQuality profile
+        → field (inputKnown (lentAfter sequence .state) input) ≤ lastQuality profile
     told field within most =
-        let same = ap field (status-card sequence input .known within)
-        ∙ ap (λ (one : Profile). field (flatStatus one (statusBy history input))) (recorded-profile sequence) in
+        let same = ap field (status-lent sequence input .known within)
+        ∙ ap (λ (one : Profile). field (knownOf one (statusBy history input))) (recorded-profile sequence) in
         omega (arith, same, most)

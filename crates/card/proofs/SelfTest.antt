@@ -1,6 +1,6 @@
 -- The self-test is passed: by computation of the definitions. Assumes nothing.
 use mathlib.Core.Path.{_≡_, refl}
-use Rattle.numbers.specs.Profile.{limitsOf, placeOf, marksOf, floorIn, profileIn, optionOf}
+use Rattle.numbers.specs.Profile.{limitsOf, placeOf, marksOf, floorIn}
 use Rattle.numbers.specs.Codes.{saidBy, qualityOfCode, qualityOfWord, saidIn}
 use Rattle.numbers.specs.Kind.{rowOf, inputKindOf, isArgumentOut, isInputOut}
 use Rattle.numbers.specs.Rows.{firstThatApplies}
@@ -22,20 +22,19 @@ use Rattle.due.specs.Served.{servedFrom, served}
 use Rattle.events.specs.Refusals.{isWrongKind, frameRefusal, earlyRefusal, isForcedSwitch, lateRefusal}
 use Rattle.events.specs.Step.{isHeldInByte, heldArgument, inputAfter, inputsAfter, modeAfter, atItsMoment, stepRead}
 use Rattle.events.specs.Given.{recordedArgument}
-use Rattle.card.specs.Flat.{inputOf, flatInput, switchOf, selectionOf, isSelected, selectorOf, cardOf}
 use Rattle.quickstep.specs.Again.{codeAgain, frameAgain, readAgain, isAgain, saysAgain, againInput, againDue, againOwn}
 use Rattle.quickstep.specs.Own.{isCommand, isServed, seenAlike, ownTake, ownStep}
-use Rattle.quickstep.specs.Watch.{dueAnew, dueAfter, servedWatch, completed, ownPut, takeStep}
-use Rattle.card.specs.Card.{freshCard, isRanged, quickStep, wholeCard, eventCard, readFor, stepCard}
-use Rattle.card.specs.SelfTest.{lentOctets, testFrame, testedCard, isTold, answeredRight, selfTest, SelfTestRight}
+use Rattle.quickstep.specs.Watch.{dueAnew, dueAfter, servedWatch, completed, ownPut, takeStep, watchStep}
+use Rattle.card.specs.Lent.{isRanged, rangedWatch, eventLent, readFor, stepLent}
+use Rattle.card.specs.SelfTest.{lentOctets, testFrame, testedWatch, isTold, answeredRight, selfTest, SelfTestRight}
 
 passed : selfTest ≡ 1
 unfolding
-    selfTest answeredRight isTold testedCard testFrame lentOctets
-    stepCard eventCard quickStep isRanged wholeCard takeStep ownPut completed servedWatch dueAnew dueAfter
+    selfTest answeredRight isTold testedWatch testFrame lentOctets
+    stepLent eventLent isRanged rangedWatch watchStep takeStep ownPut completed servedWatch dueAnew dueAfter
     ownStep ownTake seenAlike isServed isCommand againOwn againInput againDue saysAgain isAgain readAgain
     codeAgain frameAgain
-    readFor freshCard cardOf selectorOf optionOf profileIn isSelected selectionOf switchOf flatInput inputOf
+    readFor
     writeAnswer frameOctets dataOctets headerOctets
     readCode frameNumber rightLength rightDestination rightProtocol rightOrganisation rightVersion rightTlv same
     stepRead atItsMoment commanded recordedArgument modeAfter inputsAfter inputAfter heldArgument isHeldInByte
@@ -52,5 +51,5 @@ unfolding
 passed = refl
 
 -- THE SELF-TEST is passed.
-pub self-test-right : SelfTestRight
-self-test-right = record { passes = passed }
+pub lent-test-right : SelfTestRight
+lent-test-right = record { passes = passed }

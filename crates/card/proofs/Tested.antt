@@ -10,15 +10,15 @@ use lib.ListN.{length, getD, drop, drop-of-length-le}
 use lib.Seq.{drop-cons}
 use mir.Val.{boolByte}
 use borrow.Author.Tests.{lt-ltb, le-ltb, ltb-true}
-use Rattle.numbers.specs.declared.Profile.the-variants as P
+use Rattle.numbers.specs.declared.profile.Profile.the-variants as P
 use Rattle.numbers.specs.Kind.{flag}
 use Rattle.frame.specs.Write.{writtenLength}
 use Rattle.numbers.proofs.Truth.{byBool}
-use Rattle.card.specs.declared.Card.{Card}
+use Rattle.quickstep.specs.declared.Watch.{Watch}
+use Rattle.quickstep.specs.Watch.{freshWatch}
 use Rattle.card.specs.declared.self_test.TestLine.{TestLine}
-use Rattle.card.specs.Card.{freshCard}
-use Rattle.card.specs.SelfTest.{testLines, lentOctets, testedCard, isTold, answeredRight, selfTest}
-use Rattle.card.proofs.Laws.{boolByte-flag}
+use Rattle.card.specs.SelfTest.{testLines, lentOctets, testedWatch, isTold, answeredRight, selfTest}
+use Rattle.card.proofs.Same.{boolByte-flag}
 
 -- ---- lentOctets
 
@@ -42,36 +42,36 @@ pub ruleset lentOctets-laws = (lentOctets-short, lentOctets-whole)
 -- ---- answeredRight: the loop of `self_test`
 
 -- what is left to answer, with what was answered, is the whole
-abbrev pub Answered : List TestLine → ℕ → Bool → Card → Type 0
-Answered lines at right card =
-    (right && answeredRight (drop at lines) card) ≡ answeredRight lines (freshCard P.OptionOne)
+abbrev pub Answered : List TestLine → ℕ → Bool → Watch → Type 0
+Answered lines at right watch =
+    (right && answeredRight (drop at lines) watch) ≡ answeredRight lines (freshWatch P.OptionOne)
 
-answered-no-line : (card : Card) → answeredRight [] card ≡ true
+answered-no-line : (watch : Watch) → answeredRight [] watch ≡ true
 unfolding answeredRight
-answered-no-line card = refl
+answered-no-line watch = refl
 
-pub answered-none : (lines : List TestLine) (card : Card) → card ≡ freshCard P.OptionOne → Answered lines 0 true card
-answered-none lines card fresh = rw fresh
+pub answered-none : (lines : List TestLine) (watch : Watch) → watch ≡ freshWatch P.OptionOne → Answered lines 0 true watch
+answered-none lines watch fresh = rw fresh
 
-pub answered-more : (lines : List TestLine) (at : ℕ) (right same : Bool) (card after : Card) (zeroed : TestLine)
-    → Answered lines at right card → at < length lines
-    → after ≡ testedCard card (getD lines at zeroed)
+pub answered-more : (lines : List TestLine) (at : ℕ) (right same : Bool) (watch after : Watch) (zeroed : TestLine)
+    → Answered lines at right watch → at < length lines
+    → after ≡ testedWatch watch (getD lines at zeroed)
     → same ≡ isTold (after .answer) (getD lines at zeroed)
     → Answered lines (at + 1) (right && same) after
 unfolding answeredRight
-answered-more lines at right same card after zeroed before inside a s =
+answered-more lines at right same watch after zeroed before inside a s =
     rw (add-one at, and-assoc right same (answeredRight (drop (suc at) lines) after), s, a)
-    (ap (λ (left : List TestLine). right && answeredRight left card) (sym (drop-cons lines at zeroed inside)) ∙ before)
+    (ap (λ (left : List TestLine). right && answeredRight left watch) (sym (drop-cons lines at zeroed inside)) ∙ before)
 
-pub answered-all : (lines : List TestLine) (at : ℕ) (right : Bool) (card : Card)
-    → Answered lines at right card → length lines ≤ at → lines ≡ testLines
+pub answered-all : (lines : List TestLine) (at : ℕ) (right : Bool) (watch : Watch)
+    → Answered lines at right watch → length lines ≤ at → lines ≡ testLines
     → boolByte right ≡ selfTest
 unfolding selfTest
-answered-all lines at right card before past is =
+answered-all lines at right watch before past is =
     boolByte-flag right
     ∙ ap flag
     (sym (and-true right)
-    ∙ ap (λ (rest : Bool). right && rest) (sym (answered-no-line card))
-    ∙ ap (λ (left : List TestLine). right && answeredRight left card) (sym (drop-of-length-le lines past))
+    ∙ ap (λ (rest : Bool). right && rest) (sym (answered-no-line watch))
+    ∙ ap (λ (left : List TestLine). right && answeredRight left watch) (sym (drop-of-length-le lines past))
     ∙ before
-    ∙ ap (λ (whole : List TestLine). answeredRight whole (freshCard P.OptionOne)) is)
+    ∙ ap (λ (whole : List TestLine). answeredRight whole (freshWatch P.OptionOne)) is)

@@ -1,77 +1,90 @@
--- What the senders in C's hands answer and keep, by the senders' own definitions: document 02, L1. Cited by
+-- What one sender in C's hands answers and keeps, by the sender's own definitions: document 02, L1. Cited by
 -- `src/senders.rt`. Assumes nothing.
-use Prim.Native.Nat.{ℕ}
+use Prim.Native.Nat.{ℕ, _*_, _≤_}
+use mathlib.Core.Bool.{cond}
 use mathlib.Core.List.{List, [], _∷_}
 use mathlib.Core.Path.{_≡_}
-use Rattle.numbers.specs.Refusal.{accepted}
-use Rattle.sender.specs.declared.Asked.{Asked}
+use lib.Dec.{eqb}
+use lib.ListN.{getD}
+use Rattle.numbers.specs.Inputs.{lastInput}
+use Rattle.selector.specs.declared.Selector.{Selector}
+use Rattle.sender.specs.declared.AskedOne.{AskedOne}
 use Rattle.sender.specs.declared.Heartbeat.{Heartbeat}
 use Rattle.sender.specs.declared.Heartbeat.the-variants as H
-use Rattle.sender.specs.Heartbeat.{Question, Questions, questionOf, codeAsked, heartbeatBy, contentBy}
-use Rattle.sender.specs.Sender.{freshSenders, asked, contentOf}
+use Rattle.sender.specs.declared.Sender.{Sender}
+use Rattle.sender.specs.Heartbeat.{Question, Questions, codeOfPort, codeAsked, heartbeatBy, contentBy}
+use Rattle.sender.specs.Sender.{freshSender, askedOne, senderAt}
 use Rattle.sender.specs.Sequence.{sendersAfter}
-use Rattle.card.specs.declared.Card.{Card}
-use Rattle.card.specs.declared.senders.CardSenders.{CardSenders}
-use Rattle.card.specs.Flat.{selectorOf}
 
--- no frame
-abbrev pub noFrame : ℕ
-noFrame = 0
-
--- an information frame
-abbrev pub informationFrame : ℕ
-informationFrame = 1
-
--- an event frame
-abbrev pub eventFrame : ℕ
-eventFrame = 2
-
--- the number that each answer says: 0 where it is no refusal
-abbrev pub numberOf : Heartbeat → ℕ
-numberOf H.Information = accepted
-numberOf H.Event = accepted
-numberOf H.Nothing = accepted
-numberOf (H.Refused number) = number
-
--- the frame that each answer says
-abbrev pub frameOf : Heartbeat → ℕ
-frameOf H.Information = informationFrame
-frameOf H.Event = eventFrame
-frameOf H.Nothing = noFrame
-frameOf (H.Refused number) = noFrame
-
--- nothing sent, nothing asked
-abbrev pub freshCardSenders : CardSenders
-freshCardSenders = record { senders = freshSenders; number = accepted; frame = noFrame }
-
--- a question with a card's state
-abbrev pub cardQuestion : Card → ℕ → ℕ → List ℕ → List ℕ → Question
-cardQuestion card port time source buffer = questionOf port time (selectorOf card) source buffer
-
--- the senders with what was answered
-abbrev pub answeredCard : Asked → CardSenders
-answeredCard after =
+-- the sender that two lists hold: the times of its last ten frames and of the last question; the last code, and how
+-- many frames were sent
+abbrev pub senderIn : List ℕ → List ℕ → Sender
+senderIn times numbers =
     record {
-      senders = after .senders;
-      number = numberOf (after .heartbeat);
-      frame = frameOf (after .heartbeat);
+      times =
+          getD times 0 0 ∷ getD times 1 0 ∷ getD times 2 0 ∷ getD times 3 0 ∷ getD times 4 0 ∷ getD times 5 0 ∷
+          getD times 6 0 ∷
+          getD times 7 0 ∷
+          getD times 8 0 ∷
+          getD times 9 0 ∷
+          [];
+      asked = getD times 10 0;
+      code = getD numbers 0 0;
+      sent = getD numbers 1 0;
     }
 
--- what a question leaves
-pub record AskCard (before : CardSenders) (question : Question) (after : CardSenders) (buffer : List ℕ) : Type 0 where
-  pub answered : after ≡ answeredCard (asked (before .senders) question)
-  pub content : buffer ≡ contentOf (before .senders) question
+-- the numbers of a sender
+abbrev pub senderTimes : Sender → List ℕ
+senderTimes sender =
+    getD (sender .times) 0 0 ∷ getD (sender .times) 1 0 ∷ getD (sender .times) 2 0 ∷ getD (sender .times) 3 0 ∷
+    getD (sender .times) 4 0 ∷
+    getD (sender .times) 5 0 ∷
+    getD (sender .times) 6 0 ∷
+    getD (sender .times) 7 0 ∷
+    getD (sender .times) 8 0 ∷
+    getD (sender .times) 9 0 ∷
+    sender .asked ∷
+    []
 
--- what C holds after questions in a row on fresh senders, each passing on what the one before left, the latest first
-unfoldable pub cardSendersAfter : Questions → CardSenders
-cardSendersAfter [] = freshCardSenders
-cardSendersAfter (question ∷ earlier) = answeredCard (asked (cardSendersAfter earlier .senders) question)
+abbrev pub senderNumbers : Sender → List ℕ
+senderNumbers sender = sender .code ∷ sender .sent ∷ []
 
--- questions in a row are the senders' own, so that all that is stated of these holds of what C holds
-pub record CardSendersRight (earlier : Questions) (question : Question) : Type 0 where
-  pub senders : cardSendersAfter earlier .senders ≡ sendersAfter earlier
-  pub number : cardSendersAfter (question ∷ earlier) .number ≡ numberOf (heartbeatBy earlier question)
-  pub frame : cardSendersAfter (question ∷ earlier) .frame ≡ frameOf (heartbeatBy earlier question)
-  -- what `AskCard` leaves in the buffer: a frame with the port's code, or what it held
-  pub buffer : contentOf (cardSendersAfter earlier .senders) question
-      ≡ contentBy (heartbeatBy earlier question) (codeAsked question) (question .source) (question .buffer)
+-- what a question is answered with, as a number: 1 an information frame, 2 an event frame, 0 none; 256 times the number
+-- of a refusal
+unfoldable pub heartbeatTold : Heartbeat → ℕ
+heartbeatTold H.Information = 1
+heartbeatTold H.Event = 2
+heartbeatTold H.Nothing = 0
+heartbeatTold (H.Refused number) = 256 * number
+
+-- what a question to a port's sender comes to, with the code that goes out of the port
+abbrev pub lentAsked : Sender → Selector → ℕ → ℕ → List ℕ → List ℕ → AskedOne
+lentAsked sender state port time source buffer = askedOne sender port time (codeOfPort state port) source buffer
+
+-- what it leaves in the arrays and in the buffer
+pub record AskLent
+    (sender : Sender) (state : Selector) (port time : ℕ) (source buffer frames last : List ℕ) (answer : ℕ)
+    (after : List ℕ)
+    : Type 0 where
+  pub times : frames ≡ senderTimes (lentAsked sender state port time source buffer .sender)
+  pub numbers : last ≡ senderNumbers (lentAsked sender state port time source buffer .sender)
+  pub answered : answer ≡ heartbeatTold (lentAsked sender state port time source buffer .heartbeat)
+  pub content : after
+      ≡ contentBy (lentAsked sender state port time source buffer .heartbeat) (codeOfPort state port) source buffer
+
+-- the sender of a port after questions in a row, each with what the last question to its port left lent
+unfoldable pub portSender : ℕ → Questions → Sender
+portSender port [] = freshSender
+portSender port (question ∷ earlier) =
+    let sender = portSender port earlier in
+    cond (eqb (question .port) port)
+    (askedOne sender port (question .time) (codeAsked question) (question .source) (question .buffer) .sender)
+    sender
+
+-- questions in a row, to senders lent one by one, are the senders' own, so that all that is stated of these holds of what
+-- C holds; for a port above 15 any sender may be lent
+pub record SendersLentRight (earlier : Questions) (question : Question) (lent : Sender) : Type 0 where
+  pub sender : (port : ℕ) → port ≤ lastInput → portSender port earlier ≡ senderAt (sendersAfter earlier) port
+  pub heartbeat : (question .port ≤ lastInput → lent ≡ portSender (question .port) earlier)
+      → askedOne lent (question .port) (question .time) (codeAsked question) (question .source) (question .buffer) .heartbeat
+      ≡ heartbeatBy earlier question

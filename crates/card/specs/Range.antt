@@ -1,30 +1,41 @@
--- What C may index by: in every answer, whatever card came in. And what no answer depends on. Not cited by the code.
--- Assumes nothing.
+-- What C may index by: in every answer, whatever the arrays held. What no answer depends on. And what the test for a
+-- kept card is worth. Not cited by the code. Assumes nothing.
 use Prim.Native.Nat.{ℕ, _≤_}
 use mathlib.Core.List.{List}
 use mathlib.Core.Logic.{_⊎_, _≢_}
 use mathlib.Core.Path.{_≡_}
+use Rattle.numbers.specs.declared.Answer.{Answer}
 use Rattle.numbers.specs.Inputs.{lastInput}
 use Rattle.numbers.specs.Kind.{kindFrame}
 use Rattle.selector.specs.Clock.{noInput, locked, switchManual}
-use Rattle.card.specs.declared.Card.{Card}
-use Rattle.card.specs.Card.{stepCard}
+use Rattle.events.specs.Given.{Sequence}
+use Rattle.onestep.specs.Watched.{answerIn, watchAt}
+use Rattle.card.specs.Lent.{stepLent}
+use Rattle.card.specs.Sound.{isSound}
+use Rattle.card.specs.Calls.{lentAfter}
 
 -- "selected input or ff": 0 to 15, or 255
 abbrev pub IsInput : ℕ → Type 0
 IsInput number = (number ≤ lastInput) ⊎ (number ≡ noInput)
 
 -- the numbers by which C finds an input or a name
-pub record InRange (card : Card) : Type 0 where
-  pub selected : IsInput (card .answer .selected)
-  pub on : IsInput (card .answer .on)
-  pub state : card .answer .state ≤ locked
-  pub switch : card .answer .switch ≤ switchManual
+pub record InRange (told : Answer) : Type 0 where
+  pub selected : IsInput (told .selected)
+  pub on : IsInput (told .on)
+  pub state : told .state ≤ locked
+  pub switch : told .switch ≤ switchManual
 
--- after any call, on any card at all
-pub record AnyCard (card : Card) (kind time input argument : ℕ) (frame : List ℕ) : Type 0 where
-  pub inRange : InRange (stepCard card kind time input argument frame)
+-- after any step, on any numbers at all
+pub record AnyLent (times small words due told : List ℕ) (kind time input argument : ℕ) (frame : List ℕ) : Type 0 where
+  pub inRange : InRange (stepLent (watchAt times small words due told) kind time input argument frame .answer)
   -- a frame is looked at for a frame event alone: for any other, what is lent changes nothing
   pub unread : kind ≢ kindFrame
       → (other : List ℕ)
-      → stepCard card kind time input argument frame ≡ stepCard card kind time input argument other
+      → stepLent (watchAt times small words due told) kind time input argument frame
+      ≡ stepLent (watchAt times small words due told) kind time input argument other
+
+-- every card that events lead to passes the test, and one that passes answers in range
+pub record SoundRight : Type 0 where
+  pub reached : (sequence : Sequence) → isSound (lentAfter sequence) ≡ 1
+  pub inRange : (times small words due told : List ℕ) → isSound (watchAt times small words due told) ≡ 1
+      → InRange (answerIn told)

@@ -6,14 +6,15 @@ use mathlib.Core.List.{List, [], _∷_}
 use mathlib.Core.Path.{_≡_}
 use lib.Dec.{eqb, ltb}
 use lib.ListN.{take}
-use Rattle.numbers.specs.declared.Profile.the-variants as P
+use Rattle.numbers.specs.declared.Answer.{Answer}
+use Rattle.numbers.specs.declared.profile.Profile.the-variants as P
 use Rattle.numbers.specs.Kind.{flag}
 use Rattle.frame.specs.Write.{writtenLength, zeros, writeAnswer, contentAfter}
 use Rattle.selector.specs.Clock.{noInput}
-use Rattle.card.specs.declared.Card.{Card}
-use Rattle.card.specs.declared.CardAnswer.{CardAnswer}
+use Rattle.quickstep.specs.declared.Watch.{Watch}
+use Rattle.quickstep.specs.Watch.{freshWatch}
 use Rattle.card.specs.declared.self_test.TestLine.{TestLine}
-use Rattle.card.specs.Card.{freshCard, stepCard}
+use Rattle.card.specs.Lent.{stepLent}
 
 -- a line: kind, time, input, argument; a frame's code and how many octets are lent; the answer's number, selected
 -- input, clock state and clock quality
@@ -72,12 +73,12 @@ testFrame code =
     contentAfter (writeAnswer before testSource code) before testSource false code
 
 -- the card after a line
-unfoldable pub testedCard : Card → TestLine → Card
-testedCard card line =
-    stepCard card (line .0) (line .1) (line .2) (line .3) (take (lentOctets (line .5)) (testFrame (line .4)))
+unfoldable pub testedWatch : Watch → TestLine → Watch
+testedWatch watch line =
+    stepLent watch (line .0) (line .1) (line .2) (line .3) (take (lentOctets (line .5)) (testFrame (line .4)))
 
 -- a line was answered as it has to be; no switch stands
-unfoldable pub isTold : CardAnswer → TestLine → Bool
+unfoldable pub isTold : Answer → TestLine → Bool
 isTold told line =
     eqb (told .number) (line .6) &&
     eqb (told .selected) (line .7) &&
@@ -87,15 +88,15 @@ isTold told line =
     eqb (told .on) noInput
 
 -- lines one after the other are each answered as they have to be
-unfoldable pub answeredRight : List TestLine → Card → Bool
-answeredRight [] card = true
-answeredRight (line ∷ lines) card =
-    let after = testedCard card line in
+unfoldable pub answeredRight : List TestLine → Watch → Bool
+answeredRight [] watch = true
+answeredRight (line ∷ lines) watch =
+    let after = testedWatch watch line in
     isTold (after .answer) line && answeredRight lines after
 
 -- 1 where all are, on a fresh card of option I
 unfoldable pub selfTest : ℕ
-selfTest = flag (answeredRight testLines (freshCard P.OptionOne))
+selfTest = flag (answeredRight testLines (freshWatch P.OptionOne))
 
 -- by the definitions the test is passed
 pub record SelfTestRight : Type 0 where

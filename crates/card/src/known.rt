@@ -1,76 +1,82 @@
 // What is known of one input of a card: its raw and its passed quality, whether it is eligible,
 // when its timer and its frame end, and of its settings those that a choice looks at. Any card is
 // answered for, and any number of an input.
-use crate::Card;
-use crate::selector_of;
-use numbers::ACCEPTED;
-use numbers::INPUT_OUT_OF_RANGE;
+use inplace::SMALL;
+use inplace::TIMES;
+use inplace::WORDS;
+use inplace::input_at;
+use inplace::mode_at;
+use inplace::profile_at;
+use inplace::time_at;
+use numbers::InputNumber;
 use numbers::LAST_INPUT;
-use numbers::paper_number;
-use status::input_status;
+use numbers::profile::paper_number;
+use numbers::refusal::ACCEPTED;
+use numbers::refusal::INPUT_OUT_OF_RANGE;
+use status::Status;
+use status::status_of;
 ghost use mathlib.Core.Path.{_≡_};
-ghost use Rattle.card.specs.Status.{noStatus, cardStatus};
+ghost use Rattle.status.specs.Kept.{inputStatus};
+ghost use Rattle.inplace.specs.Lists.{selectorAt};
+ghost use Rattle.card.specs.Known.{endsKnown, inputKnown};
 
-// What is known of an input, as numbers: qualities by their numbers on paper, 1 for yes and 0 for
-// no. `timer` is when the hold-off of a failed run ends, or the wait of any other, needed or not;
-// `frame` when the last frame heard expires; both are 0 where nothing is still to end. `floor` is
-// the floor in force. For a number that is no input `number` is that of the refusal, and all else
-// 0. In this order C's layout has no gap.
-#[repr(C)]
-pub struct CardStatus {
-    pub timer: u64,
-    pub frame: u64,
-    pub number: u8,
-    pub raw: u8,
-    pub passed: u8,
-    pub eligible: u8,
-    pub signal: u8,
-    pub priority: u8,
-    pub locked: u8,
-    pub floor: u8,
-}
-
-// What is answered where there is no such input.
-fn no_status() -> CardStatus
-    ensures { λ answer. ⌜ answer ≡ noStatus ⌝ }
+// What is known of an input, of a fresh one where there is no such number.
+fn status_at(times: &[u64; TIMES], small: &[u8; SMALL], words: &[u16; WORDS], input: u8) -> Status
+    ensures { λ answer. ⌜ answer ≡ inputStatus
+        (selectorAt (now (times .entry)) (now (small .entry)) (now (words .entry))) input ⌝ }
 {
-    CardStatus {
-        timer: 0,
-        frame: 0,
-        number: INPUT_OUT_OF_RANGE,
-        raw: 0,
-        passed: 0,
-        eligible: 0,
-        signal: 0,
-        priority: 0,
-        locked: 0,
-        floor: 0,
-    }
+    let profile = profile_at(small, words);
+    let mode = mode_at(small);
+    let time = time_at(times);
+    let one = input_at(times, small, words, InputNumber(input));
+    status_of(profile, one, mode, time)
 }
 
-// What is known of an input of a card.
-pub fn card_status(card: Card, input: u8) -> CardStatus
-    ensures { λ answer. ⌜ answer ≡ cardStatus card input ⌝ }
+// When its timer and its frame end; 0 where nothing is still to end, and where there is no such
+// input.
+pub fn ends_at(
+    times: &[u64; TIMES],
+    small: &[u8; SMALL],
+    words: &[u16; WORDS],
+    input: u8,
+) -> [u64; 2]
+    ensures { λ answer. ⌜ answer ≡ endsKnown
+        (selectorAt (now (times .entry)) (now (small .entry)) (now (words .entry))) input ⌝ }
 {
     if LAST_INPUT < input {
-        return no_status();
+        return [0, 0];
     }
-    let state = selector_of(card);
-    let profile = state.profile;
-    let status = input_status(state, input);
-    let raw = status.raw;
-    let passed = status.passed;
+    let status = status_at(times, small, words, input);
+    [status.timer, status.frame]
+}
+
+// The number of the refusal or 0, raw and passed quality by their numbers on paper, whether it is
+// eligible and its signal good, priority, whether it is locked, and the floor in force.
+pub fn known_at(
+    times: &[u64; TIMES],
+    small: &[u8; SMALL],
+    words: &[u16; WORDS],
+    input: u8,
+) -> [u8; 8]
+    ensures { λ answer. ⌜ answer ≡ inputKnown
+        (selectorAt (now (times .entry)) (now (small .entry)) (now (words .entry))) input ⌝ }
+{
+    if LAST_INPUT < input {
+        return [INPUT_OUT_OF_RANGE, 0, 0, 0, 0, 0, 0, 0];
+    }
+    let profile = profile_at(small, words);
+    let status = status_at(times, small, words, input);
     let priority = status.priority;
-    CardStatus {
-        timer: status.timer,
-        frame: status.frame,
-        number: ACCEPTED,
-        raw: paper_number(profile, raw),
-        passed: paper_number(profile, passed),
-        eligible: status.eligible as u8,
-        signal: status.signal as u8,
-        priority: priority.0,
-        locked: status.locked as u8,
-        floor: status.floor,
-    }
+    let raw = paper_number(profile, status.raw);
+    let passed = paper_number(profile, status.passed);
+    [
+        ACCEPTED,
+        raw,
+        passed,
+        status.eligible as u8,
+        status.signal as u8,
+        priority.0,
+        status.locked as u8,
+        status.floor,
+    ]
 }

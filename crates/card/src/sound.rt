@@ -1,155 +1,135 @@
-// Whether a kept card can have come from a fresh one by events, as far as is looked: a tick at the
-// card's own time is accepted, and leaves every number of it but for the answer's number and the
-// count of due moments. So its time is below 2^48; each yes or no is 0 or 1, each kind of input 0
-// to 2 and what is spare 0; its option is 1 or 2, and option I has neither place nor marks; what it
-// names are inputs; nothing that was due by its time would change it; its choice is made; and its
-// answer is that of its state. How large a setting, a quality or a place may be is not looked at.
-use crate::Card;
-use crate::CardAnswer;
-use crate::CardInput;
-use crate::quick::plain_card;
-use frame::FrameRead;
-use numbers::ACCEPTED;
-use numbers::Event;
-use numbers::KIND_TICK;
+// Whether a kept card can have come from a fresh one by events, as far as is looked: its time is
+// below 2^48, a tick at that time leaves its runs, its switch, its selection and whether the clock
+// was ever locked, nothing was due by then and what is due next is not before the time that the
+// card has for that, and what was answered last is the answer of its state but for the number. How
+// large a setting or a quality may be is not looked at.
+use inplace::SMALL;
+use inplace::TIMES;
+use inplace::WORDS;
+use inplace::answer_at;
+use inplace::held_at;
+use inplace::input_at;
+use inplace::next_due;
+use inplace::selection_at;
+use inplace::serve;
+use inplace::switch_at;
+use inplace::time_at;
+use input::Input;
+use numbers::Answer;
+use numbers::INPUT_COUNT;
+use numbers::InputNumber;
+use numbers::TIME_LIMIT;
+use numbers::refusal::ACCEPTED;
+use onestep::watch::DUE;
+use onestep::watch::TOLD;
+use selector::selected_number;
+use selector::switch_input;
+use selector::switch_number;
+ghost use Prim.Native.Nat.{ℕ};
 ghost use mathlib.Core.Path.{_≡_};
+ghost use mathlib.Core.List.{List};
 ghost use mathlib.Core.Bool.{_&&_};
-ghost use Rattle.card.specs.Sound.{sameInput, sameInputs, sameAnswer, sameCard, cardSound};
+ghost use Rattle.inplace.specs.Lists.{selectorAt};
+ghost use Rattle.onestep.specs.Watched.{answerIn, watchAt};
+ghost use Rattle.card.specs.Sound.{sameRun, sameRuns, sameOnce, sameAnswer, isSound};
 
-// The same numbers throughout.
-fn same_input(one: CardInput, other: CardInput) -> bool
-    ensures { λ answer. ⌜ answer ≡ sameInput one other ⌝ }
+// Two inputs have the same run.
+fn same_run(one: Input, other: Input) -> bool
+    ensures { λ answer. ⌜ answer ≡ sameRun one other ⌝ }
 {
-    let framed = one.framed == other.framed;
-    let start = one.start == other.start;
-    let holdoff = one.holdoff == other.holdoff;
-    let wait = one.wait == other.wait;
-    let priority = one.priority == other.priority;
-    let fixed = one.fixed == other.fixed;
-    let kind = one.kind == other.kind;
-    let locked = one.locked == other.locked;
-    let sending = one.sending == other.sending;
-    let frame = one.frame == other.frame;
-    let line = one.line == other.line;
-    let count = one.count == other.count;
-    let signal = one.signal == other.signal;
-    let good = one.good == other.good;
-    let failed = one.failed == other.failed;
-    let up = one.up == other.up;
-    let floor = one.floor == other.floor;
-    let last = one.last == other.last;
-    let spare2 = one.spare2 == other.spare2;
-    let spare4 = one.spare4 == other.spare4;
-    framed
-        & start
-        & holdoff
-        & wait
-        & priority
-        & fixed
-        & kind
-        & locked
-        & sending
-        & frame
-        & line
-        & count
-        & signal
-        & good
-        & failed
-        & up
-        & floor
-        & last
-        & spare2
-        & spare4
+    let ours = one.run;
+    let theirs = other.run;
+    let start = ours.start == theirs.start;
+    let good = ours.good.0 == theirs.good.0;
+    let failed = ours.failed as u8 == theirs.failed as u8;
+    let up = ours.up as u8 == theirs.up as u8;
+    start & good & failed & up
 }
 
 // One pair more of inputs.
-fn also_same(same: bool, one: CardInput, other: CardInput) -> bool
-    ensures { λ answer. ⌜ answer ≡ (same && sameInput one other) ⌝ }
+fn also_same(same: bool, one: Input, other: Input) -> bool
+    ensures { λ answer. ⌜ answer ≡ (same && sameRun one other) ⌝ }
 {
-    let alike = same_input(one, other);
+    let alike = same_run(one, other);
     same & alike
 }
 
-// The sixteen inputs have the same numbers.
-fn same_inputs(ones: [CardInput; 16], others: [CardInput; 16]) -> bool
-    ensures { λ answer. ⌜ answer ≡ sameInputs ones others ⌝ }
+// The sixteen inputs have the same runs in two cards with the same words.
+fn same_runs(
+    times: &[u64; TIMES],
+    small: &[u8; SMALL],
+    words: &[u16; WORDS],
+    later: &[u64; TIMES],
+    after: &[u8; SMALL],
+) -> bool
+    ensures { λ answer. ⌜ answer ≡ sameRuns
+        (selectorAt (now (times .entry)) (now (small .entry)) (now (words .entry)) .inputs)
+        (selectorAt (now (later .entry)) (now (after .entry)) (now (words .entry)) .inputs) ⌝ }
 {
     let mut same = true;
-    let mut at: usize = 0;
-    while at < 16 {
-        let one = ones[at];
-        let other = others[at];
+    let mut at: u8 = 0;
+    while at < INPUT_COUNT {
+        let one = input_at(times, small, words, InputNumber(at));
+        let other = input_at(later, after, words, InputNumber(at));
         same = also_same(same, one, other);
         at += 1;
     }
     same
 }
 
-// Two answers are the same, but for the number.
-fn same_answer(one: CardAnswer, other: CardAnswer) -> bool
-    ensures { λ answer. ⌜ answer ≡ sameAnswer one other ⌝ }
+// Switch, selection and whether the clock was ever locked are the same in two cards.
+fn same_once(small: &[u8; SMALL], after: &[u8; SMALL]) -> bool
+    ensures { λ answer. ⌜ ((times later words : List ℕ) → answer ≡ sameOnce
+        (selectorAt times (now (small .entry)) words)
+        (selectorAt later (now (after .entry)) words)) ⌝ }
 {
-    let quality = one.quality == other.quality;
-    let selected = one.selected == other.selected;
-    let state = one.state == other.state;
-    let switch = one.switch == other.switch;
-    let on = one.on == other.on;
-    quality & selected & state & switch & on
+    let ours = switch_at(small);
+    let theirs = switch_at(after);
+    let selected = selection_at(small);
+    let other = selection_at(after);
+    let held = held_at(small) as u8 == held_at(after) as u8;
+    let kind = switch_number(ours) == switch_number(theirs);
+    let on = switch_input(ours) == switch_input(theirs);
+    let selection = selected_number(selected) == selected_number(other);
+    kind & on & selection & held
 }
 
-// Two cards have the same numbers, but for the answer's number and the count of due moments.
-fn same_card(one: Card, other: Card) -> bool
-    ensures { λ answer. ⌜ answer ≡ sameCard one other ⌝ }
+// What was answered last is an answer, but for the number.
+fn same_answer(told: &[u8; TOLD], answer: Answer) -> bool
+    ensures { λ same. ⌜ same ≡ sameAnswer (answerIn (now (told .entry))) answer ⌝ }
 {
-    let ones = one.inputs;
-    let others = other.inputs;
-    let inputs = same_inputs(ones, others);
-    let ours = one.answer;
-    let theirs = other.answer;
-    let told = same_answer(ours, theirs);
-    let time = one.time == other.time;
-    let due = one.due == other.due;
-    let mode = one.mode == other.mode;
-    let held = one.held == other.held;
-    let switch = one.switch == other.switch;
-    let on = one.on == other.on;
-    let selection = one.selection == other.selection;
-    let selected = one.selected == other.selected;
-    let option = one.option == other.option;
-    let place = one.place == other.place;
-    let marks = one.marks == other.marks;
-    let spare = one.spare == other.spare;
-    inputs
-        & told
-        & time
-        & due
-        & mode
-        & held
-        & switch
-        & on
-        & selection
-        & selected
-        & option
-        & place
-        & marks
-        & spare
+    let selected = told[1] == answer.selected;
+    let state = told[2] == answer.state;
+    let quality = told[3] == answer.quality;
+    let switch = told[4] == answer.switch;
+    let on = told[5] == answer.on;
+    selected & state & quality & switch & on
 }
 
 // 1 where the card can have come from a fresh one, as far as is looked; 0 where not.
-pub fn is_sound(card: Card) -> u32
-    ensures { λ answer. ⌜ answer ≡ cardSound card ⌝ }
+pub fn is_sound(
+    times: &[u64; TIMES],
+    small: &[u8; SMALL],
+    words: &[u16; WORDS],
+    due: &[u64; DUE],
+    told: &[u8; TOLD],
+) -> u32
+    ensures { λ answer. ⌜ answer ≡ isSound
+        (watchAt (now (times .entry)) (now (small .entry)) (now (words .entry)) (now (due .entry))
+        (now (told .entry))) ⌝ }
 {
-    let event = Event {
-        kind: KIND_TICK,
-        time: card.time,
-        input: 0,
-        argument: 0,
-    };
-    let read = FrameRead::Code(0);
-    let ticked = plain_card(card, event, read);
-    let same = same_card(ticked, card);
-    let told = ticked.answer;
-    let accepted = told.number == ACCEPTED;
-    let sound = accepted & same;
+    let time = time_at(times);
+    let next = next_due(times, small, words);
+    let answer = answer_at(times, small, words, ACCEPTED);
+    let mut later = *times;
+    let mut after = *small;
+    serve(&mut later, &mut after, words, time);
+    let runs = same_runs(times, small, words, &later, &after);
+    let once = same_once(small, &after);
+    let told_right = same_answer(told, answer);
+    let below = time < TIME_LIMIT;
+    let ahead = time < due[0];
+    let within = due[0] <= next;
+    let sound = below & runs & once & ahead & within & told_right;
     sound as u32
 }

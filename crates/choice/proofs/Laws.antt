@@ -10,7 +10,7 @@ use lib.ListN.{length, getD, List·getD-eq-default}
 use borrow.Author.Tests.{lt-ltb, le-ltb, le-leb, lt-leb, eq-eqb, ne-eqb}
 use Rattle.numbers.specs.declared.InputNumber.{InputNumber}
 use Rattle.numbers.specs.declared.Priority.{Priority}
-use Rattle.numbers.specs.declared.Quality.{Quality}
+use Rattle.numbers.specs.declared.quality.Quality.{Quality}
 use Rattle.numbers.specs.Inputs.{inputCount}
 use Rattle.numbers.specs.Quality.{notTold, prov, isFailed}
 use Rattle.numbers.specs.Truth.{alike}

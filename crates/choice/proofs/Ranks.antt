@@ -12,7 +12,7 @@ use lib.ListN.{getD}
 use borrow.Author.Tests.{eqb-true, ltb-true, ltb-false, leb-true, eqb-false, lt-ltb, le-ltb, le-leb, ne-eqb, not-true}
 use Rattle.numbers.proofs.Truth.{byBool, both-first, both-second, contra}
 use Rattle.numbers.specs.declared.Priority.{Priority}
-use Rattle.numbers.specs.declared.Quality.{Quality}
+use Rattle.numbers.specs.declared.quality.Quality.{Quality}
 use Rattle.numbers.specs.Inputs.{inputCount}
 use Rattle.numbers.specs.Quality.{failed}
 use Rattle.numbers.specs.Truth.{alike}

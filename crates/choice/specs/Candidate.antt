@@ -9,7 +9,7 @@ use lib.ListN.{getD}
 use Rattle.numbers.specs.declared.Priority.{Priority}
 use Rattle.numbers.specs.Inputs.{inputCount}
 use Rattle.numbers.specs.Truth.{alike}
-use Rattle.numbers.specs.declared.Quality.{Quality}
+use Rattle.numbers.specs.declared.quality.Quality.{Quality}
 use Rattle.numbers.specs.Quality.{notTold, failed, isFailed}
 use Rattle.choice.specs.declared.Candidate.{Candidate}
 use Rattle.choice.specs.declared.Seen.{Seen}

@@ -4,11 +4,11 @@
 // and no public function has a `requires`.
 use numbers::INPUT_COUNT;
 use numbers::InputNumber;
-use numbers::NOT_TOLD;
-use numbers::PROV;
 use numbers::Priority;
-use numbers::Quality;
-use numbers::is_failed;
+use numbers::quality::NOT_TOLD;
+use numbers::quality::PROV;
+use numbers::quality::Quality;
+use numbers::quality::is_failed;
 ghost use mathlib.Core.Path.{_≡_};
 ghost use lib.ListN.{getD};
 ghost use Rattle.numbers.specs.Truth.{alike};

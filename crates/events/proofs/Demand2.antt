@@ -7,8 +7,8 @@ use lib.Dec.{eqb}
 use lib.ListN.{getD}
 use Rattle.numbers.specs.declared.InputNumber.{InputNumber}
 use Rattle.numbers.specs.Inputs.{inputCount}
-use Rattle.numbers.specs.declared.Profile.{Profile}
-use Rattle.numbers.specs.declared.Quality.{Quality}
+use Rattle.numbers.specs.declared.profile.Profile.{Profile}
+use Rattle.numbers.specs.declared.quality.Quality.{Quality}
 use Rattle.numbers.specs.From.{profileOf}
 use Rattle.numbers.specs.Profile.{limitsOf, marksOf, isMarked, toldBy}
 use Rattle.numbers.specs.Codes.{codeOfQuality, wordOfQuality}

@@ -8,9 +8,9 @@ use native.Mathlib.Omega.{arith}
 use lib.Dec.{eqb}
 use lib.ListN.{getD}
 use borrow.Author.Tests.{eqb-true, eqb-false}
-use Rattle.numbers.specs.declared.Quality.{Quality}
-use Rattle.numbers.specs.declared.Profile.{Profile}
-use Rattle.numbers.specs.declared.Profile.the-variants as P
+use Rattle.numbers.specs.declared.quality.Quality.{Quality}
+use Rattle.numbers.specs.declared.profile.Profile.{Profile}
+use Rattle.numbers.specs.declared.profile.Profile.the-variants as P
 use Rattle.numbers.specs.From.{profileOf}
 use Rattle.numbers.specs.Inputs.{inputCount}
 use Rattle.numbers.specs.Profile.{limitsOf, placeOf, lastPlace, marksOf, halved, isMarked, toldBy}

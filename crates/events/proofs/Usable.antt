@@ -9,10 +9,10 @@ use mathlib.Core.Path.{_≡_, refl, sym, _∙_, ap, subst}
 use native.Mathlib.Omega.{arith}
 use lib.Dec.{eqb}
 use borrow.Author.Tests.{eqb-true, ne-eqb, not-false}
-use Rattle.numbers.specs.declared.Quality.{Quality}
-use Rattle.numbers.specs.declared.Profile.{Profile}
-use Rattle.numbers.specs.declared.Profile.the-variants as P
-use Rattle.numbers.specs.declared.Row.{Row}
+use Rattle.numbers.specs.declared.quality.Quality.{Quality}
+use Rattle.numbers.specs.declared.profile.Profile.{Profile}
+use Rattle.numbers.specs.declared.profile.Profile.the-variants as P
+use Rattle.numbers.specs.declared.kind.Row.{Row}
 use Rattle.numbers.specs.From.{started, _following_, profileOf}
 use Rattle.numbers.specs.Kind.{rowOf, kindFrame, kindTick, kindFixedQuality, kindFloor}
 use Rattle.numbers.specs.Profile.{limitsOf, floorIn, placeOf, lastPlace}

@@ -4,7 +4,7 @@
 use Prim.Native.Nat.{ℕ, _+_}
 use mathlib.Core.List.{List, [], _∷_, _++_, map}
 use mathlib.Core.Path.{_≡_}
-use Rattle.numbers.specs.declared.Profile.the-variants as P
+use Rattle.numbers.specs.declared.profile.Profile.the-variants as P
 use Rattle.numbers.specs.From.{started, _following_}
 use Rattle.numbers.specs.Kind.{kindSignal, kindFrame, kindQualityMode, kindTick, kindInputKind}
 use Rattle.frame.specs.Cases.{frameOfSize}

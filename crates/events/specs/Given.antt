@@ -5,7 +5,7 @@ use mathlib.Core.List.{List, []}
 use lib.Dec.{eqb}
 use Rattle.numbers.specs.declared.Event.{Event}
 use Rattle.numbers.specs.Recorded.{Recorded, saidEvent}
-use Rattle.numbers.specs.declared.Profile.{Profile}
+use Rattle.numbers.specs.declared.profile.Profile.{Profile}
 use Rattle.numbers.specs.From.{From}
 use Rattle.numbers.specs.Kind.{kindFrame, kindTick}
 use Rattle.frame.specs.declared.FrameRead.{FrameRead}

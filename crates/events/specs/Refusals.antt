@@ -6,8 +6,8 @@ use mathlib.Core.List.{List, [], _∷_, _++_}
 use lib.Dec.{eqb, leb, ltb}
 use lib.ListN.{getD}
 use Rattle.numbers.specs.declared.Event.{Event}
-use Rattle.numbers.specs.declared.InputKind.{InputKind}
-use Rattle.numbers.specs.declared.Limits.{Limits}
+use Rattle.numbers.specs.declared.kind.InputKind.{InputKind}
+use Rattle.numbers.specs.declared.profile.Limits.{Limits}
 use Rattle.numbers.specs.Inputs.{timeLimit}
 use Rattle.numbers.specs.Kind.{rowOf, isInputOut, isArgumentOut, takesCodes, takesFrames, takesWords, kindFrame, kindLineCode, kindWord, kindForced, kindManual}
 use Rattle.numbers.specs.Refusal.{accepted, kindUnknown, timeTooLarge, timeBeforeState, inputOutOfRange, argumentOutOfRange, wrongInputKind, forcedBarred, manualForcedStands, manualNotEligible, manualLowerQuality}

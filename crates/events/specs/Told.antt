@@ -6,7 +6,7 @@ use mathlib.Core.Bool.{Bool}
 use mathlib.Core.List.{List, map}
 use lib.Dec.{eqb}
 use Rattle.numbers.specs.declared.Answer.{Answer}
-use Rattle.numbers.specs.declared.Quality.{Quality}
+use Rattle.numbers.specs.declared.quality.Quality.{Quality}
 use Rattle.numbers.specs.From.{profileOf}
 use Rattle.numbers.specs.Profile.{limitsOf, marksOf, isMarked, toldBy}
 use Rattle.numbers.specs.Codes.{codeOfQuality, wordOfQuality}

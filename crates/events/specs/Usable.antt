@@ -5,7 +5,7 @@ use mathlib.Core.Bool.{true}
 use mathlib.Core.Logic.{_↔_, _≢_}
 use mathlib.Core.List.{List, map}
 use mathlib.Core.Path.{_≡_}
-use Rattle.numbers.specs.declared.Quality.{Quality}
+use Rattle.numbers.specs.declared.quality.Quality.{Quality}
 use Rattle.numbers.specs.From.{profileOf}
 use Rattle.numbers.specs.Profile.{limitsOf, placeOf, lastPlace}
 use Rattle.numbers.specs.Quality.{prov, dus, invalid, failed}

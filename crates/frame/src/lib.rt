@@ -2,16 +2,16 @@
 //
 // Octets are counted from 1, as the document counts them. No public function has a `requires`: a
 // frame, a source address and a buffer may have any length and any content.
-use numbers::ACCEPTED;
-use numbers::ARGUMENT_OUT_OF_RANGE;
-use numbers::BUFFER_TOO_SHORT;
-use numbers::FRAME_DESTINATION;
-use numbers::FRAME_LENGTH;
-use numbers::FRAME_ORGANISATION;
-use numbers::FRAME_PROTOCOL;
-use numbers::FRAME_TLV;
-use numbers::FRAME_VERSION;
-use numbers::SOURCE_NOT_SIX;
+use numbers::refusal::ACCEPTED;
+use numbers::refusal::ARGUMENT_OUT_OF_RANGE;
+use numbers::refusal::BUFFER_TOO_SHORT;
+use numbers::refusal::FRAME_DESTINATION;
+use numbers::refusal::FRAME_LENGTH;
+use numbers::refusal::FRAME_ORGANISATION;
+use numbers::refusal::FRAME_PROTOCOL;
+use numbers::refusal::FRAME_TLV;
+use numbers::refusal::FRAME_VERSION;
+use numbers::refusal::SOURCE_NOT_SIX;
 ghost use mathlib.Core.Bool.{_&&_};
 ghost use mathlib.Core.List.{foldr};
 ghost use mathlib.Core.Path.{_≡_};

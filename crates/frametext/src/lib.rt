@@ -4,9 +4,9 @@
 // No public function has a `requires`: a line may have any length and any content.
 use frame::FrameMessage;
 use frame::FrameRead;
-use numbers::ACCEPTED;
-use numbers::FRAME_LENGTH;
-use numbers::LINE_MALFORMED;
+use numbers::refusal::ACCEPTED;
+use numbers::refusal::FRAME_LENGTH;
+use numbers::refusal::LINE_MALFORMED;
 use reader::LINE_FEED;
 ghost use mathlib.Core.Bool.{true};
 ghost use mathlib.Core.List.{[], _∷_, _++_};

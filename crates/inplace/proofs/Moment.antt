@@ -5,7 +5,7 @@ use mathlib.Core.List.{List, map}
 use mathlib.Core.Path.{_≡_, refl, sym, ap, _∙_}
 use lib.ListN.{set, replicate}
 use Rattle.input.specs.declared.Input.{Input}
-use Rattle.numbers.specs.declared.Profile.{Profile}
+use Rattle.numbers.specs.declared.profile.Profile.{Profile}
 use Rattle.input.specs.Record.{freshInput, inputBroughtTo}
 use Rattle.choice.specs.declared.Candidate.{Candidate}
 use Rattle.choice.specs.declared.Selection.{Selection}

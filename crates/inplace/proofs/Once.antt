@@ -11,8 +11,8 @@ use lib.Seq.{getD-set-same, getD-set-other}
 use borrow.Author.Tests.{eqb-true, eqb-false, ltb-true, eq-eqb, ne-eqb}
 use Rattle.numbers.proofs.Truth.{byBool, both-first, both-second}
 use Rattle.numbers.specs.declared.InputNumber.{InputNumber}
-use Rattle.numbers.specs.declared.Profile.{Profile}
-use Rattle.numbers.specs.declared.Profile.the-variants as P
+use Rattle.numbers.specs.declared.profile.Profile.{Profile}
+use Rattle.numbers.specs.declared.profile.Profile.the-variants as P
 use Rattle.numbers.specs.Profile.{profileIn, optionOf, placeOf, marksOf}
 use Rattle.choice.specs.declared.Selection.{Selection}
 use Rattle.choice.specs.declared.Selection.the-variants as S

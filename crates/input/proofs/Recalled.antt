@@ -6,11 +6,11 @@ use mathlib.Core.Path.{_≡_, refl, _∙_, ap, fun-ext}
 use native.Mathlib.Omega.{arith}
 use lib.Dec.{leb, ltb, eqb}
 use borrow.Author.Tests.{ltb-true, ltb-false, leb-true, leb-false, lt-ltb, le-ltb}
-use Rattle.numbers.specs.declared.Profile.{Profile}
+use Rattle.numbers.specs.declared.profile.Profile.{Profile}
 use Rattle.numbers.specs.Recorded.{Recorded}
 use Rattle.numbers.specs.From.{started, _following_}
 use Rattle.numbers.specs.declared.Priority.{Priority}
-use Rattle.numbers.specs.declared.Quality.{Quality}
+use Rattle.numbers.specs.declared.quality.Quality.{Quality}
 use Rattle.numbers.specs.Quality.{quality, notTold, failed}
 use Rattle.numbers.specs.Inputs.{freshWait, frameLife, reportsNeeded}
 use Rattle.numbers.specs.Kind.{kindSignal, kindPriority, kindLockout, kindHoldoff, kindWait, kindFixedQuality, kindSending, kindInputKind, kindFloor, inputKindOf, takesFrames, isCounted, isFrame}

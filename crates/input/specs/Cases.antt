@@ -5,8 +5,8 @@ use mathlib.Core.List.{List, [], _∷_, map}
 use mathlib.Core.Path.{_≡_}
 use Rattle.numbers.specs.Recorded.{Recorded}
 use Rattle.numbers.specs.From.{started, _following_}
-use Rattle.numbers.specs.declared.Profile.the-variants as P
-use Rattle.numbers.specs.declared.Quality.{Quality}
+use Rattle.numbers.specs.declared.profile.Profile.the-variants as P
+use Rattle.numbers.specs.declared.quality.Quality.{Quality}
 use Rattle.numbers.specs.Quality.{prc, failed}
 use Rattle.numbers.specs.Codes.{saidIn}
 use Rattle.numbers.specs.Kind.{kindSignal, kindLineCode, kindPriority, kindWait, kindTick}

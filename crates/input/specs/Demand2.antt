@@ -2,7 +2,7 @@
 -- Assumes nothing.
 use Prim.Native.Nat.{ℕ}
 use mathlib.Core.Path.{_≡_}
-use Rattle.numbers.specs.declared.Quality.{Quality}
+use Rattle.numbers.specs.declared.quality.Quality.{Quality}
 use Rattle.numbers.specs.From.{_following_}
 use Rattle.input.specs.Recorded.{History, tickEvent, modeOn, timeOf, PassedAt, passedAt}
 use Rattle.input.specs.Record.{inputBroughtTo, passedOf, recordAfter}

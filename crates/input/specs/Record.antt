@@ -5,8 +5,8 @@ use mathlib.Core.Bool.{Bool, true, false, not, _&&_, _||_, cond}
 use lib.Dec.{ltb, eqb}
 use Rattle.numbers.specs.Recorded.{Recorded}
 use Rattle.numbers.specs.From.{started, _following_}
-use Rattle.numbers.specs.declared.InputKind.the-variants as N
-use Rattle.numbers.specs.declared.Quality.{Quality}
+use Rattle.numbers.specs.declared.kind.InputKind.the-variants as N
+use Rattle.numbers.specs.declared.quality.Quality.{Quality}
 use Rattle.numbers.specs.Quality.{quality, notTold, failed}
 use Rattle.numbers.specs.Inputs.{minute, freshHoldoff, freshWait, reportsNeeded}
 use Rattle.numbers.specs.Kind.{kindSignal, kindPriority, kindLockout, kindHoldoff, kindWait, kindFixedQuality, kindClearWait, kindSending, kindInputKind, kindFloor, inputKindOf, takesFrames, isCounted, isFrame}

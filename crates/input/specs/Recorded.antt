@@ -7,8 +7,8 @@ use lib.Dec.{ltb, eqb}
 use Rattle.numbers.specs.Recorded.{Recorded}
 use Rattle.numbers.specs.From.{From, started, _following_, profileOf}
 use Rattle.numbers.specs.Profile.{limitsOf, floorIn}
-use Rattle.numbers.specs.declared.InputKind.{InputKind}
-use Rattle.numbers.specs.declared.Quality.{Quality}
+use Rattle.numbers.specs.declared.kind.InputKind.{InputKind}
+use Rattle.numbers.specs.declared.quality.Quality.{Quality}
 use Rattle.numbers.specs.Quality.{quality, notTold, failed}
 use Rattle.numbers.specs.Inputs.{minute, freshHoldoff, freshWait, frameLife}
 use Rattle.numbers.specs.Kind.{kindSignal, kindPriority, kindLockout, kindHoldoff, kindWait, kindFixedQuality, kindClearWait, kindQualityMode, kindSending, kindTick, kindInputKind, kindFloor, inputKindOf, takesFrames, isCounted, isFrame}

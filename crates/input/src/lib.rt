@@ -4,12 +4,12 @@
 // An event's method is told the time and the quality mode in force after the event, takes the
 // event's own moment, and hands the record back; `brought_to` brings it to a time at which no event
 // has come yet. Every time and every setting is safe, and no public function has a `requires`.
-use numbers::FAILED;
-use numbers::InputKind;
-use numbers::NOT_TOLD;
 use numbers::Priority;
-use numbers::Quality;
-use numbers::takes_frames;
+use numbers::kind::InputKind;
+use numbers::kind::takes_frames;
+use numbers::quality::FAILED;
+use numbers::quality::NOT_TOLD;
+use numbers::quality::Quality;
 use run::Forecast;
 use run::Run;
 ghost use mathlib.Core.Path.{_≡_};

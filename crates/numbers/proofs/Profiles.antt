@@ -4,15 +4,15 @@ use Prim.Native.Nat.{ℕ, _≤_, _<_}
 use mathlib.Core.Bool.{Bool, true, false}
 use mathlib.Core.Path.{_≡_}
 use borrow.Author.Tests.{eq-eqb, ne-eqb, lt-ltb, le-ltb}
-use Rattle.numbers.specs.declared.Quality.{Quality}
-use Rattle.numbers.specs.declared.Limits.{Limits}
-use Rattle.numbers.specs.declared.Profile.{Profile}
-use Rattle.numbers.specs.declared.Profile.the-variants as P
+use Rattle.numbers.specs.declared.quality.Quality.{Quality}
+use Rattle.numbers.specs.declared.profile.Limits.{Limits}
+use Rattle.numbers.specs.declared.profile.Profile.{Profile}
+use Rattle.numbers.specs.declared.profile.Profile.the-variants as P
 use Rattle.numbers.specs.Refusal.{accepted, argumentOutOfRange}
 use Rattle.numbers.specs.Quality.{tnc, st3e, st3, invalid, failed}
 use Rattle.numbers.specs.Profile.{optionOne, optionTwo, profileIn, optionOf, limitsOf, placeOf, lastPlace, startNumber, marksOf, floorIn, toldBy, numberInOne, paperNumber}
-use Rattle.numbers.specs.declared.InputKind.{InputKind}
-use Rattle.numbers.specs.declared.InputKind.the-variants as N
+use Rattle.numbers.specs.declared.kind.InputKind.{InputKind}
+use Rattle.numbers.specs.declared.kind.InputKind.the-variants as N
 use Rattle.numbers.specs.Kind.{inputKindOf, kindArgument}
 use Rattle.numbers.specs.Codes.{codesOne, codesTwo, codeDnu, saidBy, signOf, qualityOfCode, codeOfQuality}
 

@@ -3,8 +3,8 @@ use Prim.Native.Nat.{ℕ}
 use mathlib.Core.Bool.{true}
 use mathlib.Core.List.{List, [], _∷_, map}
 use mathlib.Core.Path.{_≡_}
-use Rattle.numbers.specs.declared.Quality.{Quality}
-use Rattle.numbers.specs.declared.Profile.the-variants as P
+use Rattle.numbers.specs.declared.quality.Quality.{Quality}
+use Rattle.numbers.specs.declared.profile.Profile.the-variants as P
 use Rattle.numbers.specs.Quality.{prc, ssuA, ssuB, sec, dnu, prs, stu, st2, tnc, st3e, st3, sic, st4, prov, dus, invalid}
 use Rattle.numbers.specs.Profile.{toldBy, paperNumber}
 use Rattle.numbers.specs.Codes.{qualityOfCode, codeOfQuality, qualityOfWord, wordOfQuality}

@@ -1,6 +1,6 @@
 -- What has come since a fresh start, one thing after the other. Document 02, L10: "A profile chosen once, at the fresh
 -- start". Assumes nothing.
-use Rattle.numbers.specs.declared.Profile.{Profile}
+use Rattle.numbers.specs.declared.profile.Profile.{Profile}
 
 infixr 20 _following_
 -- a fresh start of a profile, and what came after it, the latest first

@@ -3,10 +3,10 @@
 use Prim.Native.Nat.{ℕ, zero, suc, _/_, _%_}
 use mathlib.Core.Bool.{Bool, true, false, _&&_, _||_, cond}
 use lib.Dec.{eqb, ltb}
-use Rattle.numbers.specs.declared.Quality.{Quality}
-use Rattle.numbers.specs.declared.Limits.{Limits}
-use Rattle.numbers.specs.declared.Profile.{Profile}
-use Rattle.numbers.specs.declared.Profile.the-variants as P
+use Rattle.numbers.specs.declared.quality.Quality.{Quality}
+use Rattle.numbers.specs.declared.profile.Limits.{Limits}
+use Rattle.numbers.specs.declared.profile.Profile.{Profile}
+use Rattle.numbers.specs.declared.profile.Profile.the-variants as P
 use Rattle.numbers.specs.Refusal.{accepted, argumentOutOfRange}
 use Rattle.numbers.specs.Quality.{sec, tnc, st3e, st3, invalid, failed}
 

@@ -1,8 +1,8 @@
 -- An event as it is recorded. Cited by no code. Assumes nothing.
 use Prim.Native.Nat.{ℕ}
 use Rattle.numbers.specs.declared.Event.{Event}
-use Rattle.numbers.specs.declared.Profile.{Profile}
-use Rattle.numbers.specs.declared.Quality.{Quality}
+use Rattle.numbers.specs.declared.profile.Profile.{Profile}
+use Rattle.numbers.specs.declared.quality.Quality.{Quality}
 use Rattle.numbers.specs.Codes.{saidIn}
 
 -- an event as it is recorded: a frame's argument is the code that it carried, and a report has the quality that it

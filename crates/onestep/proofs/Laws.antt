@@ -7,8 +7,8 @@ use lib.Dec.{eqb}
 use lib.ListN.{getD, set}
 use borrow.Author.Tests.{ne-eqb, eq-eqb, eqb-true, eqb-false}
 use Rattle.numbers.specs.declared.Event.{Event}
-use Rattle.numbers.specs.declared.InputKind.{InputKind}
-use Rattle.numbers.specs.declared.Profile.{Profile}
+use Rattle.numbers.specs.declared.kind.InputKind.{InputKind}
+use Rattle.numbers.specs.declared.profile.Profile.{Profile}
 use Rattle.numbers.specs.Inputs.{inputCount}
 use Rattle.numbers.specs.Kind.{kindForced, kindManual, kindQualityMode}
 use Rattle.numbers.specs.Profile.{limitsOf}

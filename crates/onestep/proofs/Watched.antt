@@ -11,7 +11,7 @@ use lib.Seq.{getD-set-same, set-getD}
 use borrow.Author.Tests.{eqb-true}
 use Rattle.numbers.specs.declared.Answer.{Answer}
 use Rattle.numbers.specs.declared.Event.{Event}
-use Rattle.numbers.specs.declared.Profile.{Profile}
+use Rattle.numbers.specs.declared.profile.Profile.{Profile}
 use Rattle.numbers.specs.Inputs.{inputCount}
 use Rattle.numbers.specs.Kind.{kindFrame}
 use Rattle.numbers.specs.Profile.{limitsOf}

@@ -7,13 +7,13 @@ use native.Mathlib.Omega.{arith}
 use lib.Dec.{leb, eqb}
 use borrow.Author.Tests.{lt-leb, eq-eqb, eqb-true, not-true}
 use Rattle.numbers.specs.declared.Event.{Event}
-use Rattle.numbers.specs.declared.Quality.{Quality}
+use Rattle.numbers.specs.declared.quality.Quality.{Quality}
 use Rattle.numbers.specs.Inputs.{frameLife, reportsNeeded}
 use Rattle.numbers.specs.Kind.{kindTick, kindFrame, kindLineCode}
 use Rattle.numbers.specs.Recorded.{Recorded}
 use Rattle.numbers.specs.Quality.{failed, isFailed}
 use Rattle.numbers.specs.Codes.{qualityOfCode, saidIn}
-use Rattle.numbers.specs.declared.Profile.{Profile}
+use Rattle.numbers.specs.declared.profile.Profile.{Profile}
 use Rattle.frame.specs.declared.FrameRead.{FrameRead}
 use Rattle.frame.specs.declared.FrameRead.the-variants.{Code, Refused}
 use Rattle.frame.specs.Read.{codeOfRead}

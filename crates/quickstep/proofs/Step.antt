@@ -10,7 +10,7 @@ use lib.ListN.{getD, set, List·getD-map}
 use lib.Seq.{map-set-same}
 use borrow.Author.Tests.{eqb-false}
 use Rattle.numbers.specs.declared.Event.{Event}
-use Rattle.numbers.specs.declared.Profile.{Profile}
+use Rattle.numbers.specs.declared.profile.Profile.{Profile}
 use Rattle.numbers.specs.Kind.{kindForced, kindManual, kindClearSwitch, kindQualityMode}
 use Rattle.numbers.specs.Profile.{limitsOf, placeOf, floorIn}
 use Rattle.numbers.specs.Refusal.{accepted}

@@ -5,7 +5,7 @@ use Prim.Native.Nat.{ℕ}
 use mathlib.Core.Bool.{Bool, true, false, not, _&&_, cond}
 use lib.Dec.{eqb, leb, ltb}
 use Rattle.numbers.specs.declared.Event.{Event}
-use Rattle.numbers.specs.declared.Profile.{Profile}
+use Rattle.numbers.specs.declared.profile.Profile.{Profile}
 use Rattle.numbers.specs.Inputs.{lastInput, frameLife, reportsNeeded}
 use Rattle.numbers.specs.Codes.{qualityOfCode}
 use Rattle.numbers.specs.Kind.{kindFrame, kindLineCode, kindTick, takesCodes, takesFrames}

@@ -7,7 +7,7 @@ use lib.Dec.{leb}
 use mir.Val.{Fits}
 use mir.Syntax.{w64}
 use borrow.Author.Tests.{leb-true, leb-false, le-leb, lt-leb, lt-ltb, le-ltb}
-use Rattle.numbers.specs.declared.Quality.{Quality}
+use Rattle.numbers.specs.declared.quality.Quality.{Quality}
 use Rattle.numbers.specs.Quality.{failed, isFailed}
 use Rattle.numbers.specs.Inputs.{frameLife}
 use Rattle.numbers.proofs.Truth.{byBool}

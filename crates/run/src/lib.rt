@@ -3,10 +3,10 @@
 // Nothing here keeps time or knows where raw quality comes from: each function is told the time,
 // and a forecast says how raw quality goes on if no event comes. No sum can wrap, for any time and
 // any setting, and no public function has a `requires`.
-use numbers::FAILED;
 use numbers::FRAME_LIFE;
-use numbers::Quality;
-use numbers::is_failed;
+use numbers::quality::FAILED;
+use numbers::quality::Quality;
+use numbers::quality::is_failed;
 ghost use mathlib.Core.Path.{_≡_};
 ghost use Prim.Native.Nat.{_+_};
 ghost use lib.Dec.{leb};

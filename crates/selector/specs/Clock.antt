@@ -3,7 +3,7 @@
 use Prim.Native.Nat.{ℕ}
 use mathlib.Core.Bool.{Bool, not, _||_, cond}
 use mathlib.Core.List.{List, [], _∷_}
-use Rattle.numbers.specs.declared.Quality.{Quality}
+use Rattle.numbers.specs.declared.quality.Quality.{Quality}
 use Rattle.numbers.specs.Quality.{notTold}
 use Rattle.numbers.specs.Codes.{codeDnu, wordStu, wordDus}
 use Rattle.choice.specs.declared.Candidate.{Candidate}

@@ -5,7 +5,7 @@ use mathlib.Core.Bool.{Bool, true, false}
 use mathlib.Core.List.{List, map}
 use lib.ListN.{replicate}
 use Rattle.numbers.specs.Inputs.{inputCount}
-use Rattle.numbers.specs.declared.Profile.{Profile}
+use Rattle.numbers.specs.declared.profile.Profile.{Profile}
 use Rattle.numbers.specs.Profile.{limitsOf, placeOf, floorIn}
 use Rattle.input.specs.declared.Input.{Input}
 use Rattle.input.specs.Record.{freshInput, inputBroughtTo, passedOf}

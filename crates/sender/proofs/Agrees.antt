@@ -97,12 +97,12 @@ asked-length senders question =
     (λ refused.
     ap (λ (after : Asked). length (after .senders .ports)) (asked-refused senders question (eqb-false _ _ refused)))
 
-senders-sixteen : (questions : Questions) → length (sendersAfter questions .ports) ≡ 16
+pub senders-sixteen : (questions : Questions) → length (sendersAfter questions .ports) ≡ 16
 unfolding sendersAfter
 senders-sixteen [] = length-replicate 16 freshSender
 senders-sixteen (question ∷ earlier) = asked-length (sendersAfter earlier) question ∙ senders-sixteen earlier
 
-fresh-at : (port : ℕ) → senderAt freshSenders port ≡ freshSender
+pub fresh-at : (port : ℕ) → senderAt freshSenders port ≡ freshSender
 fresh-at port =
     byBool (leb 16 port)
     (λ past. getD-past (freshSenders .ports) port freshSender (leb-true 16 port past))
@@ -152,7 +152,7 @@ module _ (senders : Senders) (question : Question) (before : Questions)
       ∙ afterHeartbeat-over before question
 
 -- what a question leaves of another port
-other-kept : (senders : Senders) (question : Question) (port : ℕ) → (question .port ≡ port → ⊥)
+pub other-kept : (senders : Senders) (question : Question) (port : ℕ) → (question .port ≡ port → ⊥)
     → senderAt (asked senders question .senders) port ≡ senderAt senders port
 other-kept senders question port other =
     byBool (eqb (askedNumber senders question) accepted)

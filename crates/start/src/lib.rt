@@ -8,9 +8,9 @@
 use calls::Ending;
 use calls::Stream;
 use calls::write_alone;
-use numbers::ACCEPTED;
-use numbers::Profile;
-use numbers::start_number;
+use numbers::profile::Profile;
+use numbers::profile::start_number;
+use numbers::refusal::ACCEPTED;
 use text::NumberRead;
 ghost use mathlib.Core.Bool.{true};
 ghost use mathlib.Core.Path.{_≡_};

@@ -3,7 +3,7 @@
 use Prim.Native.Nat.{ℕ}
 use mathlib.Core.Bool.{Bool, cond}
 use lib.ListN.{getD}
-use Rattle.numbers.specs.declared.Profile.{Profile}
+use Rattle.numbers.specs.declared.profile.Profile.{Profile}
 use Rattle.numbers.specs.Inputs.{frameLife}
 use Rattle.numbers.specs.Profile.{limitsOf, floorIn}
 use Rattle.numbers.specs.Quality.{isFailed}

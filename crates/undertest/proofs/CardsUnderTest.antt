@@ -3,7 +3,7 @@
 use Prim.Native.Nat.{ℕ}
 use mathlib.Core.List.{List, [], _∷_}
 use mathlib.Core.Path.{_≡_, refl, sym, ap, _∙_}
-use Rattle.numbers.specs.declared.Quality.{Quality}
+use Rattle.numbers.specs.declared.quality.Quality.{Quality}
 use Rattle.numbers.specs.From.{started, _following_}
 use Rattle.numbers.specs.Kind.{flag}
 use Rattle.numbers.specs.Refusal.{accepted}
@@ -17,11 +17,11 @@ use Rattle.unit.specs.Sequence.{unitAfter, halfAfter, tellingOf, tellings, stat
 use Rattle.unit.specs.Kept.{isSquelched, sourceOf}
 use Rattle.unit.proofs.Halves.{half-after, minimum-after}
 use Rattle.quickstep.specs.declared.Watch.{Watch}
-use Rattle.lentcard.specs.Calls.{lentAfter, latestNumber}
-use Rattle.lentcard.proofs.Calls.{lent-right}
-use Rattle.lentunit.specs.Lent.{LentUnit, watchIn, sentBy}
-use Rattle.lentunit.specs.Calls.{unitLentAfter, halfLatestNumber}
-use Rattle.lentunit.proofs.Calls.{half-held, half-lent-right, sent-of}
+use Rattle.card.specs.Calls.{lentAfter, latestNumber}
+use Rattle.card.proofs.Calls.{lent-right}
+use Rattle.unitcard.specs.Lent.{LentUnit, watchIn, sentBy}
+use Rattle.unitcard.specs.Calls.{unitLentAfter, halfLatestNumber}
+use Rattle.unitcard.proofs.Calls.{half-held, half-lent-right, sent-of}
 use Rattle.undertest.specs.UnderTest.{EqualButFor, begun, equal, paired, OffThroughout, NothingShows}
 use Rattle.undertest.specs.UnitUnderTest as Units
 use Rattle.undertest.specs.UnitUnderTest.{UnitsEqualButFor, OffInBoth, NothingShowsOfUnit}

@@ -20,7 +20,7 @@ use Rattle.due.specs.Served.{servedFrom, served}
 use Rattle.events.specs.Refusals.{isWrongKind, frameRefusal, earlyRefusal, isForcedSwitch, lateRefusal}
 use Rattle.events.specs.Step.{isHeldInByte, heldArgument, inputAfter, inputsAfter, modeAfter, recordedArgument, atItsMoment, stepRead, step}
 use Rattle.events.specs.Sequence as S
-use Rattle.numbers.specs.declared.Profile.the-variants as P
+use Rattle.numbers.specs.declared.profile.Profile.the-variants as P
 use Rattle.numbers.specs.From.{started, _following_}
 use Rattle.numbers.specs.Kind.{kindSignal, kindFixedQuality}
 use Rattle.events.specs.Cases.{plain}

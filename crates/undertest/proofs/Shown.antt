@@ -7,7 +7,7 @@ use mathlib.Core.Path.{_≡_, refl, sym, _∙_, ap, subst}
 use lib.Dec.{eqb}
 use lib.ListN.{set}
 use lib.Seq.{getD-set-other}
-use Rattle.numbers.specs.declared.Quality.{Quality}
+use Rattle.numbers.specs.declared.quality.Quality.{Quality}
 use Rattle.numbers.specs.Profile.{limitsOf, marksOf, isMarked, toldBy}
 use Rattle.numbers.specs.Codes.{codeOfQuality, wordOfQuality}
 use Rattle.numbers.proofs.Truth.{contra}

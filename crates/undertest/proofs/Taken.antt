@@ -10,7 +10,7 @@ use lib.Dec.{eqb}
 use lib.ListN.{length, getD, set}
 use lib.Seq.{getD-set-same, getD-set-other, set-set, set-comm}
 use borrow.Author.Tests.{eqb-true, eqb-false}
-use Rattle.numbers.specs.declared.Limits.{Limits}
+use Rattle.numbers.specs.declared.profile.Limits.{Limits}
 use Rattle.numbers.specs.Recorded.{Recorded}
 use Rattle.numbers.specs.Kind.{kindSignal, kindFrame, kindLineCode, kindPriority, kindLockout, kindHoldoff, kindWait, kindFixedQuality, kindClearWait, kindForced, kindManual, kindClearSwitch, kindQualityMode, kindSending, kindInputKind, kindFloor, kindWord, inputKindOf}
 use Rattle.numbers.proofs.Truth.{byBool}

@@ -7,9 +7,9 @@ use mathlib.Core.Logic.{⊎-elim, inr}
 use mathlib.Core.Path.{_≡_, refl, sym, _∙_, ap, subst}
 use native.Mathlib.Omega.{arith}
 use lib.Dec.{eqb, ltb}
-use Rattle.numbers.specs.declared.Limits.{Limits}
-use Rattle.numbers.specs.declared.Profile.{Profile}
-use Rattle.numbers.specs.declared.Quality.{Quality}
+use Rattle.numbers.specs.declared.profile.Limits.{Limits}
+use Rattle.numbers.specs.declared.profile.Profile.{Profile}
+use Rattle.numbers.specs.declared.quality.Quality.{Quality}
 use Rattle.numbers.specs.From.{started, _following_, profileOf}
 use Rattle.numbers.specs.Kind.{kindTick}
 use Rattle.numbers.specs.Profile.{limitsOf, placeOf}

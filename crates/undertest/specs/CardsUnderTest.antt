@@ -3,7 +3,7 @@
 use mathlib.Core.Path.{_≡_}
 use Rattle.selector.specs.Answer.{outgoingCodes, outgoingWords}
 use Rattle.quickstep.specs.declared.Watch.{Watch}
-use Rattle.lentunit.specs.Lent.{LentUnit}
+use Rattle.unitcard.specs.Lent.{LentUnit}
 
 -- "all answer lines, both selectors' switches and all sixteen outgoing codes": the switch is in the answer, and the
 -- words of option II go out beside the codes; the count is L4's, and is left out

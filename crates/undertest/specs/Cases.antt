@@ -2,7 +2,7 @@
 -- run its signal comes good at 50 and its wait of five minutes ends, in the other it stays failing. The hold-offs of all
 -- fresh inputs end at 300 in both. Assumes nothing.
 use mathlib.Core.Path.{_≡_}
-use Rattle.numbers.specs.declared.Profile.the-variants as P
+use Rattle.numbers.specs.declared.profile.Profile.the-variants as P
 use Rattle.numbers.specs.From.{started, _following_}
 use Rattle.numbers.specs.Kind.{kindSignal, kindFixedQuality, kindTick}
 use Rattle.events.specs.Cases.{plain}

@@ -5,8 +5,8 @@ use mathlib.Core.Bool.{Bool, true, _||_}
 use mathlib.Core.Logic.{_⊎_}
 use mathlib.Core.Path.{_≡_}
 use lib.Dec.{eqb}
-use Rattle.numbers.specs.declared.Limits.{Limits}
-use Rattle.numbers.specs.declared.Profile.{Profile}
+use Rattle.numbers.specs.declared.profile.Limits.{Limits}
+use Rattle.numbers.specs.declared.profile.Profile.{Profile}
 use Rattle.numbers.specs.From.{started, _following_, profileOf}
 use Rattle.numbers.specs.Kind.{kindLockout, kindHoldoff, kindWait, kindFixedQuality, kindClearWait, kindFloor, kindTick}
 use Rattle.numbers.specs.Profile.{limitsOf}

@@ -8,10 +8,10 @@ use mathlib.Core.Path.{_≡_, refl, sym, _∙_, ap, subst}
 use native.Mathlib.Omega.{arith}
 use lib.Dec.{eqb}
 use borrow.Author.Tests.{ne-eqb}
-use Rattle.numbers.specs.declared.InputKind.{InputKind}
-use Rattle.numbers.specs.declared.Limits.{Limits}
-use Rattle.numbers.specs.declared.Profile.{Profile}
-use Rattle.numbers.specs.declared.Quality.{Quality}
+use Rattle.numbers.specs.declared.kind.InputKind.{InputKind}
+use Rattle.numbers.specs.declared.profile.Limits.{Limits}
+use Rattle.numbers.specs.declared.profile.Profile.{Profile}
+use Rattle.numbers.specs.declared.quality.Quality.{Quality}
 use Rattle.numbers.specs.From.{started, _following_, profileOf}
 use Rattle.numbers.specs.Kind.{kindForced, kindManual, kindInputKind}
 use Rattle.numbers.specs.Profile.{limitsOf}

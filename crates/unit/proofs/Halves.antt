@@ -5,7 +5,7 @@ use mathlib.Core.Bool.{Bool, true, false, cond}
 use mathlib.Core.List.{List, _∷_}
 use mathlib.Core.Path.{_≡_, refl, _∙_, ap}
 use Rattle.numbers.specs.declared.Event.{Event}
-use Rattle.numbers.specs.declared.Quality.{Quality}
+use Rattle.numbers.specs.declared.quality.Quality.{Quality}
 use Rattle.numbers.specs.From.{started, _following_, profileOf}
 use Rattle.numbers.specs.Profile.{limitsOf}
 use Rattle.frame.specs.Read.{readCode}

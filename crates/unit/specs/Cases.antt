@@ -1,7 +1,7 @@
 -- Document 02, L13: "a minimum set at the start (1 to 4, option II 1 to 8, otherwise 6 and no start)", computed; a
 -- place of PROV above 8 is 6 as well. Assumes nothing.
 use mathlib.Core.Path.{_≡_}
-use Rattle.numbers.specs.declared.Profile.the-variants as P
+use Rattle.numbers.specs.declared.profile.Profile.the-variants as P
 use Rattle.numbers.specs.Quality.{quality}
 use Rattle.numbers.specs.Refusal.{accepted, argumentOutOfRange}
 use Rattle.unit.specs.Unit.{unitStartNumber}

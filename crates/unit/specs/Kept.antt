@@ -6,8 +6,8 @@ use mathlib.Core.List.{List, []}
 use lib.Dec.{eqb, ltb}
 use Rattle.numbers.specs.declared.Answer.{Answer}
 use Rattle.numbers.specs.declared.Event.{Event}
-use Rattle.numbers.specs.declared.Profile.{Profile}
-use Rattle.numbers.specs.declared.Quality.{Quality}
+use Rattle.numbers.specs.declared.profile.Profile.{Profile}
+use Rattle.numbers.specs.declared.quality.Quality.{Quality}
 use Rattle.numbers.specs.Profile.{limitsOf, placeOf}
 use Rattle.numbers.specs.Quality.{quality}
 use Rattle.numbers.specs.Refusal.{accepted}

@@ -2,7 +2,7 @@
 -- and what the code tells on the way. `Unit` has what document 02 says of the same sequence. Assumes nothing.
 use Prim.Native.Nat.{ℕ}
 use mathlib.Core.List.{List, [], _∷_}
-use Rattle.numbers.specs.declared.Quality.{Quality}
+use Rattle.numbers.specs.declared.quality.Quality.{Quality}
 use Rattle.numbers.specs.From.{started, _following_}
 use Rattle.selector.specs.declared.Selector.{Selector}
 use Rattle.selector.specs.Answer.{answerOf, outgoingCodes, outgoingWords}

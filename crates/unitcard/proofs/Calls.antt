@@ -1,17 +1,18 @@
--- A unit comes back from its numbers, so calls in a row are the unit's steps in a row. Cites of the unit `half-right`,
--- `one-time`, `refusals-leave`, `output-right` and `independence`; of the selector `demand-2-answers` and `next-right`;
--- of the card that a selector comes back from its numbers. Assumes nothing.
-use Prim.Native.Nat.{ℕ}
+-- A unit comes back from what is held of it, so calls in a row are the unit's steps in a row. Cites of the unit
+-- `half-right`, `one-time`, `refusals-leave`, `output-right` and `independence`; of the selector `demand-2-answers` and
+-- `next-right`; of the card that what holds a state after events is sound. Assumes nothing.
+use Prim.Native.Nat.{ℕ, _<_}
 use mathlib.Core.Bool.{Bool, true, false, not, cond}
 use mathlib.Core.List.{List, [], _∷_}
 use mathlib.Core.Logic.{_≢_}
 use mathlib.Core.Path.{_≡_, refl, sym, _∙_, ap, subst}
 use native.Mathlib.Omega.{arith}
 use lib.Dec.{ltb}
-use borrow.Author.Tests.{eq-eqb, ne-eqb}
+use lib.ListN.{getD}
+use borrow.Author.Tests.{eq-eqb, ne-eqb, lt-ltb}
 use Rattle.numbers.specs.declared.Event.{Event}
-use Rattle.numbers.specs.declared.Profile.{Profile}
-use Rattle.numbers.specs.declared.Quality.{Quality}
+use Rattle.numbers.specs.declared.profile.Profile.{Profile}
+use Rattle.numbers.specs.declared.quality.Quality.{Quality}
 use Rattle.numbers.specs.From.{started, _following_}
 use Rattle.numbers.specs.Kind.{flag}
 use Rattle.numbers.specs.Profile.{limitsOf, lastPlace, placeOf, startNumber, profileIn}
@@ -34,40 +35,29 @@ use Rattle.events.proofs.NextDue.{next-right}
 use Rattle.unit.specs.declared.Half.{Half}
 use Rattle.unit.specs.declared.Half.the-variants as H
 use Rattle.unit.specs.declared.Unit.{Unit}
-use Rattle.unit.specs.Unit.{Addressed, UnitSequence, Telling, Output, isMinimum, unitStartNumber, goesTo, ownEvents, ownPast}
+use Rattle.unit.specs.Unit.{Addressed, UnitSequence, Telling, isMinimum, unitStartNumber, goesTo, ownEvents, ownPast}
 use Rattle.unit.specs.Kept.{halfStep, stepUnitRead, stepUnit, isSquelched, sourceOf}
-use Rattle.unit.specs.Sequence.{unitAfter, halfAfter, halfNumber, tellings, stationOutput}
+use Rattle.unit.specs.Sequence.{unitAfter, halfAfter, halfNumber, tellings}
 use Rattle.unit.specs.Claims.{otherHalf, DifferOnlyIn, SameOf}
 use Rattle.unit.proofs.Halves.{half-after, half-number-own, minimum-after, half-right}
 use Rattle.unit.proofs.Times.{one-time, refusals-leave}
 use Rattle.unit.proofs.Output.{squelched-by, source-by, output-right}
-use Rattle.unit.proofs.Runs.{output-as, independence}
-use Rattle.card.specs.declared.Card.{Card}
-use Rattle.card.specs.Flat.{flatAnswer, selectorOf, cardOf}
-use Rattle.card.specs.Card.{namesOption, readFor, cardCodes, cardWords, cardDue}
-use Rattle.card.proofs.Range.{Named, stepRead-readFor, sequence-named}
-use Rattle.card.specs.Sound.{cardSound}
-use Rattle.card.proofs.Called.{selectorOf-cardOf, withNumber-cardOf}
-use Rattle.card.proofs.Calls.{names-neither}
-use Rattle.card.proofs.Kept.{sound-cardOf}
-use Rattle.unitcard.specs.declared.UnitCard.{UnitCard}
-use Rattle.unitcard.specs.Flat.{stationHalf, halfIn, numberOfTo, halfCard, cardIn, unitOf, unitCardOf, withNumbers}
-use Rattle.unitcard.specs.UnitCard.{freshUnitCard, startUnitCard, steppedUnitCard, stepUnitCard}
-use Rattle.unitcard.specs.Calls.{calledUnit, unitCardAfter, halfLatestNumber, halfLatestBy, UnitStartRight, UnitCardRight, HalfCardRight, OutputCardRight, SameCards}
-use Rattle.unitcard.proofs.Range.{NamedUnit, any-unit}
+use Rattle.unit.proofs.Runs.{independence}
+use Rattle.quickstep.specs.declared.Watch.{Watch}
+use Rattle.card.specs.Lent.{namesOption, readFor}
+use Rattle.card.specs.Sound.{isSound}
+use Rattle.card.proofs.Range.{stepRead-readFor}
+use Rattle.card.proofs.Calls.{names-neither, lent-right}
+use Rattle.card.proofs.Kept.{sound-held}
+use Rattle.unitcard.specs.Lent.{LentUnit, stationHalf, halfIn, numberOfTo, watchIn, squelchedIn, sourceIn, halfHeld, sentBy, unitIn, unitHeld, withNumbers, startLentUnit, steppedUnit, stepLentUnit}
+use Rattle.unitcard.specs.Calls.{calledUnit, unitLentAfter, halfLatestNumber, halfLatestBy, UnitStartRight, UnitLentRight, HalfLentRight, OutputLentRight, SameLent}
 
--- ---- back from its numbers
+-- ---- back from what is held
 
--- A unit as numbers and back is that unit, whatever is answered beside it.
-pub unitOf-unitCardOf : (equipment station : ℕ) (unit : Unit) → NamedUnit unit
-    → unitOf (unitCardOf equipment station unit) ≡ unit
-unfolding unitOf unitCardOf
-unitOf-unitCardOf equipment station unit named = λ j.
-    record {
-      equipment = selectorOf-cardOf equipment 0 (nextDue (unit .equipment)) (unit .equipment) (named .equipment) j;
-      station = selectorOf-cardOf station 0 (nextDue (unit .station)) (unit .station) (named .station) j;
-      minimum = unit .minimum;
-    }
+-- A unit that is held is that unit, whatever is answered beside it.
+pub unitIn-unitHeld : (equipment station : ℕ) (unit : Unit) → unitIn (unitHeld equipment station unit) ≡ unit
+unfolding unitHeld sentBy
+unitIn-unitHeld equipment station unit = refl
 
 -- the number of a half is not above the last
 numberOfTo-half : (to : Half) → ltb stationHalf (numberOfTo to) ≡ false
@@ -96,16 +86,16 @@ unitStart-refused profile minimum =
     refused-number (not (isMinimum profile minimum)) (ltb lastPlace (placeOf profile))
 
 -- A minimum, a place or an option that is out of range starts nothing, and any other start is where calls in a row begin.
-pub unit-start-right : (flat : UnitCard) (option place marks minimum : ℕ)
-    → UnitStartRight flat option place marks minimum
-unfolding startUnitCard unitCardAfter
-unit-start-right flat option place marks minimum =
+pub unit-start-right : (lent : LentUnit) (option place marks minimum : ℕ)
+    → UnitStartRight lent option place marks minimum
+unfolding startLentUnit unitLentAfter
+unit-start-right lent option place marks minimum =
     record {
       refused = λ refused.
           byBool (namesOption option)
           (λ named.
           rw (named, ne-eqb (unitStartNumber (profileIn option place marks) (quality minimum)) accepted refused)
-          (ap (withNumbers flat) (unitStart-refused (profileIn option place marks) (quality minimum) refused)))
+          (ap (withNumbers lent) (unitStart-refused (profileIn option place marks) (quality minimum) refused)))
           (λ other. rw other);
       neither = λ one two. rw (names-neither option one two);
       starts = λ named starts.
@@ -135,69 +125,59 @@ stepUnit-readFor unit to event frame =
       unit = record { equipment = equipment j .state; station = station j .state; minimum = unit .minimum };
     }
 
--- a call on the numbers of a unit is a step of that unit
-called-unitCardOf : (equipment station : ℕ) (unit : Unit) (addressed : Addressed) → NamedUnit unit
-    → calledUnit (unitCardOf equipment station unit) addressed ≡
-    steppedUnitCard (stepUnit unit (addressed .to) (addressed .given .event) (addressed .given .frame))
-unfolding stepUnitCard
-called-unitCardOf equipment station unit addressed named =
+-- a call on a unit that is held is a step of that unit
+called-unitHeld : (equipment station : ℕ) (unit : Unit) (addressed : Addressed)
+    → calledUnit (unitHeld equipment station unit) addressed ≡
+    steppedUnit (stepUnit unit (addressed .to) (addressed .given .event) (addressed .given .frame))
+unfolding stepLentUnit
+called-unitHeld equipment station unit addressed =
     let event = addressed .given .event in
     let frame = addressed .given .frame in
     rw (numberOfTo-half (addressed .to))
-    ((λ j. steppedUnitCard
-    (stepUnitRead (unitOf-unitCardOf equipment station unit named j) (halfIn-to (addressed .to) j) event
+    ((λ j. steppedUnit
+    (stepUnitRead (unitIn-unitHeld equipment station unit j) (halfIn-to (addressed .to) j) event
     (readFor (event .kind) frame))) ∙
-    ap steppedUnitCard (stepUnit-readFor unit (addressed .to) event frame))
+    ap steppedUnit (stepUnit-readFor unit (addressed .to) event frame))
 
 module _ (minimum : Quality) where
-  half-named : (half : Half) (sequence : UnitSequence) → Named (halfAfter minimum half sequence)
-  half-named half sequence =
-      subst Named (sym (half-after minimum sequence half)) (sequence-named (ownEvents half sequence))
-
-  unit-named : (sequence : UnitSequence) → NamedUnit (unitAfter minimum sequence)
-  unit-named sequence =
-      record { equipment = half-named H.Equipment sequence; station = half-named H.Station sequence }
-
   after-whole : (sequence : UnitSequence)
-      → unitCardAfter minimum sequence ≡
-      unitCardOf (halfLatestNumber minimum H.Equipment sequence) (halfLatestNumber minimum H.Station sequence)
+      → unitLentAfter minimum sequence ≡
+      unitHeld (halfLatestNumber minimum H.Equipment sequence) (halfLatestNumber minimum H.Station sequence)
       (unitAfter minimum sequence)
-  unfolding unitCardAfter unitAfter halfLatestNumber halfNumber freshUnitCard
+  unfolding unitLentAfter unitAfter halfLatestNumber halfNumber
   after-whole (started profile) = refl
   after-whole (addressed following earlier) =
-      ap (λ (flat : UnitCard). calledUnit flat addressed) (after-whole earlier) ∙
-      called-unitCardOf _ _ (unitAfter minimum earlier) addressed (unit-named earlier)
+      ap (λ (lent : LentUnit). calledUnit lent addressed) (after-whole earlier) ∙
+      called-unitHeld _ _ (unitAfter minimum earlier) addressed
 
-  after-unit : (sequence : UnitSequence) → unitOf (unitCardAfter minimum sequence) ≡ unitAfter minimum sequence
-  after-unit sequence = ap unitOf (after-whole sequence) ∙ unitOf-unitCardOf _ _ _ (unit-named sequence)
+  after-unit : (sequence : UnitSequence) → unitIn (unitLentAfter minimum sequence) ≡ unitAfter minimum sequence
+  after-unit sequence = ap (λ (lent : LentUnit). unitIn lent) (after-whole sequence) ∙ unitIn-unitHeld _ _ _
 
 -- a unit of other numbers in both answers
-withNumbers-unitCardOf : (equipment station number : ℕ) (unit : Unit)
-    → withNumbers (unitCardOf equipment station unit) number ≡ unitCardOf number number unit
-unfolding unitCardOf
-withNumbers-unitCardOf equipment station number unit = λ j.
-    record {
-      equipment = withNumber-cardOf equipment number 0 0 (nextDue (unit .equipment)) (unit .equipment) j;
-      station = withNumber-cardOf station number 0 0 (nextDue (unit .station)) (unit .station) j;
-      minimum = unit .minimum .0;
-      squelched = flag (isSquelched unit);
-      source = sourceOf unit;
-      spare = 0;
-      spare4 = 0;
-    }
+withNumbers-unitHeld : (equipment station number : ℕ) (unit : Unit)
+    → withNumbers (unitHeld equipment station unit) number ≡ unitHeld number number unit
+unfolding unitHeld answerOf
+withNumbers-unitHeld equipment station number unit = refl
+
+-- a number that is no half's is refused with 6, and nothing happens
+pub neither-half : (lent : LentUnit) (half kind time input argument : ℕ) (frame : List ℕ) → stationHalf < half
+    → stepLentUnit lent half kind time input argument frame ≡
+    unitHeld argumentOutOfRange argumentOutOfRange (unitIn lent)
+unfolding stepLentUnit
+neither-half lent half kind time input argument frame above = rw (lt-ltb stationHalf half above)
 
 -- CALLS IN A ROW ARE THE UNIT'S STEPS IN A ROW, for every sequence of the unit's events.
-pub unit-card-right : (minimum : Quality) (sequence : UnitSequence) → UnitCardRight minimum sequence
-unit-card-right minimum sequence =
+pub unit-lent-right : (minimum : Quality) (sequence : UnitSequence) → UnitLentRight minimum sequence
+unit-lent-right minimum sequence =
     record {
       unit = after-unit minimum sequence;
       whole = after-whole minimum sequence;
       neither = λ half kind time input argument frame above.
-          any-unit (unitCardAfter minimum sequence) half kind time input argument frame .neither above ∙
-          ap (unitCardOf argumentOutOfRange argumentOutOfRange) (after-unit minimum sequence) ∙
+          neither-half (unitLentAfter minimum sequence) half kind time input argument frame above ∙
+          ap (unitHeld argumentOutOfRange argumentOutOfRange) (after-unit minimum sequence) ∙
           sym
-          (ap (λ (flat : UnitCard). withNumbers flat argumentOutOfRange) (after-whole minimum sequence) ∙
-          withNumbers-unitCardOf _ _ argumentOutOfRange (unitAfter minimum sequence));
+          (ap (λ (lent : LentUnit). withNumbers lent argumentOutOfRange) (after-whole minimum sequence) ∙
+          withNumbers-unitHeld _ _ argumentOutOfRange (unitAfter minimum sequence));
     }
 
 -- ---- each half
@@ -206,26 +186,25 @@ module _ (minimum : Quality) (half : Half) (sequence : UnitSequence) where
   abbrev own : Selector
   own = stateAfter (ownEvents half sequence)
 
-  -- the card of a half is that of its selector after its own events
-  pub half-card : cardIn half (unitCardAfter minimum sequence) ≡ halfCard (halfLatestNumber minimum half sequence) own
-  unfolding unitCardOf
-  half-card =
-      ap (λ (flat : UnitCard). cardIn half flat) (after-whole minimum sequence) ∙
+  -- what is held of a half is its selector after its own events
+  pub half-held : watchIn half (unitLentAfter minimum sequence) ≡ halfHeld (halfLatestNumber minimum half sequence) own
+  unfolding unitHeld
+  half-held =
+      ap (λ (lent : LentUnit). watchIn half lent) (after-whole minimum sequence) ∙
       go half ∙
-      ap (λ (state : Selector). halfCard (halfLatestNumber minimum half sequence) state)
+      ap (λ (state : Selector). halfHeld (halfLatestNumber minimum half sequence) state)
       (half-after minimum sequence half)
     where
       go : (part : Half)
-          → cardIn part
-          (unitCardOf (halfLatestNumber minimum H.Equipment sequence) (halfLatestNumber minimum H.Station sequence)
+          → watchIn part
+          (unitHeld (halfLatestNumber minimum H.Equipment sequence) (halfLatestNumber minimum H.Station sequence)
           (unitAfter minimum sequence))
-          ≡ halfCard (halfLatestNumber minimum part sequence) (halfAfter minimum part sequence)
+          ≡ halfHeld (halfLatestNumber minimum part sequence) (halfAfter minimum part sequence)
       go H.Equipment = refl
       go H.Station = refl
 
-  half-state : selectorOf (cardIn half (unitCardAfter minimum sequence)) ≡ own
-  half-state =
-      ap selectorOf half-card ∙ selectorOf-cardOf _ _ (nextDue own) own (sequence-named (ownEvents half sequence))
+  half-state : watchIn half (unitLentAfter minimum sequence) .state ≡ own
+  half-state = ap (λ (watch : Watch). watch .state) half-held
 
 latest-by : (minimum : Quality) (half : Half) (sequence : UnitSequence)
     → halfLatestNumber minimum half sequence ≡ halfLatestBy half sequence
@@ -234,28 +213,28 @@ latest-by minimum half (started profile) = refl
 latest-by minimum half (addressed following earlier) = half-number-own minimum half addressed earlier
 
 half-sound : (minimum : Quality) (half : Half) (sequence : UnitSequence)
-    → cardSound (cardIn half (unitCardAfter minimum sequence)) ≡ 1
+    → isSound (watchIn half (unitLentAfter minimum sequence)) ≡ 1
 half-sound minimum half sequence =
     let own = ownEvents half sequence in
-    ap cardSound (half-card minimum half sequence) ∙
-    sound-cardOf own (halfLatestNumber minimum half sequence) 0 (nextDue (stateAfter own))
+    let number = halfLatestNumber minimum half sequence in
+    ap isSound (half-held minimum half sequence) ∙
+    sound-held own (halfHeld number (stateAfter own)) number refl refl
     (nextDue-later (stateAfter own) (sequence-ever own)) (omega arith)
 
 -- EACH HALF IN C'S HANDS IS A SELECTOR AFTER ITS OWN EVENTS, and all that holds of a half holds of it.
-pub half-card-right : (minimum : Quality) (half : Half) (sequence : UnitSequence) → HalfCardRight minimum half sequence
-unfolding cardOf cardCodes cardWords cardDue
-half-card-right minimum half sequence =
+pub half-lent-right : (minimum : Quality) (half : Half) (sequence : UnitSequence) → HalfLentRight minimum half sequence
+half-lent-right minimum half sequence =
     let told = demand-2-answers (ownEvents half sequence) in
     let state = half-state minimum half sequence in
     record {
       state = state;
       answer =
-          ap (λ (card : Card). card .answer) (half-card minimum half sequence) ∙
-          ap flatAnswer
-          (told .answer (halfLatestNumber minimum half sequence) ∙
-          ap (λ (number : ℕ). answerBy number (ownPast half sequence)) (latest-by minimum half sequence));
+          ap (λ (watch : Watch). watch .answer) (half-held minimum half sequence) ∙
+          told .answer (halfLatestNumber minimum half sequence) ∙
+          ap (λ (number : ℕ). answerBy number (ownPast half sequence)) (latest-by minimum half sequence);
       codes = ap outgoingCodes state ∙ told .outgoing;
       words = ap outgoingWords state ∙ told .words;
+      alone = state ∙ sym (lent-right (ownEvents half sequence) .state);
       next =
           subst (NextRight (recorded (ownEvents half sequence))) (sym (ap nextDue state))
           (next-right (ownEvents half sequence));
@@ -268,17 +247,22 @@ half-card-right minimum half sequence =
 -- ---- the station output
 
 module _ (minimum : Quality) (sequence : UnitSequence) where
-  pub squelched-of : unitCardAfter minimum sequence .squelched ≡ flag (isSquelched (unitAfter minimum sequence))
-  unfolding unitCardOf
-  squelched-of = ap (λ (flat : UnitCard). flat .squelched) (after-whole minimum sequence)
+  pub sent-of : unitLentAfter minimum sequence .sent
+      ≡ sentBy (unitAfter minimum sequence .station) (unitAfter minimum sequence .minimum)
+  unfolding unitHeld
+  sent-of = ap (λ (lent : LentUnit). lent .sent) (after-whole minimum sequence)
 
-  pub source-of : unitCardAfter minimum sequence .source ≡ sourceOf (unitAfter minimum sequence)
-  unfolding unitCardOf
-  source-of = ap (λ (flat : UnitCard). flat .source) (after-whole minimum sequence)
+  squelched-of : squelchedIn (unitLentAfter minimum sequence) ≡ flag (isSquelched (unitAfter minimum sequence))
+  unfolding sentBy isSquelched
+  squelched-of = ap (λ (sent : List ℕ). getD sent 1 0) sent-of
+
+  source-of : sourceIn (unitLentAfter minimum sequence) ≡ sourceOf (unitAfter minimum sequence)
+  unfolding sentBy isSquelched sourceOf
+  source-of = ap (λ (sent : List ℕ). getD sent 2 0) sent-of
 
 -- THE STATION OUTPUT IN C'S HANDS sends what has happened says, for every sequence of the unit's events.
-pub output-card-right : (minimum : Quality) (sequence : UnitSequence) → OutputCardRight minimum sequence
-output-card-right minimum sequence =
+pub output-lent-right : (minimum : Quality) (sequence : UnitSequence) → OutputLentRight minimum sequence
+output-lent-right minimum sequence =
     record {
       squelched = squelched-of minimum sequence ∙ ap flag (squelched-by minimum sequence);
       source = source-of minimum sequence ∙ source-by minimum sequence;
@@ -298,40 +282,37 @@ unfolding tellings halfLatestNumber answerOf
 latest-told minimum half (started profile) = refl
 latest-told minimum half (addressed following earlier) = refl
 
-same-cards : (minimum : Quality) (half : Half) (one two : UnitSequence) → SameOf minimum half one two
-    → SameCards minimum half one two
-same-cards minimum half one two same =
+same-lent : (minimum : Quality) (half : Half) (one two : UnitSequence) → SameOf minimum half one two
+    → SameLent minimum half one two
+same-lent minimum half one two same =
     let number : halfLatestNumber minimum half one ≡ halfLatestNumber minimum half two =
     sym (latest-told minimum half one) ∙
     ap (λ (told : List Telling). toldLast told) (same .told) ∙
     latest-told minimum half two in
     record {
-      card =
-          half-card minimum half one ∙
-          (λ j. halfCard (number j) (own j)) ∙
-          sym (half-card minimum half two);
-      squelched = λ station.
-          squelched-of minimum one ∙
-          ap (λ (output : Output). flag (output .squelched)) (sent station) ∙
-          sym (squelched-of minimum two);
-      source = λ station.
-          source-of minimum one ∙
-          ap (λ (output : Output). output .source) (sent station) ∙
-          sym (source-of minimum two);
+      watch =
+          half-held minimum half one ∙
+          (λ j. halfHeld (number j) (own-state j)) ∙
+          sym (half-held minimum half two);
+      sent = λ station.
+          sent-of minimum one ∙
+          (λ j. sentBy (stationed station j) (least j)) ∙
+          sym (sent-of minimum two);
     }
   where
-    own : stateAfter (ownEvents half one) ≡ stateAfter (ownEvents half two)
-    own = sym (half-right minimum half one .state) ∙ same .state ∙ half-right minimum half two .state
+    own-state : stateAfter (ownEvents half one) ≡ stateAfter (ownEvents half two)
+    own-state = sym (half-right minimum half one .state) ∙ same .state ∙ half-right minimum half two .state
 
-    sent : half ≡ H.Station → stationOutput (unitAfter minimum one) ≡ stationOutput (unitAfter minimum two)
-    sent station =
-        output-as (unitAfter minimum one) (unitAfter minimum two)
-        (subst (λ (part : Half). halfAfter minimum part one ≡ halfAfter minimum part two) station (same .state))
-        (minimum-after minimum one ∙ sym (minimum-after minimum two))
+    stationed : half ≡ H.Station → halfAfter minimum H.Station one ≡ halfAfter minimum H.Station two
+    stationed station =
+        subst (λ (part : Half). halfAfter minimum part one ≡ halfAfter minimum part two) station (same .state)
 
--- INDEPENDENCE IN C'S HANDS: commands to one selector change nothing in the other's card, nor in the station's output
--- where they are the equipment's.
-pub cards-independent : (minimum : Quality) (half : Half) (one two : UnitSequence) → DifferOnlyIn half one two
-    → SameCards minimum (otherHalf half) one two
-cards-independent minimum half one two differ =
-    same-cards minimum (otherHalf half) one two (independence minimum half one two differ)
+    least : unitAfter minimum one .minimum ≡ unitAfter minimum two .minimum
+    least = minimum-after minimum one ∙ sym (minimum-after minimum two)
+
+-- INDEPENDENCE IN C'S HANDS: commands to one selector change nothing of what is held of the other, nor in the station's
+-- output where they are the equipment's.
+pub lent-independent : (minimum : Quality) (half : Half) (one two : UnitSequence) → DifferOnlyIn half one two
+    → SameLent minimum (otherHalf half) one two
+lent-independent minimum half one two differ =
+    same-lent minimum (otherHalf half) one two (independence minimum half one two differ)

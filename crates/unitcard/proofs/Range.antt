@@ -2,11 +2,11 @@
 use Prim.Native.Nat.{ℕ, _≤_}
 use mathlib.Core.Bool.{Bool, true, false, cond}
 use mathlib.Core.List.{List, []}
-use mathlib.Core.Logic.{inr}
+use mathlib.Core.Logic.{_≢_, inr}
 use mathlib.Core.Path.{_≡_, refl}
 use lib.Dec.{ltb}
-use borrow.Author.Tests.{lt-ltb}
 use Rattle.numbers.specs.declared.Event.{Event}
+use Rattle.numbers.specs.Kind.{kindFrame}
 use Rattle.numbers.specs.Refusal.{accepted}
 use Rattle.numbers.proofs.Truth.{flag-most}
 use Rattle.frame.specs.declared.FrameRead.{FrameRead}
@@ -15,28 +15,31 @@ use Rattle.selector.specs.declared.Selector.{Selector}
 use Rattle.selector.specs.Clock.{noInput}
 use Rattle.selector.specs.Answer.{answerOf}
 use Rattle.events.specs.Given.{tickAt}
+use Rattle.onestep.specs.Watched.{watchAt}
 use Rattle.unit.specs.declared.Half.{Half}
 use Rattle.unit.specs.declared.Unit.{Unit}
-use Rattle.unit.specs.Kept.{halfStep, stepUnitRead, isSquelched, sourceOf}
-use Rattle.card.specs.Flat.{cardOf}
-use Rattle.card.specs.Card.{eventOf, readFor}
+use Rattle.unit.specs.Kept.{halfStep, stepUnitRead, squelchedBy}
+use Rattle.card.specs.Lent.{eventOf, readFor}
 use Rattle.card.specs.Range.{IsInput, InRange}
-use Rattle.card.proofs.Range.{Named, selectorOf-named, stepRead-named, readFor-unread, cardOf-inRange}
-use Rattle.unitcard.specs.declared.UnitCard.{UnitCard}
-use Rattle.unitcard.specs.Flat.{stationHalf, halfIn, unitOf, unitCardOf}
-use Rattle.unitcard.specs.UnitCard.{stepUnitCard}
-use Rattle.unitcard.specs.Range.{AnyUnit}
+use Rattle.card.proofs.Range.{Named, selectorAt-named, stepRead-named, readFor-unread, answer-inRange}
+use Rattle.unitcard.specs.Lent.{LentUnit, stationHalf, halfIn, squelchedIn, sourceIn, sentBy, unitIn, unitHeld, lentAt, stepLentUnit}
+use Rattle.unitcard.specs.Range.{AnyLentUnit}
 
 -- what both selectors of a unit name are inputs
-pub record NamedUnit (unit : Unit) : Type 0 where
-  pub equipment : Named (unit .equipment)
-  pub station : Named (unit .station)
+record NamedUnit (unit : Unit) : Type 0 where
+  equipment : Named (unit .equipment)
+  station : Named (unit .station)
 
 -- of any unit in C's hands
-pub unitOf-named : (flat : UnitCard) → NamedUnit (unitOf flat)
-unfolding unitOf
-unitOf-named flat =
-    record { equipment = selectorOf-named (flat .equipment); station = selectorOf-named (flat .station) }
+unitIn-named : (times small words due told stationTimes stationSmall stationWords stationDue stationTold sent : List ℕ)
+    → NamedUnit
+    (unitIn (lentAt times small words due told stationTimes stationSmall stationWords stationDue stationTold sent))
+unfolding lentAt watchAt
+unitIn-named times small words due told stationTimes stationSmall stationWords stationDue stationTold sent =
+    record {
+      equipment = selectorAt-named times small words;
+      station = selectorAt-named stationTimes stationSmall stationWords;
+    }
 
 -- a step of a half leaves such a state
 halfStep-named : (state : Selector) (goes : Bool) (event : Event) (read : FrameRead) → Named state
@@ -61,54 +64,62 @@ told-or-none : (squelched : Bool) (number : ℕ) → IsInput number → IsInput 
 told-or-none true number is = inr refl
 told-or-none false number is = is
 
-source-input : (unit : Unit) → Named (unit .station) → IsInput (sourceOf unit)
-unfolding sourceOf cardOf
-source-input unit named =
-    told-or-none (isSquelched unit) (answerOf accepted (unit .station) .selected)
-    (cardOf-inRange accepted 0 0 (unit .station) named .selected)
-
 -- what C may read of a unit
-record Reads (flat : UnitCard) : Type 0 where
-  equipment : InRange (flat .equipment)
-  station : InRange (flat .station)
-  source : IsInput (flat .source)
-  squelched : flat .squelched ≤ 1
+record Reads (lent : LentUnit) : Type 0 where
+  equipment : InRange (lent .equipment .answer)
+  station : InRange (lent .station .answer)
+  source : IsInput (sourceIn lent)
+  squelched : squelchedIn lent ≤ 1
 
-unitCardOf-reads : (equipment station : ℕ) (unit : Unit) → NamedUnit unit → Reads (unitCardOf equipment station unit)
-unfolding unitCardOf
-unitCardOf-reads equipment station unit named =
+unitHeld-reads : (equipment station : ℕ) (unit : Unit) → NamedUnit unit → Reads (unitHeld equipment station unit)
+unfolding unitHeld sentBy
+unitHeld-reads equipment station unit named =
+    let answer = answerOf accepted (unit .station) in
+    let squelched = squelchedBy answer (unit .station .mode) (unit .station .profile) (unit .minimum) in
     record {
-      equipment = cardOf-inRange equipment 0 _ (unit .equipment) (named .equipment);
-      station = cardOf-inRange station 0 _ (unit .station) (named .station);
-      source = source-input unit (named .station);
-      squelched = flag-most (isSquelched unit);
+      equipment = answer-inRange equipment (unit .equipment) (named .equipment);
+      station = answer-inRange station (unit .station) (named .station);
+      source =
+          told-or-none squelched (answer .selected) (answer-inRange accepted (unit .station) (named .station) .selected);
+      squelched = flag-most squelched;
     }
 
-either-reads : (test : Bool) (one other : UnitCard) → Reads one → Reads other → Reads (cond test one other)
+either-reads : (test : Bool) (one other : LentUnit) → Reads one → Reads other → Reads (cond test one other)
 either-reads true one other first second = first
 either-reads false one other first second = second
 
-stepUnitCard-reads : (flat : UnitCard) (half kind time input argument : ℕ) (frame : List ℕ)
-    → Reads (stepUnitCard flat half kind time input argument frame)
-unfolding stepUnitCard
-stepUnitCard-reads flat half kind time input argument frame =
+step-reads : (lent : LentUnit) (half kind time input argument : ℕ) (frame : List ℕ) → NamedUnit (unitIn lent)
+    → Reads (stepLentUnit lent half kind time input argument frame)
+unfolding stepLentUnit
+step-reads lent half kind time input argument frame named =
     let event = eventOf kind time input argument in
-    either-reads (ltb stationHalf half) _ _ (unitCardOf-reads _ _ (unitOf flat) (unitOf-named flat))
-    (unitCardOf-reads _ _ _
-    (stepUnitRead-named (unitOf flat) (halfIn half) event (readFor kind frame) (unitOf-named flat)))
+    either-reads (ltb stationHalf half) _ _ (unitHeld-reads _ _ (unitIn lent) named)
+    (unitHeld-reads _ _ _ (stepUnitRead-named (unitIn lent) (halfIn half) event (readFor kind frame) named))
 
--- Whatever unit came in, C may index by what it reads; a number that is no half's is refused; and what is lent beside
--- another event than a frame changes nothing.
-pub any-unit : (flat : UnitCard) (half kind time input argument : ℕ) (frame : List ℕ)
-    → AnyUnit flat half kind time input argument frame
-unfolding stepUnitCard
-any-unit flat half kind time input argument frame =
-    let reads = stepUnitCard-reads flat half kind time input argument frame in
+step-unread : (lent : LentUnit) (half kind time input argument : ℕ) (frame other : List ℕ) → kind ≢ kindFrame
+    → stepLentUnit lent half kind time input argument frame ≡ stepLentUnit lent half kind time input argument other
+unfolding stepLentUnit
+step-unread lent half kind time input argument frame other none = rw (readFor-unread kind frame other none)
+
+-- Whatever unit came in, C may index by what it reads; and what is lent beside another event than a frame changes
+-- nothing.
+pub any-lent-unit :
+    (times small words due told stationTimes stationSmall stationWords stationDue stationTold sent : List ℕ)
+    (half kind time input argument : ℕ) (frame : List ℕ)
+    → AnyLentUnit times small words due told stationTimes stationSmall stationWords stationDue stationTold sent
+    half kind time input argument frame
+any-lent-unit times small words due told stationTimes stationSmall stationWords stationDue stationTold sent
+    half kind time input argument frame =
+    let lent = lentAt times small words due told stationTimes stationSmall stationWords stationDue stationTold sent in
+    let reads = step-reads lent half kind time input argument frame
+    (unitIn-named times small words due told stationTimes stationSmall stationWords stationDue stationTold sent) in
     record {
-      equipment = reads .equipment;
-      station = reads .station;
-      source = reads .source;
-      squelched = reads .squelched;
-      neither = λ above. rw (lt-ltb stationHalf half above);
-      unread = λ other lent. rw (readFor-unread kind frame lent other);
+      inRange =
+          record {
+            equipment = reads .equipment;
+            station = reads .station;
+            source = reads .source;
+            squelched = reads .squelched;
+            unread = λ other lends. step-unread lent half kind time input argument frame lends other;
+          };
     }

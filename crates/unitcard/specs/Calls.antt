@@ -1,16 +1,18 @@
--- What C holds after calls in a row on a fresh unit, each passing on what the one before handed out: the unit after the
--- same events, so that all that holds of the unit holds of what C holds. Not cited by the code. Assumes nothing.
+-- What C's arrays hold after calls in a row from a start of a unit, each lending what the one before left: the unit after
+-- the same events, so that all that holds of the unit holds of what C holds. Not cited by the code. Assumes nothing.
 use Prim.Native.Nat.{ℕ, _<_}
 use mathlib.Core.Bool.{true}
 use mathlib.Core.List.{List}
 use mathlib.Core.Logic.{_≢_}
 use mathlib.Core.Path.{_≡_}
-use Rattle.numbers.specs.declared.Quality.{Quality}
+use Rattle.numbers.specs.declared.quality.Quality.{Quality}
 use Rattle.numbers.specs.From.{started, _following_}
 use Rattle.numbers.specs.Kind.{flag}
 use Rattle.numbers.specs.Quality.{quality}
 use Rattle.numbers.specs.Refusal.{accepted, argumentOutOfRange}
 use Rattle.numbers.specs.Profile.{optionOne, optionTwo, profileIn}
+use Rattle.selector.specs.Answer.{outgoingCodes, outgoingWords}
+use Rattle.due.specs.Next.{nextDue}
 use Rattle.events.specs.Sequence.{stateAfter}
 use Rattle.events.specs.Past.{recorded}
 use Rattle.events.specs.Told.{answerBy, codesBy, wordsBy}
@@ -20,24 +22,23 @@ use Rattle.unit.specs.declared.Half.the-variants as H
 use Rattle.unit.specs.Unit.{Addressed, UnitSequence, unitStartNumber, ownEvents, ownPast, ownNumber, outputBy}
 use Rattle.unit.specs.Sequence.{unitAfter, halfNumber}
 use Rattle.unit.specs.Claims.{HalfRight, OneTime, RefusalsLeave, OutputRight}
-use Rattle.card.specs.Flat.{flatAnswer, selectorOf}
-use Rattle.card.specs.Card.{namesOption, cardCodes, cardWords, cardDue}
-use Rattle.card.specs.Sound.{cardSound}
-use Rattle.unitcard.specs.declared.UnitCard.{UnitCard}
-use Rattle.unitcard.specs.Flat.{stationHalf, numberOfTo, cardIn, unitOf, unitCardOf, withNumbers}
-use Rattle.unitcard.specs.UnitCard.{freshUnitCard, startUnitCard, stepUnitCard}
+use Rattle.unit.specs.Kept.{freshUnit}
+use Rattle.card.specs.Lent.{namesOption}
+use Rattle.card.specs.Sound.{isSound}
+use Rattle.card.specs.Calls.{lentAfter}
+use Rattle.unitcard.specs.Lent.{LentUnit, stationHalf, numberOfTo, watchIn, squelchedIn, sourceIn, unitIn, unitHeld, withNumbers, startLentUnit, stepLentUnit}
 
 -- a unit after a call
-abbrev pub calledUnit : UnitCard → Addressed → UnitCard
-calledUnit flat addressed =
+abbrev pub calledUnit : LentUnit → Addressed → LentUnit
+calledUnit lent addressed =
     let event = addressed .given .event in
-    stepUnitCard flat (numberOfTo (addressed .to)) (event .kind) (event .time) (event .input) (event .argument)
+    stepLentUnit lent (numberOfTo (addressed .to)) (event .kind) (event .time) (event .input) (event .argument)
     (addressed .given .frame)
 
 -- what C holds after the calls, the latest first
-unfoldable pub unitCardAfter : Quality → UnitSequence → UnitCard
-unitCardAfter minimum (started profile) = freshUnitCard profile minimum
-unitCardAfter minimum (addressed following earlier) = calledUnit (unitCardAfter minimum earlier) addressed
+unfoldable pub unitLentAfter : Quality → UnitSequence → LentUnit
+unitLentAfter minimum (started profile) = unitHeld accepted accepted (freshUnit profile minimum)
+unitLentAfter minimum (addressed following earlier) = calledUnit (unitLentAfter minimum earlier) addressed
 
 -- the number in a half's latest answer; a fresh unit has that of an accepted event
 unfoldable pub halfLatestNumber : Quality → Half → UnitSequence → ℕ
@@ -50,55 +51,57 @@ halfLatestBy half (started profile) = accepted
 halfLatestBy half (addressed following earlier) = ownNumber half addressed earlier
 
 -- a start in C's hands: where calls in a row begin
-pub record UnitStartRight (flat : UnitCard) (option place marks minimum : ℕ) : Type 0 where
+pub record UnitStartRight (lent : LentUnit) (option place marks minimum : ℕ) : Type 0 where
   -- "otherwise 6 and no start": the unit is as it was, but for the numbers
   pub refused : unitStartNumber (profileIn option place marks) (quality minimum) ≢ accepted
-      → startUnitCard flat option place marks minimum ≡ withNumbers flat argumentOutOfRange
+      → startLentUnit lent option place marks minimum ≡ withNumbers lent argumentOutOfRange
   -- nor does a number that is no option's start one
   pub neither : option ≢ optionOne → option ≢ optionTwo
-      → startUnitCard flat option place marks minimum ≡ withNumbers flat argumentOutOfRange
+      → startLentUnit lent option place marks minimum ≡ withNumbers lent argumentOutOfRange
   -- any other start leaves a fresh unit of its profile and minimum, whatever the unit held
   pub starts : namesOption option ≡ true → unitStartNumber (profileIn option place marks) (quality minimum) ≡ accepted
-      → startUnitCard flat option place marks minimum ≡
-      unitCardAfter (quality minimum) (started (profileIn option place marks))
+      → startLentUnit lent option place marks minimum ≡
+      unitLentAfter (quality minimum) (started (profileIn option place marks))
 
 -- calls in a row are the unit's steps in a row
-pub record UnitCardRight (minimum : Quality) (sequence : UnitSequence) : Type 0 where
-  pub unit : unitOf (unitCardAfter minimum sequence) ≡ unitAfter minimum sequence
-  pub whole : unitCardAfter minimum sequence ≡
-      unitCardOf (halfLatestNumber minimum H.Equipment sequence) (halfLatestNumber minimum H.Station sequence)
+pub record UnitLentRight (minimum : Quality) (sequence : UnitSequence) : Type 0 where
+  pub unit : unitIn (unitLentAfter minimum sequence) ≡ unitAfter minimum sequence
+  pub whole : unitLentAfter minimum sequence ≡
+      unitHeld (halfLatestNumber minimum H.Equipment sequence) (halfLatestNumber minimum H.Station sequence)
       (unitAfter minimum sequence)
   -- a number that is no half's: the unit is as it was, but for the numbers
   pub neither : (half kind time input argument : ℕ) (frame : List ℕ) → stationHalf < half
-      → stepUnitCard (unitCardAfter minimum sequence) half kind time input argument frame ≡
-      withNumbers (unitCardAfter minimum sequence) argumentOutOfRange
+      → stepLentUnit (unitLentAfter minimum sequence) half kind time input argument frame ≡
+      withNumbers (unitLentAfter minimum sequence) argumentOutOfRange
 
 -- a half in C's hands: the selector after its own events, and what C reads of it is what has happened to it
-pub record HalfCardRight (minimum : Quality) (half : Half) (sequence : UnitSequence) : Type 0 where
-  pub state : selectorOf (cardIn half (unitCardAfter minimum sequence)) ≡ stateAfter (ownEvents half sequence)
-  pub answer : cardIn half (unitCardAfter minimum sequence) .answer ≡
-      flatAnswer (answerBy (halfLatestBy half sequence) (ownPast half sequence))
-  pub codes : cardCodes (cardIn half (unitCardAfter minimum sequence)) .codes ≡ codesBy (ownPast half sequence)
-  pub words : cardWords (cardIn half (unitCardAfter minimum sequence)) .words ≡ wordsBy (ownPast half sequence)
+pub record HalfLentRight (minimum : Quality) (half : Half) (sequence : UnitSequence) : Type 0 where
+  pub state : watchIn half (unitLentAfter minimum sequence) .state ≡ stateAfter (ownEvents half sequence)
+  pub answer : watchIn half (unitLentAfter minimum sequence) .answer ≡
+      answerBy (halfLatestBy half sequence) (ownPast half sequence)
+  pub codes : outgoingCodes (watchIn half (unitLentAfter minimum sequence) .state) ≡ codesBy (ownPast half sequence)
+  pub words : outgoingWords (watchIn half (unitLentAfter minimum sequence) .state) ≡ wordsBy (ownPast half sequence)
+  -- it is the state of a card by itself after the half's own events: what is shown of the calls that only read a card
+  -- holds of either half
+  pub alone : watchIn half (unitLentAfter minimum sequence) .state ≡ lentAfter (ownEvents half sequence) .state
   -- document 02, L3: when something is next due of that half
-  pub next : NextRight (recorded (ownEvents half sequence)) (cardDue (cardIn half (unitCardAfter minimum sequence)))
+  pub next : NextRight (recorded (ownEvents half sequence)) (nextDue (watchIn half (unitLentAfter minimum sequence) .state))
   -- a half that was kept is told to be sound
-  pub sound : cardSound (cardIn half (unitCardAfter minimum sequence)) ≡ 1
+  pub sound : isSound (watchIn half (unitLentAfter minimum sequence)) ≡ 1
   -- all that holds of the half, of its numbers and of what its refusals leave
   pub halfRight : HalfRight minimum half sequence
   pub oneTime : (addressed : Addressed) → OneTime minimum half addressed sequence
   pub refusalsLeave : (addressed : Addressed) → RefusalsLeave minimum half addressed sequence
 
 -- the station output in C's hands: by what has happened to the station's selector
-pub record OutputCardRight (minimum : Quality) (sequence : UnitSequence) : Type 0 where
-  pub squelched :
-      unitCardAfter minimum sequence .squelched ≡ flag (outputBy minimum (ownPast H.Station sequence) .squelched)
-  pub source : unitCardAfter minimum sequence .source ≡ outputBy minimum (ownPast H.Station sequence) .source
+pub record OutputLentRight (minimum : Quality) (sequence : UnitSequence) : Type 0 where
+  pub squelched : squelchedIn (unitLentAfter minimum sequence)
+      ≡ flag (outputBy minimum (ownPast H.Station sequence) .squelched)
+  pub source : sourceIn (unitLentAfter minimum sequence) ≡ outputBy minimum (ownPast H.Station sequence) .source
   pub outputRight : OutputRight minimum sequence
 
 -- "in two runs of equal length and times, differing only in the commands given to one selector, the other's answers are
--- equal": the other's whole card is, and the output where the station is the other
-pub record SameCards (minimum : Quality) (half : Half) (one two : UnitSequence) : Type 0 where
-  pub card : cardIn half (unitCardAfter minimum one) ≡ cardIn half (unitCardAfter minimum two)
-  pub squelched : half ≡ H.Station → unitCardAfter minimum one .squelched ≡ unitCardAfter minimum two .squelched
-  pub source : half ≡ H.Station → unitCardAfter minimum one .source ≡ unitCardAfter minimum two .source
+-- equal": all that is held of the other is, and what is sent where the station is the other
+pub record SameLent (minimum : Quality) (half : Half) (one two : UnitSequence) : Type 0 where
+  pub watch : watchIn half (unitLentAfter minimum one) ≡ watchIn half (unitLentAfter minimum two)
+  pub sent : half ≡ H.Station → unitLentAfter minimum one .sent ≡ unitLentAfter minimum two .sent

@@ -1,51 +1,51 @@
-// The station clock unit in C's hands: document 02, L13. Its state as a flat struct of numbers, and
-// what each call does with it, by value. `exports` has what C calls; the header is
-// include/nurrispane.h.
+// The station clock unit in C's hands: document 02, L13. Five arrays of numbers for each half, as a
+// card has them, and three octets for the station output, lent by C and changed in place.
+// `exports` has what C calls; the header is include/nurrispane.h.
 //
-// C holds a `UnitCard` between events and passes on what it was given. The numbers in it may be
-// anything that their types hold: any is safe, and the inputs that it then names are 0 to 15 or
-// 255.
-// No public function has a `requires`.
+// The numbers in the arrays may be anything that their types hold: any are safe, and the inputs that
+// a unit names after a step are 0 to 15 or 255. No public function has a `requires`.
 pub mod exports;
 
-use card::Card;
-use card::card_of;
-use card::names_option;
-use card::read_for;
-use card::selector_of;
-use card::with_number;
-use due::next_due;
-use numbers::ACCEPTED;
-use numbers::ARGUMENT_OUT_OF_RANGE;
+use frame::FrameRead;
+use inplace::SMALL;
+use inplace::TIMES;
+use inplace::WORDS;
+use inplace::answer_at;
+use inplace::mode_at;
+use inplace::next_due;
+use inplace::profile_at;
+use inplace::start;
 use numbers::Event;
-use numbers::Profile;
-use numbers::Quality;
-use numbers::profile_in;
-use selector::Selector;
+use numbers::kind::KIND_TICK;
+use numbers::profile::Profile;
+use numbers::quality::Quality;
+use numbers::refusal::ACCEPTED;
+use numbers::refusal::FRAME_LENGTH;
+use onestep::step_read;
+use onestep::watch::DUE;
+use onestep::watch::TOLD;
+use onestep::watch::put_number;
+use onestep::watch::tell;
 use unit::Half;
-use unit::Unit;
-use unit::unit_start_number;
+use unit::source_by;
+use unit::squelches;
 ghost use mathlib.Core.Path.{_≡_};
-ghost use Rattle.unitcard.specs.Flat.{halfIn, halfCard, unitOf, unitCardOf, withNumbers};
-ghost use Rattle.unitcard.specs.UnitCard.{freshUnitCard, startUnitCard, stepUnitCard};
+ghost use Rattle.selector.specs.declared.Selector.{Selector};
+ghost use Rattle.selector.specs.State.{freshSelector};
+ghost use Rattle.numbers.specs.Refusal.{accepted};
+ghost use Rattle.inplace.specs.Lists.{selectorAt};
+ghost use Rattle.numbers.specs.Quality.{quality};
+ghost use Rattle.onestep.specs.Watched.{watchHeld, watchAt};
+ghost use Rattle.unit.specs.Kept.{halfStep};
+ghost use Rattle.card.specs.Lent.{withNumber};
+ghost use Rattle.unitcard.specs.Lent.{halfIn, halfHeld, steppedHeld, sentBy};
 
 // The station half, as C numbers it, and the last; 0 is the equipment's.
 const STATION: u8 = 1;
 
-// The unit: a card for each selector, with its answer; the worst quality that the station output
-// still carries; and what that output sends: 1 where it squelches, and its source. No count of due
-// moments is kept: `served` is 0 in both cards. The spare ones, 0 in what is handed out, stand
-// where C's layout would have a gap.
-#[repr(C)]
-pub struct UnitCard {
-    pub equipment: Card,
-    pub station: Card,
-    pub minimum: u8,
-    pub squelched: u8,
-    pub source: u8,
-    pub spare: u8,
-    pub spare4: u32,
-}
+// How many octets the station output has: the worst quality that it still carries, 1 where it
+// squelches, its source.
+const SENT: usize = 3;
 
 // The half of a number.
 fn half_in(half: u8) -> Half
@@ -57,123 +57,128 @@ fn half_in(half: u8) -> Half
     Half::Equipment
 }
 
-// The card that holds a half's selector, with what is answered behind a number and when something
-// is next due of it.
-fn half_card(number: u8, state: Selector) -> Card
-    ensures { λ answer. ⌜ answer ≡ halfCard number state ⌝ }
+// What a half answers stored behind a number, with when something is next due of it. No count of
+// due moments is kept.
+fn tell_half(
+    times: &[u64; TIMES],
+    small: &[u8; SMALL],
+    words: &[u16; WORDS],
+    due: &mut [u64; DUE],
+    told: &mut [u8; TOLD],
+    number: u8,
+)
+    ensures { λ _. ⌜
+        watchAt (now (times .entry)) (now (small .entry)) (now (words .entry)) (now (due .exit))
+        (now (told .exit)) ≡
+        halfHeld number
+        (selectorAt (now (times .entry)) (now (small .entry)) (now (words .entry))) ⌝ }
 {
-    let due = next_due(state);
-    card_of(number, 0, due, state)
+    let next = next_due(times, small, words);
+    let answer = answer_at(times, small, words, number);
+    tell(due, told, next, answer, 0);
 }
 
-// The unit that its numbers hold. What its output sent is not looked at.
-fn unit_of(flat: UnitCard) -> Unit
-    ensures { λ answer. ⌜ answer ≡ unitOf flat ⌝ }
+// A half's own step: a tick at the event's time, and then the event itself where it goes there. A
+// tick has no frame, and none is looked at for it.
+fn half_step(
+    times: &mut [u64; TIMES],
+    small: &mut [u8; SMALL],
+    words: &mut [u16; WORDS],
+    goes: bool,
+    event: Event,
+    read: FrameRead,
+) -> u8
+    ensures { λ number. ⌜
+        (number ≡
+        halfStep (selectorAt (now (times .entry)) (now (small .entry)) (now (words .entry)))
+        goes event read .number) ×
+        (selectorAt (now (times .exit)) (now (small .exit)) (now (words .exit)) ≡
+        halfStep (selectorAt (now (times .entry)) (now (small .entry)) (now (words .entry)))
+        goes event read .state) ⌝ }
 {
-    let one = flat.equipment;
-    let other = flat.station;
-    let equipment = selector_of(one);
-    let station = selector_of(other);
-    Unit {
-        equipment,
-        station,
-        minimum: Quality(flat.minimum),
-    }
-}
-
-// The numbers of a unit, with what each half answers behind its number.
-fn unit_card_of(equipment: u8, station: u8, unit: Unit) -> UnitCard
-    ensures { λ answer. ⌜ answer ≡ unitCardOf equipment station unit ⌝ }
-{
-    let one = unit.equipment;
-    let other = unit.station;
-    let minimum = unit.minimum;
-    let squelched = unit.is_squelched();
-    let source = unit.source();
-    let first = half_card(equipment, one);
-    let second = half_card(station, other);
-    UnitCard {
-        equipment: first,
-        station: second,
-        minimum: minimum.0,
-        squelched: squelched as u8,
-        source,
-        spare: 0,
-        spare4: 0,
-    }
-}
-
-// A unit with another number in both answers, all else as it was.
-fn with_numbers(flat: UnitCard, number: u8) -> UnitCard
-    ensures { λ answer. ⌜ answer ≡ withNumbers flat number ⌝ }
-{
-    let one = flat.equipment;
-    let other = flat.station;
-    let first = with_number(one, number);
-    let second = with_number(other, number);
-    UnitCard {
-        equipment: first,
-        station: second,
-        minimum: flat.minimum,
-        squelched: flat.squelched,
-        source: flat.source,
-        spare: flat.spare,
-        spare4: flat.spare4,
-    }
-}
-
-// A fresh unit of a profile, with a minimum.
-fn fresh_unit_card(profile: Profile, minimum: Quality) -> UnitCard
-    ensures { λ answer. ⌜ answer ≡ freshUnitCard profile minimum ⌝ }
-{
-    let unit = Unit::fresh(profile, minimum);
-    unit_card_of(ACCEPTED, ACCEPTED, unit)
-}
-
-// A unit started with a profile and a minimum: a fresh one; or, where the start is refused, the
-// unit as it was but for the numbers in its answers.
-fn start_unit_card(flat: UnitCard, option: u8, place: u8, marks: u16, minimum: u8) -> UnitCard
-    ensures { λ answer. ⌜ answer ≡ startUnitCard flat option place marks minimum ⌝ }
-{
-    if !names_option(option) {
-        return with_numbers(flat, ARGUMENT_OUT_OF_RANGE);
-    }
-    let profile = profile_in(option, place, marks);
-    let worst = Quality(minimum);
-    let number = unit_start_number(profile, worst);
-    if number == ACCEPTED {
-        return fresh_unit_card(profile, worst);
-    }
-    with_numbers(flat, number)
-}
-
-// One event with a lent frame, sent to a half: the unit after it, with the answers. A number that is
-// no half's is refused with 6, and nothing happens.
-fn step_unit_card(
-    flat: UnitCard,
-    half: u8,
-    kind: u8,
-    time: u64,
-    input: u8,
-    argument: u16,
-    frame: &[u8],
-) -> UnitCard
-    ensures { λ answer. ⌜
-        answer ≡ stepUnitCard flat half kind time input argument (now (frame .entry)) ⌝ }
-{
-    let unit = unit_of(flat);
-    if STATION < half {
-        return unit_card_of(ARGUMENT_OUT_OF_RANGE, ARGUMENT_OUT_OF_RANGE, unit);
-    }
-    let event = Event {
-        kind,
-        time,
-        input,
-        argument,
+    let tick = Event {
+        kind: KIND_TICK,
+        time: event.time,
+        input: 0,
+        argument: 0,
     };
-    let to = half_in(half);
-    let read = read_for(kind, frame);
-    let stepped = unit.step_read(to, event, read);
-    let after = stepped.unit;
-    unit_card_of(stepped.equipment, stepped.station, after)
+    let none = FrameRead::Refused(FRAME_LENGTH);
+    let ticked = step_read(times, small, words, tick, none);
+    if goes {
+        let after = step_read(times, small, words, event, read);
+        return after.number;
+    }
+    ticked.number
+}
+
+// A half's own step, and what it answers.
+fn step_half(
+    times: &mut [u64; TIMES],
+    small: &mut [u8; SMALL],
+    words: &mut [u16; WORDS],
+    due: &mut [u64; DUE],
+    told: &mut [u8; TOLD],
+    goes: bool,
+    event: Event,
+    read: FrameRead,
+)
+    ensures { λ _. ⌜
+        watchAt (now (times .exit)) (now (small .exit)) (now (words .exit)) (now (due .exit))
+        (now (told .exit)) ≡
+        steppedHeld
+        (halfStep (selectorAt (now (times .entry)) (now (small .entry)) (now (words .entry)))
+        goes event read) ⌝ }
+{
+    let number = half_step(times, small, words, goes, event, read);
+    tell_half(times, small, words, due, told, number);
+}
+
+// A fresh half of a profile, whatever its arrays held, and what it answers.
+fn start_half(
+    times: &mut [u64; TIMES],
+    small: &mut [u8; SMALL],
+    words: &mut [u16; WORDS],
+    due: &mut [u64; DUE],
+    told: &mut [u8; TOLD],
+    profile: Profile,
+)
+    ensures { λ _. ⌜
+        watchAt (now (times .exit)) (now (small .exit)) (now (words .exit)) (now (due .exit))
+        (now (told .exit)) ≡
+        halfHeld accepted (freshSelector profile) ⌝ }
+{
+    start(times, small, words, profile);
+    tell_half(times, small, words, due, told, ACCEPTED);
+}
+
+// Another number in what a half answers, all else as it was.
+fn refuse_half(due: &mut [u64; DUE], told: &mut [u8; TOLD], number: u8)
+    ensures { λ _. ⌜ ((state : Selector) →
+        watchHeld state (now (due .exit)) (now (told .exit)) ≡
+        withNumber (watchHeld state (now (due .entry)) (now (told .entry))) number) ⌝ }
+{
+    let next = due[0];
+    put_number(due, told, next, number);
+}
+
+// What the station output sends stored, by the station's selector and the minimum.
+fn send(
+    times: &[u64; TIMES],
+    small: &[u8; SMALL],
+    words: &[u16; WORDS],
+    sent: &mut [u8; SENT],
+    minimum: u8,
+)
+    ensures { λ _. ⌜
+        now (sent .exit) ≡
+        sentBy (selectorAt (now (times .entry)) (now (small .entry)) (now (words .entry)))
+        (quality minimum) ⌝ }
+{
+    let answer = answer_at(times, small, words, ACCEPTED);
+    let mode = mode_at(small);
+    let profile = profile_at(small, words);
+    let squelched = squelches(answer, mode, profile, Quality(minimum));
+    let source = source_by(squelched, answer);
+    let new = [minimum, squelched as u8, source];
+    *sent = new;
 }

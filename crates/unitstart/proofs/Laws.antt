@@ -5,9 +5,9 @@ use mathlib.Core.List.{List}
 use mathlib.Core.Path.{_≡_, sym, ap, _∙_}
 use native.Mathlib.Omega.{arith}
 use borrow.Author.Tests.{eq-eqb, ne-eqb, lt-leb, le-leb, not-true, not-false}
-use Rattle.numbers.specs.declared.Profile.{Profile}
-use Rattle.numbers.specs.declared.Profile.the-variants as P
-use Rattle.numbers.specs.declared.Quality.{Quality}
+use Rattle.numbers.specs.declared.profile.Profile.{Profile}
+use Rattle.numbers.specs.declared.profile.Profile.the-variants as P
+use Rattle.numbers.specs.declared.quality.Quality.{Quality}
 use Rattle.numbers.specs.Profile.{limitsOf}
 use Rattle.numbers.specs.Quality.{quality}
 use Rattle.numbers.specs.Refusal.{accepted}

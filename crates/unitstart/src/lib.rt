@@ -5,9 +5,9 @@
 // What the system hands over as arguments no contract can say: `read_unit_start` promises that its
 // answer is that of some words, and `unit_start_by` which answer they have. No public function has
 // a `requires`: a word may have any length and any content.
-use numbers::ACCEPTED;
-use numbers::Profile;
-use numbers::Quality;
+use numbers::profile::Profile;
+use numbers::quality::Quality;
+use numbers::refusal::ACCEPTED;
 use start::StartRead;
 use start::is_decimal;
 use start::is_option_word;

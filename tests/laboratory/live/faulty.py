@@ -82,7 +82,7 @@ def build(one):
     if applied.returncode != 0:
         raise AssertionError("%s.patch: %s" % (one.patch, applied.stdout + applied.stderr))
     sources = [str(path) for path in sorted((room / "livecard").glob("*.c"))]
-    libraries = [str(LIBRARIES / name) for name in ("liblentunit.a", "liblentcard.a")]
+    libraries = [str(LIBRARIES / name) for name in ("libunitcard.a", "libcard.a")]
     new = room / "card"
     made = subprocess.run([*CALL, *one.flags, *sources, *libraries, "-pthread", "-o", str(new)], capture_output=True, text=True)
     if made.returncode != 0:

@@ -1,6 +1,6 @@
--- `card::names_option` meets its contract: each way is a law.
--- Assumes nothing.
+-- `card::names_option` meets its contract. Assumes nothing.
 use Rattle.card.proofs.Laws.{namesOption-one, namesOption-other}
+use borrow.Author.Needs.{needs}
 use Rattle.card.proofs.names_option.Statement.{statement}
 use Rattle.card.proofs.names_option.Tie as tie
 

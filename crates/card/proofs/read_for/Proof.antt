@@ -1,5 +1,4 @@
--- `card::read_for` meets its contract: each way is a law.
--- Assumes nothing.
+-- `card::read_for` meets its contract. Assumes nothing.
 use Rattle.card.proofs.Laws.{readFor-laws}
 use borrow.Author.Needs.{needs}
 use Rattle.card.proofs.read_for.Statement.{statement}

@@ -1,5 +1,4 @@
--- `card::write_port` meets its contract: each way is a law.
--- Assumes nothing.
+-- `card::write_port` meets its contract. Assumes nothing.
 use Rattle.card.proofs.Laws.{writePort-laws}
 use borrow.Author.Needs.{needs}
 use Rattle.card.proofs.write_port.Statement.{statement}
@@ -11,11 +10,8 @@ wide-requires c κs = search needs
 returns : tie.Need-returns
 returns c = search writePort-laws
 
-selector-of-requires : tie.Need-selector-of-requires
-selector-of-requires c κs = search needs
-
-outgoing-codes-requires : tie.Need-outgoing-codes-requires
-outgoing-codes-requires c κs = search needs
+codes-at-requires : tie.Need-codes-at-requires
+codes-at-requires c κs = search needs
 
 array-read-write-frame : tie.Need-array-read-write-frame
 array-read-write-frame c = search needs
@@ -38,8 +34,7 @@ write-port-spec =
     (tie.spec
     wide-requires
     returns
-    selector-of-requires
-    outgoing-codes-requires
+    codes-at-requires
     array-read-write-frame
     write-frame-requires
     number-of-write-requires

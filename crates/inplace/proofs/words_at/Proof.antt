@@ -1,5 +1,5 @@
 -- `inplace::words_at` meets its contract. Assumes nothing.
-use Rattle.numbers.specs.declared.Profile.{Profile}
+use Rattle.numbers.specs.declared.profile.Profile.{Profile}
 use Rattle.numbers.specs.Codes.{wordOfQuality}
 use Rattle.selector.specs.Answer.{outgoingWord, outgoingWords}
 use Rattle.inplace.specs.Lists.{selectorAt}

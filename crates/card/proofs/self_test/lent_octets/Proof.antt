@@ -1,6 +1,6 @@
--- `card::self_test::lent_octets` meets its contract: each way is a law.
--- Assumes nothing.
+-- `card::self_test::lent_octets` meets its contract. Assumes nothing.
 use Rattle.card.proofs.Tested.{lentOctets-laws}
+use borrow.Author.Needs.{needs}
 use Rattle.card.proofs.self_test.lent_octets.Statement.{statement}
 use Rattle.card.proofs.self_test.lent_octets.Tie as tie
 

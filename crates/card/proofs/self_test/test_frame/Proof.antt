@@ -1,5 +1,4 @@
--- `card::self_test::test_frame` meets its contract: it is what writing leaves.
--- Assumes nothing.
+-- `card::self_test::test_frame` meets its contract. Assumes nothing.
 use Rattle.card.specs.SelfTest.{testFrame}
 use borrow.Author.Needs.{needs}
 use Rattle.card.proofs.self_test.test_frame.Statement.{statement}

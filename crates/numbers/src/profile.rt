@@ -1,0 +1,161 @@
+// What is chosen once, at the fresh start: the option, with the place of PROV and the marks, and
+// what the options differ in.
+use crate::quality::FAILED;
+use crate::quality::INVALID;
+use crate::quality::Quality;
+use crate::quality::SEC;
+use crate::quality::ST3;
+use crate::quality::ST3E;
+use crate::quality::TNC;
+use crate::refusal::ACCEPTED;
+use crate::refusal::ARGUMENT_OUT_OF_RANGE;
+ghost use mathlib.Core.Path.{_≡_};
+ghost use Rattle.numbers.specs.Profile.{profileIn, optionOf, limitsOf, placeOf, startNumber, marksOf, floorIn, toldBy, numberInOne, paperNumber};
+
+// The options, as a line's byte and C number them.
+pub const OPTION_ONE: u8 = 1;
+
+pub const OPTION_TWO: u8 = 2;
+
+// The last place of PROV.
+const LAST_PLACE: u8 = 8;
+
+// What is chosen once, at the fresh start; option II with the place of PROV and the marks of the
+// first-generation ports.
+pub enum Profile {
+    OptionOne,
+    OptionTwo(u8, u16),
+}
+
+// What the options differ in: the last fixed quality, floor and kind of input, whether words come,
+// and what a clock by itself tells.
+pub struct Limits {
+    pub fixed: u16,
+    pub floor: u16,
+    pub input: u16,
+    pub words: bool,
+    pub own: Quality,
+}
+
+// What the options differ in.
+pub fn limits_of(profile: Profile) -> Limits
+    ensures { λ answer. ⌜ answer ≡ limitsOf profile ⌝ }
+{
+    match profile {
+        Profile::OptionOne => Limits {
+            fixed: 5,
+            floor: 4,
+            input: 1,
+            words: false,
+            own: SEC,
+        },
+        Profile::OptionTwo(_, _) => Limits {
+            fixed: 10,
+            floor: 8,
+            input: 2,
+            words: true,
+            own: ST3,
+        },
+    }
+}
+
+// The profile of an option's number: 2 with the place and the marks; any other number is option I,
+// and neither is looked at.
+pub fn profile_in(option: u8, place: u8, marks: u16) -> Profile
+    ensures { λ answer. ⌜ answer ≡ profileIn option place marks ⌝ }
+{
+    if option == OPTION_TWO {
+        return Profile::OptionTwo(place, marks);
+    }
+    Profile::OptionOne
+}
+
+// The number of a profile's option.
+pub fn option_of(profile: Profile) -> u8
+    ensures { λ answer. ⌜ answer ≡ optionOf profile ⌝ }
+{
+    match profile {
+        Profile::OptionOne => OPTION_ONE,
+        Profile::OptionTwo(_, _) => OPTION_TWO,
+    }
+}
+
+// The place of PROV, 0 for none.
+pub fn place_of(profile: Profile) -> u8
+    ensures { λ answer. ⌜ answer ≡ placeOf profile ⌝ }
+{
+    match profile {
+        Profile::OptionOne => 0,
+        Profile::OptionTwo(place, _) => place,
+    }
+}
+
+// The number that a start of a profile is answered with: 6 where the place of PROV is above 8, and
+// then there is none.
+pub fn start_number(profile: Profile) -> u8
+    ensures { λ answer. ⌜ answer ≡ startNumber profile ⌝ }
+{
+    if LAST_PLACE < place_of(profile) {
+        return ARGUMENT_OUT_OF_RANGE;
+    }
+    ACCEPTED
+}
+
+// The marks of the first-generation ports, bit i for port i.
+pub fn marks_of(profile: Profile) -> u16
+    ensures { λ answer. ⌜ answer ≡ marksOf profile ⌝ }
+{
+    match profile {
+        Profile::OptionOne => 0,
+        Profile::OptionTwo(_, marks) => marks,
+    }
+}
+
+// An input's floor: as set, or fresh.
+pub fn floor_in(own: Quality, floor: u8) -> u8
+    ensures { λ answer. ⌜ answer ≡ floorIn own floor ⌝ }
+{
+    if floor == 0 {
+        return own.0;
+    }
+    floor
+}
+
+// What a port tells of a quality: a first-generation one has ST3 for TNC and ST3E.
+pub fn told_by(marked: bool, quality: Quality) -> Quality
+    ensures { λ answer. ⌜ answer ≡ toldBy marked quality ⌝ }
+{
+    if marked {
+        if quality.0 == TNC.0 {
+            return ST3;
+        }
+        if quality.0 == ST3E.0 {
+            return ST3;
+        }
+        return quality;
+    }
+    quality
+}
+
+// A quality's number in document 01: 6 for invalid and 7 for failed.
+fn number_in_one(quality: Quality) -> u8
+    ensures { λ answer. ⌜ answer ≡ numberInOne quality ⌝ }
+{
+    if quality.0 == INVALID.0 {
+        return 6;
+    }
+    if quality.0 == FAILED.0 {
+        return 7;
+    }
+    quality.0
+}
+
+// A quality's number on paper, where it is shown.
+pub fn paper_number(profile: Profile, quality: Quality) -> u8
+    ensures { λ answer. ⌜ answer ≡ paperNumber profile quality ⌝ }
+{
+    match profile {
+        Profile::OptionOne => number_in_one(quality),
+        Profile::OptionTwo(_, _) => quality.0,
+    }
+}

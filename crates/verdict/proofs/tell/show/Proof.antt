@@ -1,0 +1,26 @@
+-- `verdict::tell::show` meets its contract: each way is a law.
+-- Assumes nothing.
+use Rattle.verdict.proofs.Laws.{told-laws}
+use borrow.Author.Needs.{needs}
+use Rattle.verdict.proofs.tell.show.Statement.{statement}
+use Rattle.verdict.proofs.tell.show.Tie as tie
+
+place-of-requires : tie.Need-place-of-requires
+place-of-requires c κs = search needs
+
+last-at-requires : tie.Need-last-at-requires
+last-at-requires c κs = search needs
+
+shown-requires : tie.Need-shown-requires
+shown-requires c κs = search needs
+
+write-stretch-requires : tie.Need-write-stretch-requires
+write-stretch-requires c κs = search needs
+
+returns : tie.Need-returns
+returns c = search told-laws
+
+pub show-spec : {M : Type 1} → statement M
+show-spec =
+    tie.close
+    (tie.spec place-of-requires last-at-requires shown-requires write-stretch-requires returns)
