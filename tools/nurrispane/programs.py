@@ -204,22 +204,23 @@ def opened(path):
 
 # ---- programs that take logs in files
 
-# The most octets of such a log.
-LARGEST_LOG = 1_048_576
+# The most octets of a log that a program holds whole, and how many are read at a time.
+LARGEST_LOG, PIECE = 1_048_576, 1 << 20
 
 
-def read_log(path):
-    """A log that such a program can hold; "-" is standard input."""
+def read_log(path, most=LARGEST_LOG):
+    """A log of no more octets than a program can hold, or of any length where it reads a chunk after another (None); "-" is standard input."""
+    pieces, count = [], 0
     with opened(path) as source:
-        data = b""
         try:
-            while len(data) <= LARGEST_LOG and (piece := source.read(LARGEST_LOG + 1 - len(data))):
-                data += piece
+            while (most is None or count <= most) and (piece := source.read(PIECE if most is None else most + 1 - count)):
+                pieces.append(piece)
+                count += len(piece)
         except OSError as error:
             raise Trouble("%s cannot be read: %s" % (name_of(path), reason(error))) from error
-    if len(data) > LARGEST_LOG:
-        raise Trouble("%s has more than %s octets, which is more than the program holds" % (name_of(path), format(LARGEST_LOG, ",")))
-    return data
+    if most is not None and count > most:
+        raise Trouble("%s has more than %s octets, which is more than the program holds" % (name_of(path), format(most, ",")))
+    return b"".join(pieces)
 
 
 def on_files(name, logs, *numbers, first=()):

@@ -4,8 +4,7 @@ with what each answer means.
 Whether they differ the proved program says, which lists lines by their numbers; its list comes last. For the eye, lines are first matched by
 time and content, so that a line that one recorder lost shifts nothing: shown are the lines that only one log has, and matched lines
 that are answered differently. Exit status 0: the answers are the same; 1: they differ; 2: trouble, also where nothing
-differs and no line of a log is formed. A log of more than 1,048,576
-octets is trouble: the program can't hold it."""
+differs and no line of a log is formed."""
 
 from nurrispane import answers, logs, matching, profiles, programs, words
 from nurrispane.files import FINDING, FINE, Trouble, name_of, write
@@ -30,7 +29,7 @@ def run(options):
     if options.first == options.second == "-":
         raise Trouble("standard input is one log, not two")
     names = [name_of(options.first), name_of(options.second)]
-    recorded = [programs.read_log(path) for path in (options.first, options.second)]
+    recorded = [programs.read_log(path, None) for path in (options.first, options.second)]
     for path, log in zip((options.first, options.second), recorded):
         logs.word_on_old_form("compare", path, log)
     number, numbers = differing(recorded)
