@@ -204,7 +204,7 @@ def opened(path):
 
 # ---- programs that take logs in files
 
-# The most octets of such a log.
+# The most octets of a log that compare and salvage hold.
 LARGEST_LOG = 1_048_576
 
 
@@ -220,6 +220,15 @@ def read_log(path):
     if len(data) > LARGEST_LOG:
         raise Trouble("%s has more than %s octets, which is more than the program holds" % (name_of(path), format(LARGEST_LOG, ",")))
     return data
+
+
+def read_whole_log(path):
+    """A log of any length; "-" is standard input."""
+    with opened(path) as source:
+        try:
+            return b"".join(iter(lambda: source.read(LARGEST_LOG), b""))
+        except OSError as error:
+            raise Trouble("%s cannot be read: %s" % (name_of(path), reason(error))) from error
 
 
 def on_files(name, logs, *numbers, first=()):
