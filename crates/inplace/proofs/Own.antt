@@ -28,7 +28,7 @@ use Rattle.selector.proofs.Filled.{filled, filled-at, filled-turn, filled-done}
 use Rattle.due.specs.Next.{never, lesser, sumOrNever, ifLater, timerDue, frameDue, nextOf, nextAmong, nextOfAll, nextDue}
 use Rattle.due.proofs.Calm.{movedTo, decided-twice, decided-moved}
 use Rattle.due.proofs.Every.{Every, every-from}
-use Rattle.due.proofs.Laws.{nextAmong-more}
+use Rattle.due.proofs.DueLaws.{nextAmong-more}
 use Rattle.due.proofs.Millisecond.{lesser-one, lesser-other, lesser-either}
 use Rattle.inplace.specs.Lists.{inputAt, selectorAt, withInput, withInputs, withTime}
 use Rattle.inplace.specs.Own.{isTimely, allTimely, ownTimes, reach, Awaits, Awaiting, PassesAlike, AllPassAlike}
@@ -524,7 +524,7 @@ candidates-alike : (profile : Profile) (inputs : List Input) (mode : Bool) (time
 unfolding candidateFor inputBroughtTo
 candidates-alike profile [] mode time all = refl
 candidates-alike profile (input ∷ inputs) mode time all = λ j.
-    candidateOf (placeOf profile) (floorIn (limitsOf profile .own) (input .settings .floor)) (all .0 j)
+    candidateOf (placeOf profile) (floorIn (limitsOf profile .freerunning) (input .settings .floor)) (all .0 j)
     (input .settings .priority)
     (input .settings .locked)
     mode

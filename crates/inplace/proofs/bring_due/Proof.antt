@@ -1,5 +1,5 @@
--- `inplace::bring_due` meets its contract: a turn of the loop brings one input to the time, or finds it there, and makes
--- its own time anew. Assumes nothing.
+-- `inplace::bring_due` meets its contract: a turn of the loop brings one input to the time, or finds it there, and
+-- makes its own time anew. Assumes nothing.
 use Prim.Native.Nat.{ℕ, _<_, _≤_, _-_}
 use mathlib.Core.Bool.{true}
 use mathlib.Core.List.{map}
@@ -10,7 +10,7 @@ use Rattle.input.specs.declared.Input.{Input}
 use Rattle.input.specs.Record.{freshInput, inputBroughtTo}
 use Rattle.selector.proofs.Filled.{filled}
 use Rattle.due.specs.Next.{nextAmong}
-use Rattle.due.proofs.Laws.{nextAmong-laws, nextAmong-all}
+use Rattle.due.proofs.DueLaws.{nextAmong-laws, nextAmong-all}
 use Rattle.inplace.specs.Lists.{inputAt, selectorAt}
 use Rattle.inplace.specs.Own.{PassesAlike}
 use Rattle.inplace.proofs.Turn.{changed, turn, done, inputs-length}
