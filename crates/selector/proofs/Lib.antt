@@ -2,4 +2,5 @@
 -- definitions, way by way.
 pub mod Filled
 pub mod Ports
+pub mod Scanning
 pub mod Laws

@@ -1,6 +1,6 @@
 -- `switch::decide` meets its contract: the law of its one way.
 -- Assumes nothing.
-use Rattle.switch.proofs.Laws.{decide-made}
+use Rattle.switch.proofs.Laws.{decideBy-made}
 use borrow.Author.Needs.{needs}
 use Rattle.switch.proofs.decide.Statement.{statement}
 use Rattle.switch.proofs.decide.Tie as tie
@@ -18,8 +18,9 @@ is-held-requires : tie.Need-is-held-requires
 is-held-requires c κs = search needs
 
 returns : tie.Need-returns
-returns c = search decide-made
+returns c = search decideBy-made
 
 pub decide-spec : {M : Type 1} → statement M
 decide-spec =
-    tie.close (tie.spec judge-requires select-requires is-clock-locked-requires is-held-requires returns)
+    tie.close
+    (tie.spec judge-requires select-requires is-clock-locked-requires is-held-requires returns)
