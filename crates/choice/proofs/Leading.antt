@@ -1,4 +1,5 @@
--- The choice in one scan: the one that leads is what `specs/Choice` computes, with its rank and priority. Assumes nothing.
+-- The choice in one scan: the one that leads is what `specs/Choice` computes, with its rank and priority. Assumes
+-- nothing.
 use Prim.Native.Nat.{ℕ, _+_, _≤_, _<_}
 use mathlib.Core.Bool.{Bool, true, false, not, _&&_}
 use mathlib.Core.List.{List}
@@ -21,7 +22,7 @@ use Rattle.choice.specs.Choice.{Chosen, Best, seeded, offered, scanned, 
 use Rattle.choice.specs.Leader.{lead, noLeader, seed, bestOf, isPassed, offer, leaderAmong, chosenAmong, SeenAt}
 use Rattle.choice.proofs.Choosing.{choose-chosen, selected-injective, nothing-selected}
 use Rattle.choice.proofs.Ranks.{isBetter-ranking, lower-found, lower-none}
-use Rattle.choice.proofs.Laws.{isBetter-rank}
+use Rattle.choice.proofs.ChoiceLaws.{isBetter-rank}
 
 module _ (candidates : List Candidate) where
   abbrev scannedAmong : ℕ → Selection → Selection

@@ -40,28 +40,28 @@ switch-seen candidates (W.Forced on) own o = λ inside. o
 switch-seen candidates (W.Manual on) own o = λ inside. o
 
 -- a choice made of what a state on an input has, and held
-pub chosen : (state after : Selector) (choice : AfterChoice) (switch : Switch) (selection : Selection) (held : Bool)
+pub chosen : (state after : Selector) (choice : AfterChoice) (switch : Switch) (selection : Selection) (waslocked : Bool)
     (number : ℕ) (own : Candidate) (leader : Leader)
     → On (state .switch)
     → length (state .inputs) ≡ 16
     → after ≡ withChoice state (heldChoice choice)
-    → choice ≡ decideBy switch own leader held
+    → choice ≡ decideBy switch own leader waslocked
     → leader ≡ chosenAmong (seenAll state) selection
     → own ≡ getD (seenAll state) number nobody
     → number ≡ switchInput switch
-    → switch ≡ state .switch → selection ≡ state .selection → held ≡ state .held
+    → switch ≡ state .switch → selection ≡ state .selection → waslocked ≡ state .waslocked
     → after ≡ decided state
 unfolding decided
-chosen state after choice switch selection held number own leader on sixteen stored c l o n s e h =
+chosen state after choice switch selection waslocked number own leader on sixteen stored c l o n s e h =
     stored ∙
     ap (withChoice state)
     (ap heldChoice
     (made ∙ (λ j. decide (seenAll state) (s j) (e j) (h j))) ∙
-    choice-again (seenAll state) (state .switch) (state .selection) (state .held) on)
+    choice-again (seenAll state) (state .switch) (state .selection) (state .waslocked) on)
   where
-    made : choice ≡ decide (seenAll state) switch selection held
+    made : choice ≡ decide (seenAll state) switch selection waslocked
     made =
-        decided-one (state .profile) (state .mode) (state .inputs) switch selection held own leader choice
+        decided-one (state .profile) (state .mode) (state .inputs) switch selection waslocked own leader choice
         (switch-seen (seenAll state) switch own (o ∙ ap (λ x. getD (seenAll state) x nobody) n))
         l
         c
@@ -90,7 +90,7 @@ pub fresh-stored : (state inputs timed commanded chosen after : Selector) (profi
     → timed ≡ withTime inputs 0
     → commanded ≡ withCommand timed true (heldSwitch W.Nothing)
     → chosen
-    ≡ withChoice commanded (heldChoice (record { switch = W.Nothing; selection = S.Nothing; held = false }))
+    ≡ withChoice commanded (heldChoice (record { switch = W.Nothing; selection = S.Nothing; waslocked = false }))
     → after ≡ withProfile chosen profile
     → after ≡ freshSelector profile
 unfolding switchOf selectionOf isSelected switchNumber switchInput selectedNumber
@@ -100,7 +100,7 @@ fresh-stored state inputs timed commanded chosen after profile i t d c p =
     (c ∙
     ap
     (λ (one : Selector). withChoice one
-    (heldChoice (record { switch = W.Nothing; selection = S.Nothing; held = false })))
+    (heldChoice (record { switch = W.Nothing; selection = S.Nothing; waslocked = false })))
     (d ∙
     ap (λ (one : Selector). withCommand one true (heldSwitch W.Nothing))
     (t ∙ ap (λ (one : Selector). withTime one 0) i)))

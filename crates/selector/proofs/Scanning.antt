@@ -108,15 +108,15 @@ leader-done = scan-all
 
 -- and the choice made of it
 pub decided-one : (profile : Profile) (mode : Bool) (inputs : List Input) (switch : Switch) (before : Selection)
-    (held : Bool) (own : Candidate) (leader : Leader) (choice : AfterChoice)
+    (waslocked : Bool) (own : Candidate) (leader : Leader) (choice : AfterChoice)
     → SeenOn (candidatesOf profile inputs mode) switch own
     → leader ≡ chosenAmong (candidatesOf profile inputs mode) before
-    → choice ≡ decideBy switch own leader held → length inputs ≡ 16
-    → choice ≡ decide (candidatesOf profile inputs mode) switch before held
-decided-one profile mode inputs switch before held own leader choice seen l c k =
-    c ∙ ap (λ x. decideBy switch own x held) l
+    → choice ≡ decideBy switch own leader waslocked → length inputs ≡ 16
+    → choice ≡ decide (candidatesOf profile inputs mode) switch before waslocked
+decided-one profile mode inputs switch before waslocked own leader choice seen l c k =
+    c ∙ ap (λ x. decideBy switch own x waslocked) l
     ∙ decideBy-decide (candidatesOf profile inputs mode) before
-    (map-length (candidateFor profile mode) inputs ∙ k) switch own held seen
+    (map-length (candidateFor profile mode) inputs ∙ k) switch own waslocked seen
 
 -- ---- candidate_in
 

@@ -64,7 +64,7 @@ pub struct Selector {
     pub selection: Selection,
     pub profile: Profile,
     pub mode: bool,
-    pub held: bool,
+    pub waslocked: bool,
 }
 
 // An input, or a fresh one where there is no such number.
@@ -102,7 +102,7 @@ pub fn candidate_for(profile: Profile, input: Input, mode: bool) -> Candidate
     let priority = seen.priority;
     let place = place_of(profile);
     let limits = limits_of(profile);
-    let own = limits.own;
+    let own = limits.freerunning;
     let floor = floor_in(own, seen.floor);
     candidate_of(place, floor, passed, priority, seen.locked, mode)
 }
@@ -178,7 +178,7 @@ impl Selector {
             selection,
             profile,
             mode: true,
-            held: false,
+            waslocked: false,
         }
     }
 
@@ -215,7 +215,7 @@ impl Selector {
         let input = self.inputs[place];
         let own = candidate_for(profile, input, self.mode);
         let leader = self.leader();
-        let choice = decide(before, own, leader, self.held);
+        let choice = decide(before, own, leader, self.waslocked);
         let switch = choice.switch;
         let selection = choice.selection;
         Selector {
@@ -225,7 +225,7 @@ impl Selector {
             selection,
             profile,
             mode: self.mode,
-            held: choice.held,
+            waslocked: choice.waslocked,
         }
     }
 
@@ -249,16 +249,16 @@ impl Selector {
         let selection = self.selection;
         let profile = self.profile;
         let limits = limits_of(profile);
-        let own = limits.own;
+        let own = limits.freerunning;
         let candidate = selected_candidate(profile, inputs, self.mode, selection);
         let quality = clock_quality(own, self.mode, candidate);
         Answer {
             number,
             selected: selected_number(selection),
-            state: clock_state(candidate.usable, self.held),
-            quality: quality.0,
-            switch: switch_number(switch),
-            on: switch_input(switch),
+            clockstate: clock_state(candidate.usable, self.waslocked),
+            clockquality: quality.0,
+            switchkind: switch_number(switch),
+            switchinput: switch_input(switch),
         }
     }
 
@@ -270,7 +270,7 @@ impl Selector {
         let selection = self.selection;
         let profile = self.profile;
         let limits = limits_of(profile);
-        let own = limits.own;
+        let own = limits.freerunning;
         let candidate = selected_candidate(profile, inputs, self.mode, selection);
         clock_quality(own, self.mode, candidate)
     }
@@ -416,13 +416,13 @@ fn selected_candidate(
 }
 
 // The clock state: locked, or whether it ever was.
-pub fn clock_state(locked: bool, held: bool) -> u8
-    ensures { λ answer. ⌜ answer ≡ clockState locked held ⌝ }
+pub fn clock_state(locked: bool, waslocked: bool) -> u8
+    ensures { λ answer. ⌜ answer ≡ clockState locked waslocked ⌝ }
 {
     if locked {
         return LOCKED;
     }
-    if held {
+    if waslocked {
         return HOLDOVER;
     }
     FREE_RUN

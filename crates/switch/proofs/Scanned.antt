@@ -20,9 +20,9 @@ use Rattle.choice.specs.Leader.{leaderAmong, chosenAmong}
 use Rattle.choice.proofs.Leading.{leader-selection, choice-eligible, choice-lowest}
 use Rattle.switch.specs.declared.Switch.{Switch}
 use Rattle.switch.specs.declared.Switch.the-variants as W
-use Rattle.switch.specs.OneChoice.{manualMayStand, judged, selectedBy, isClockLocked, isHeld, decide}
+use Rattle.switch.specs.OneChoice.{manualMayStand, judged, selectedBy, isClockLocked, wasLocked, decide}
 use Rattle.switch.specs.OneScan.{mayStand, judgedBy, selectedFrom, anySelected, isLockedBy, decideBy, SeenOn}
-use Rattle.switch.proofs.Laws.{afterOf}
+use Rattle.switch.proofs.OneChoiceLaws.{afterOf}
 
 eligible-usable : (candidate : Candidate) → isEligible candidate ≡ true → candidate .usable ≡ true
 unfolding isEligible
@@ -45,10 +45,10 @@ module _ (candidates : List Candidate) (before : Selection) where
   choice = choose (eligibleAmong candidates) (betterAmong candidates) before
 
   -- where no switch stands
-  nothing-stands : (held : Bool)
-      → afterOf W.Nothing (leader .selection) (isHeld held (anySelected (leader .selection)))
-      ≡ afterOf W.Nothing choice (isHeld held (isClockLocked candidates choice))
-  nothing-stands held =
+  nothing-stands : (waslocked : Bool)
+      → afterOf W.Nothing (leader .selection) (wasLocked waslocked (anySelected (leader .selection)))
+      ≡ afterOf W.Nothing choice (wasLocked waslocked (isClockLocked candidates choice))
+  nothing-stands waslocked =
       rw (
         leader-selection candidates choice,
         any-locked candidates choice (choice-eligible candidates before),
@@ -73,36 +73,36 @@ module _ (candidates : List Candidate) (before : Selection) where
     unfolding manualMayStand isEligible
     manual-outside number x = rw (outside number x)
 
-    module _ (on : InputNumber) (own : Candidate) (held : Bool) (is : own ≡ getD candidates (on .0) nobody)
+    module _ (on : InputNumber) (own : Candidate) (waslocked : Bool) (is : own ≡ getD candidates (on .0) nobody)
         (inside : ltb (on .0) inputCount ≡ true) where
       forced-stands : getD candidates (on .0) nobody .admitted ≡ true
-          → decideBy (W.Forced on) own leader held ≡ decide candidates (W.Forced on) before held
+          → decideBy (W.Forced on) own leader waslocked ≡ decide candidates (W.Forced on) before waslocked
       unfolding decideBy decide judgedBy judged selectedFrom selectedBy isLockedBy isClockLocked
       forced-stands a = rw (is, inside, a)
 
       manual-stands : manualMayStand candidates (on .0) ≡ true
-          → decideBy (W.Manual on) own leader held ≡ decide candidates (W.Manual on) before held
+          → decideBy (W.Manual on) own leader waslocked ≡ decide candidates (W.Manual on) before waslocked
       unfolding decideBy decide judgedBy judged selectedFrom selectedBy isLockedBy isClockLocked
       manual-stands a = rw (is, inside, stands-alike (on .0) (ltb-true (on .0) inputCount inside), a)
 
     -- the choice by one scan is the choice
-    pub decideBy-decide : (switch : Switch) (own : Candidate) (held : Bool) → SeenOn candidates switch own
-        → decideBy switch own leader held ≡ decide candidates switch before held
+    pub decideBy-decide : (switch : Switch) (own : Candidate) (waslocked : Bool) → SeenOn candidates switch own
+        → decideBy switch own leader waslocked ≡ decide candidates switch before waslocked
     unfolding decideBy decide judgedBy judged selectedFrom selectedBy isLockedBy
-    decideBy-decide W.Nothing own held seen = nothing-stands held
-    decideBy-decide (W.Forced on) own held seen =
+    decideBy-decide W.Nothing own waslocked seen = nothing-stands waslocked
+    decideBy-decide (W.Forced on) own waslocked seen =
         byBool (ltb (on .0) inputCount)
         (λ x. let is = seen (ltb-true (on .0) inputCount x) in
         byBool (getD candidates (on .0) nobody .admitted)
-        (λ a. forced-stands on own held is x a)
-        (λ a. rw (is, x, a) (nothing-stands held)))
+        (λ a. forced-stands on own waslocked is x a)
+        (λ a. rw (is, x, a) (nothing-stands waslocked)))
         (λ x. let off : getD candidates (on .0) nobody .admitted ≡ false =
         ap (λ (candidate : Candidate). candidate .admitted) (outside (on .0) x) in
-        rw (x, off) (nothing-stands held))
-    decideBy-decide (W.Manual on) own held seen =
+        rw (x, off) (nothing-stands waslocked))
+    decideBy-decide (W.Manual on) own waslocked seen =
         byBool (ltb (on .0) inputCount)
         (λ x. let is = seen (ltb-true (on .0) inputCount x) in
         byBool (manualMayStand candidates (on .0))
-        (λ a. manual-stands on own held is x a)
-        (λ a. rw (is, x, stands-alike (on .0) (ltb-true (on .0) inputCount x), a) (nothing-stands held)))
-        (λ x. rw (x, manual-outside (on .0) x) (nothing-stands held))
+        (λ a. manual-stands on own waslocked is x a)
+        (λ a. rw (is, x, stands-alike (on .0) (ltb-true (on .0) inputCount x), a) (nothing-stands waslocked)))
+        (λ x. rw (x, manual-outside (on .0) x) (nothing-stands waslocked))

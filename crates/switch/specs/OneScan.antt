@@ -16,7 +16,7 @@ use Rattle.choice.specs.Leader.{SeenAt}
 use Rattle.switch.specs.declared.Switch.{Switch}
 use Rattle.switch.specs.declared.Switch.the-variants as W
 use Rattle.switch.specs.declared.AfterChoice.{AfterChoice}
-use Rattle.switch.specs.OneChoice.{isHeld}
+use Rattle.switch.specs.OneChoice.{wasLocked}
 
 -- "its input is eligible and, mode on, no eligible input has lower passed quality": the best has not
 unfoldable pub mayStand : Candidate → Rank → Bool
@@ -47,12 +47,12 @@ isLockedBy (W.Manual on) own chosen = own .usable
 
 -- "the switch judged, the choice made"
 unfoldable pub decideBy : Switch → Candidate → Leader → Bool → AfterChoice
-decideBy switch own leader held =
+decideBy switch own leader waslocked =
     let standing = judgedBy switch own (leader .rank) in
     record {
       switch = standing;
       selection = selectedFrom standing (leader .selection);
-      held = isHeld held (isLockedBy standing own (leader .selection));
+      waslocked = wasLocked waslocked (isLockedBy standing own (leader .selection));
     }
 
 -- a candidate is what a choice sees of the switch's input, where there is one

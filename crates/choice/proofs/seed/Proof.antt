@@ -1,6 +1,6 @@
 -- `choice::seed` meets its contract: each way is a law.
 -- Assumes nothing.
-use Rattle.choice.proofs.Laws.{seed-laws}
+use Rattle.choice.proofs.ChoiceLaws.{seed-laws}
 use borrow.Author.Needs.{needs}
 use Rattle.choice.proofs.seed.Statement.{statement}
 use Rattle.choice.proofs.seed.Tie as tie

@@ -12,8 +12,8 @@ switch-at-requires c κs = search needs
 selection-at-requires : tie.Need-selection-at-requires
 selection-at-requires c κs = search needs
 
-held-at-requires : tie.Need-held-at-requires
-held-at-requires c κs = search needs
+was-locked-at-requires : tie.Need-was-locked-at-requires
+was-locked-at-requires c κs = search needs
 
 switch-input-requires : tie.Need-switch-input-requires
 switch-input-requires c κs = search needs
@@ -45,7 +45,7 @@ returns c =
     (decided .decide .result)
     (switch .switch-at .result)
     (selection .selection-at .result)
-    (held .held-at .result)
+    (held .was-locked-at .result)
     (on .switch-input .result)
     (own .candidate-at .result)
     (leader .leader-at .result)
@@ -58,7 +58,7 @@ returns c =
     (on .switch-input .ensures)
     (switch .switch-at .ensures (args .times .now) (args .words .now))
     (selection .selection-at .ensures (args .times .now) (args .words .now))
-    (held .held-at .ensures (args .times .now) (args .words .now))
+    (held .was-locked-at .ensures (args .times .now) (args .words .now))
 
 pub make-choice-spec : {M : Type 1} → statement M
 make-choice-spec =
@@ -66,7 +66,7 @@ make-choice-spec =
     (tie.spec
     switch-at-requires
     selection-at-requires
-    held-at-requires
+    was-locked-at-requires
     switch-input-requires
     candidate-at-requires
     leader-at-requires

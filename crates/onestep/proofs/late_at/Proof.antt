@@ -1,6 +1,6 @@
 -- `onestep::late_at` meets its contract: each way is a law. Assumes nothing.
 use Rattle.choice.specs.declared.Selection.the-variants as S
-use Rattle.events.proofs.Laws.{late-judged, late-never}
+use Rattle.events.proofs.EventLaws.{late-judged, late-never}
 use Rattle.inplace.specs.Lists.{selectorAt}
 use Rattle.inplace.proofs.Turn.{inputs-length}
 use borrow.Author.Needs.{needs}

@@ -1,6 +1,6 @@
 -- `switch::is_any` meets its contract: each way is a law.
 -- Assumes nothing.
-use Rattle.switch.proofs.Laws.{anySelected-laws}
+use Rattle.switch.proofs.OneChoiceLaws.{anySelected-laws}
 use borrow.Author.Needs.{needs}
 use Rattle.switch.proofs.is_any.Statement.{statement}
 use Rattle.switch.proofs.is_any.Tie as tie

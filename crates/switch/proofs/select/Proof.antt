@@ -1,6 +1,6 @@
 -- `switch::select` meets its contract: each way is a law.
 -- Assumes nothing.
-use Rattle.switch.proofs.Laws.{selectedFrom-laws}
+use Rattle.switch.proofs.OneChoiceLaws.{selectedFrom-laws}
 use borrow.Author.Needs.{needs}
 use Rattle.switch.proofs.select.Statement.{statement}
 use Rattle.switch.proofs.select.Tie as tie

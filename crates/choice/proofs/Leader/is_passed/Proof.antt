@@ -1,6 +1,6 @@
 -- `choice::is_passed` meets its contract: each way is a law.
 -- Assumes nothing.
-use Rattle.choice.proofs.Laws.{isPassed-laws}
+use Rattle.choice.proofs.ChoiceLaws.{isPassed-laws}
 use borrow.Author.Needs.{needs}
 use Rattle.choice.proofs.Leader.is_passed.Statement.{statement}
 use Rattle.choice.proofs.Leader.is_passed.Tie as tie

@@ -1,6 +1,6 @@
 -- `choice::offer` meets its contract: each way is a law.
 -- Assumes nothing.
-use Rattle.choice.proofs.Laws.{offer-laws}
+use Rattle.choice.proofs.ChoiceLaws.{offer-laws}
 use borrow.Author.Needs.{needs}
 use Rattle.choice.proofs.Leader.offer.Statement.{statement}
 use Rattle.choice.proofs.Leader.offer.Tie as tie

@@ -34,7 +34,7 @@ returns c =
     let own = c .before .before in
     let place = own .before .before in
     let made =
-    decided-one (state .profile) (state .mode) (state .inputs) (state .switch) (state .selection) (state .held) _ _ _
+    decided-one (state .profile) (state .mode) (state .inputs) (state .switch) (state .selection) (state .waslocked) _ _ _
     (seen-on _ _ _ _ _ _ _ _ (place .before .switch-input .ensures) (place .place-in .ensures)
     (own .candidate-for .ensures))
     (c .before .leader .ensures) (c .decide .ensures) (place .place-in .ensures .sixteen) in
