@@ -20,7 +20,9 @@ fn main() {
         say_unit_start(start);
         return;
     };
-    let ended = serve(desk::of_unit(profile, minimum));
+    let started = desk::of_unit(profile, minimum);
+    let first = started.desk;
+    let ended = serve(first);
     let ending = ended.ending;
     calls::say(ending);
 }
