@@ -6,7 +6,7 @@
 use calls::Ending;
 use calls::Stream;
 use calls::write_alone;
-use clerk::serve;
+use lineloop::serve;
 use unitstart::UnitStart;
 use unitstart::read_unit_start;
 ghost use mathlib.Core.Path.{_≡_};
@@ -20,8 +20,8 @@ fn main() {
         say_unit_start(start);
         return;
     };
-    let started = desk::of_unit(profile, minimum);
-    let first = started.desk;
+    let started = answerer::of_unit(profile, minimum);
+    let first = started.answerer;
     let ended = serve(first);
     let ending = ended.ending;
     calls::say(ending);

@@ -73,8 +73,8 @@ pub fn is_minimum(profile: Profile, minimum: Quality) -> bool
     minimum.0 as u16 <= limits.floor
 }
 
-// The number that a start with an option's number, a place's and a minimum is answered with: 6 where
-// the minimum or the place of PROV is out of range, and then there is none.
+// The number that a start with an option's number, a place's and a minimum is answered with: 6
+// where the minimum or the place of PROV is out of range, and then there is none.
 pub fn unit_start_number(option: u8, place: u8, minimum: Quality) -> u8
     ensures { λ answer. ⌜ answer ≡ unitStartNumber option place minimum ⌝ }
 {
@@ -146,19 +146,19 @@ fn half_step(state: Selector, goes: bool, event: Event, read: FrameRead) -> Step
     ticked
 }
 
-// Whether an output squelches, which is to send AIS, by what its selector answers: nothing usable is
-// selected, or, quality mode on, the selected input's passed quality is worse than the minimum. A
-// locked clock's quality is that passed quality.
+// Whether an output squelches, which is to send AIS, by what its selector answers: nothing usable
+// is selected, or, quality mode on, the selected input's passed quality is worse than the minimum.
+// A locked clock's quality is that passed quality.
 pub fn squelches(answer: Answer, mode: bool, profile: Profile, minimum: Quality) -> bool
     ensures { λ squelched. ⌜ squelched ≡ squelchedBy answer mode profile minimum ⌝ }
 {
-    if answer.state != LOCKED {
+    if answer.clockstate != LOCKED {
         return true;
     }
     if mode {
         let place = place_of(profile);
         let worst = rank_of(place, minimum);
-        let passed = rank_of(place, Quality(answer.quality));
+        let passed = rank_of(place, Quality(answer.clockquality));
         return worst.0 < passed.0;
     }
     false

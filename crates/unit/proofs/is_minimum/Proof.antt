@@ -1,6 +1,6 @@
 -- `unit::is_minimum` meets its contract: each way is a law.
 -- Assumes nothing.
-use Rattle.unit.proofs.Laws.{isMinimum-laws}
+use Rattle.unit.proofs.UnitLaws.{isMinimum-laws}
 use borrow.Author.Needs.{needs}
 use Rattle.unit.proofs.is_minimum.Statement.{statement}
 use Rattle.unit.proofs.is_minimum.Tie as tie
