@@ -10,7 +10,7 @@ use lib.Seq.{slice}
 use Rattle.numbers.specs.declared.Answer.{Answer}
 use Rattle.digits.specs.Digits.{allDigits, octetsOf}
 use Rattle.eventlog.specs.Line.{highFirst}
-use Rattle.eventlog.specs.Parts.{octetAt}
+use Rattle.eventlog.specs.InnerPromises.{octetAt}
 use Rattle.lanes.specs.declared.View.{View}
 use Rattle.lanes.specs.Value.{answerValue}
 use Rattle.verdict.specs.declared.shown.ShownRead.{ShownRead}

@@ -1,6 +1,6 @@
 -- `verdict::shown::octet_in` meets its contract: the two digits at a place.
 -- Assumes nothing.
-use Rattle.eventlog.specs.Parts.{octetAt}
+use Rattle.eventlog.specs.InnerPromises.{octetAt}
 use borrow.Author.Needs.{needs}
 use Rattle.verdict.proofs.shown.octet_in.Statement.{statement}
 use Rattle.verdict.proofs.shown.octet_in.Tie as tie

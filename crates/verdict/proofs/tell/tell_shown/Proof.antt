@@ -1,6 +1,6 @@
 -- `verdict::tell::tell_shown` meets its contract: each way is a law.
 -- Assumes nothing.
-use Rattle.verdict.proofs.Laws.{shown-told-laws}
+use Rattle.verdict.proofs.ToldLaws.{shown-told-laws}
 use borrow.Author.Needs.{needs}
 use Rattle.verdict.proofs.tell.tell_shown.Statement.{statement}
 use Rattle.verdict.proofs.tell.tell_shown.Tie as tie
