@@ -74,7 +74,7 @@ class Progress:
             self.stream.flush()
 
 
-class Clerk(threading.Thread):
+class Giver(threading.Thread):
     """Gives commands to the card one after the other, beside the frames."""
 
     def __init__(self, card, commands):
@@ -158,23 +158,23 @@ class Play:
             self.commands.append(card.say(said))
         rest = self.plan[frames[0]:]
         zero = max(fresh.last, time.monotonic_ns() - rest[0][0].time * NS_A_MS) if rest else fresh.last
-        clerk = Clerk(card, self.commands)
-        clerk.start()
+        giver = Giver(card, self.commands)
+        giver.start()
         for event, said in rest:
-            self.wait(zero + event.time * NS_A_MS, zero, progress, clerk)
+            self.wait(zero + event.time * NS_A_MS, zero, progress, giver)
             if event.kind == words.FRAME_KIND:
                 players.play(event.input, event.octets)
                 # what is no ESMC is no event for anyone, and is not counted on the wire either
                 self.given += captures.is_esmc(event.octets)
             else:
-                clerk.give(said)
-        clerk.end()
-        self.wait(max(zero + self.length * NS_A_MS, self.commands[-1].last + self.after * NS_A_MS), zero, progress, clerk)
+                giver.give(said)
+        giver.end()
+        self.wait(max(zero + self.length * NS_A_MS, self.commands[-1].last + self.after * NS_A_MS), zero, progress, giver)
 
-    def wait(self, until, zero, progress, clerk=None):
+    def wait(self, until, zero, progress, giver=None):
         while (left := until - time.monotonic_ns()) > 0:
-            if clerk and clerk.trouble:
-                raise clerk.trouble
+            if giver and giver.trouble:
+                raise giver.trouble
             progress.tell(self.done + (time.monotonic_ns() - zero) / NS_A_MS, self.path.stem)
             time.sleep(min(left / 1e9, NAP))
 

@@ -1,5 +1,5 @@
--- A program goes on from turn to turn, and ends: what was taken is all that its input is answered with, or the beginning
--- of it. Assumes nothing.
+-- A program goes on from turn to turn, and ends: what was taken is all that its input is answered with, or the
+-- beginning of it. Assumes nothing.
 use Prim.Native.Nat.{ℕ, _+_, _≤_, _<_}
 use mathlib.Core.Bool.{Bool, true, false, true≢false}
 use mathlib.Core.List.{List, [], _++_, append-assoc, append-nil}
@@ -27,7 +27,7 @@ use Rattle.calls.specs.Answered.{
   over,
   EndedRight,
 }
-use Rattle.calls.proofs.Laws.{delivered-within, isWhole-true, text-whole, text-less}
+use Rattle.calls.proofs.CallsLaws.{delivered-within, isWhole-true, text-whole, text-less}
 
 -- ---- a turn
 

@@ -7,7 +7,7 @@ use lib.ListN.{getD, length}
 use Rattle.numbers.specs.Inputs.{lastInput}
 use Rattle.selector.specs.declared.Selector.{Selector}
 use Rattle.selector.specs.Answer.{outgoingCodes}
-use Rattle.selector.proofs.Laws.{getD-past}
+use Rattle.selector.proofs.SelectorLaws.{getD-past}
 use Rattle.sender.specs.declared.AskedOne.{AskedOne}
 use Rattle.sender.specs.declared.Heartbeat.{Heartbeat}
 use Rattle.sender.specs.declared.Heartbeat.the-variants as H

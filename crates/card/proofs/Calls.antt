@@ -26,7 +26,7 @@ use Rattle.selector.proofs.Ports.{getD-ports}
 use Rattle.due.specs.Next.{never, nextDue}
 use Rattle.due.proofs.Calm.{movedTo}
 use Rattle.due.proofs.Jump.{each-before, nextDue-later}
-use Rattle.due.proofs.Right.{ticked-each}
+use Rattle.due.proofs.ServesEachDue.{ticked-each}
 use Rattle.events.specs.declared.Stepped.{Stepped}
 use Rattle.events.specs.Refusals.{earlyRefusal}
 use Rattle.events.specs.Step.{earlyNumber, stepRead, step}
@@ -41,21 +41,21 @@ use Rattle.events.proofs.Agrees.{step-accepted, sequence-agrees}
 use Rattle.events.proofs.Calm.{accepted-or-not, sequence-calm}
 use Rattle.events.proofs.Demand1.{tick-early, tick-state, demand-1-events}
 use Rattle.events.proofs.Extra.{sequence-ever}
-use Rattle.events.proofs.Laws.{lateRefusal-other}
+use Rattle.events.proofs.EventLaws.{lateRefusal-other}
 use Rattle.events.proofs.NextDue.{next-right}
 use Rattle.events.proofs.Demand2.{demand-2-answers}
 use Rattle.events.proofs.Demand3.{demand-3}
 use Rattle.events.proofs.Demand4.{demand-4}
 use Rattle.status.specs.declared.Status.{Status}
 use Rattle.status.specs.Kept.{inputStatus}
-use Rattle.status.proofs.Right.{status-right}
+use Rattle.status.proofs.WhatHappened.{status-right}
 use Rattle.quickstep.specs.declared.Watch.{Watch}
 use Rattle.quickstep.specs.Again.{saysAgain, againOwn, isAgain}
 use Rattle.quickstep.specs.Own.{ownStep}
 use Rattle.quickstep.specs.Watch.{numbered, freshWatch, dueAnew, completed, ownPut, ownAt, takeStep, watchStep}
 use Rattle.quickstep.proofs.Due.{againDue-later}
 use Rattle.quickstep.proofs.Step.{ever}
-use Rattle.quickstep.proofs.Right.{Kept, Right, own-early, fresh-kept, takeStep-right, watchStep-right, numbered-answer}
+use Rattle.quickstep.proofs.SameAsPlain.{Kept, Right, own-early, fresh-kept, takeStep-right, watchStep-right, numbered-answer}
 use Rattle.card.specs.Lent.{withNumber, namesOption, startLent, readFor, rangedWatch, eventLent, stepLent}
 use Rattle.card.specs.Known.{endsOf, knownOf, endsKnown, inputKnown}
 use Rattle.card.specs.Calls.{called, lentAfter, latestNumber, latestCount, latestBy, StartRight, LentRight, Demand1Lent, Demand2Lent, Demand3Lent, Demand4Lent, NextDueLent, StatusLent}
@@ -286,8 +286,8 @@ demand-3-lent sequence =
       state = lent-right sequence .state;
       demand3 = demand-3 sequence;
       selected = ap (λ (answer : Answer). answer .selected) (lent-right sequence .answer);
-      switch = ap (λ (answer : Answer). answer .switch) (lent-right sequence .answer);
-      on = ap (λ (answer : Answer). answer .on) (lent-right sequence .answer);
+      switchkind = ap (λ (answer : Answer). answer .switchkind) (lent-right sequence .answer);
+      switchinput = ap (λ (answer : Answer). answer .switchinput) (lent-right sequence .answer);
     }
 
 -- L4 in C's hands, after every sequence of calls and any further one.

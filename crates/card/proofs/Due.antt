@@ -26,7 +26,7 @@ use Rattle.quickstep.specs.Own.{isCommand, isServed, seenAlike, ownTake, ownSte
 use Rattle.quickstep.specs.Watch.{movedTo, dueAnew, dueAfter, servedWatch, completed, ownPut, takeStep}
 use Rattle.quickstep.proofs.Due.{lesser-least, nextAmong-least, dueAnew-bound, dueAfter-later}
 use Rattle.quickstep.proofs.Step.{ownBefore, ownAfter, ownTaken, stepRead-own, stepRead-time, ever, inside}
-use Rattle.quickstep.proofs.Right.{Kept, own-here, own-early, put-back, takeStep-right}
+use Rattle.quickstep.proofs.SameAsPlain.{Kept, own-here, own-early, put-back, takeStep-right}
 
 -- such a time of a state at an event: made anew once it has come
 abbrev pub anew : Selector → ℕ → ℕ → ℕ

@@ -25,7 +25,7 @@ use Rattle.due.specs.Next.{nextDue}
 use Rattle.due.specs.Served.{ticked}
 use Rattle.due.specs.Each.{each}
 use Rattle.due.proofs.Calm.{Calm}
-use Rattle.due.proofs.Right.{ticked-each}
+use Rattle.due.proofs.ServesEachDue.{ticked-each}
 use Rattle.events.specs.declared.Stepped.{Stepped}
 use Rattle.events.specs.Given.{Given, Sequence}
 use Rattle.events.specs.Step.{atItsMoment, kindAt, earlyNumber, lateNumber, stepRead, step}
@@ -174,13 +174,13 @@ sound-inRange times small words due told sound =
     (sameAnswer (answerIn told) answer)
     (flag-one _ sound) in
     let each = each-alike (eqb (answerIn told .selected) (answer .selected))
-    (eqb (answerIn told .state) (answer .state)) (eqb (answerIn told .quality) (answer .quality))
-    (eqb (answerIn told .switch) (answer .switch)) (eqb (answerIn told .on) (answer .on)) alike in
+    (eqb (answerIn told .clockstate) (answer .clockstate)) (eqb (answerIn told .clockquality) (answer .clockquality))
+    (eqb (answerIn told .switchkind) (answer .switchkind)) (eqb (answerIn told .switchinput) (answer .switchinput)) alike in
     record {
       selected = subst IsInput (sym (eqb-true _ _ (each .0))) (range .selected);
-      state = subst (λ (number : ℕ). number ≤ 2) (sym (eqb-true _ _ (each .1))) (range .state);
-      switch = subst (λ (number : ℕ). number ≤ 2) (sym (eqb-true _ _ (each .2))) (range .switch);
-      on = subst IsInput (sym (eqb-true _ _ (each .3))) (range .on);
+      clockstate = subst (λ (number : ℕ). number ≤ 2) (sym (eqb-true _ _ (each .1))) (range .clockstate);
+      switchkind = subst (λ (number : ℕ). number ≤ 2) (sym (eqb-true _ _ (each .2))) (range .switchkind);
+      switchinput = subst IsInput (sym (eqb-true _ _ (each .3))) (range .switchinput);
     }
 
 -- Every card that events lead to passes, and one that passes answers in range.

@@ -12,7 +12,7 @@ use Rattle.numbers.specs.Inputs.{lastInput}
 use Rattle.numbers.specs.Refusal.{accepted}
 use Rattle.numbers.proofs.Truth.{byBool}
 use Rattle.frame.specs.Write.{largestCode}
-use Rattle.selector.proofs.Laws.{getD-past}
+use Rattle.selector.proofs.SelectorLaws.{getD-past}
 use Rattle.sender.specs.declared.Asked.{Asked}
 use Rattle.sender.specs.declared.AskedOne.{AskedOne}
 use Rattle.sender.specs.declared.Heartbeat.the-variants as H
@@ -23,7 +23,7 @@ use Rattle.sender.specs.Sender.{freshSender, heartbeatOf, afterHeartbeat, sende
 use Rattle.sender.specs.Sequence.{sendersAfter}
 use Rattle.sender.proofs.Agrees.{asked-refused, asked-accepted, senders-sixteen, fresh-at, other-kept}
 use Rattle.sender.proofs.Codes.{codeOfPort-small}
-use Rattle.sender.proofs.Laws.{questionNumber-fit}
+use Rattle.sender.proofs.SenderLaws.{questionNumber-fit}
 use Rattle.sender.proofs.Sending.{sending}
 use Rattle.card.specs.Asking.{portSender, SendersLentRight}
 

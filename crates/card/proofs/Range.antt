@@ -154,9 +154,9 @@ switch-kind W.Nothing = omega arith
 switch-kind (W.Forced number) = omega arith
 switch-kind (W.Manual number) = omega arith
 
-clockState-most : (usable held : Bool) → clockState usable held ≤ locked
+clockState-most : (usable waslocked : Bool) → clockState usable waslocked ≤ locked
 unfolding clockState
-clockState-most true held = omega arith
+clockState-most true waslocked = omega arith
 clockState-most false true = omega arith
 clockState-most false false = omega arith
 
@@ -165,17 +165,17 @@ unfolding answerOf
 answer-inRange number state named =
     record {
       selected = selected-input (state .selection) (named .selection);
-      on = switch-input (state .switch) (named .switch);
-      state =
+      switchinput = switch-input (state .switch) (named .switch);
+      clockstate =
           clockState-most (selectedCandidate (state .profile) (state .inputs) (state .mode) (state .selection) .usable)
-          (state .held);
-      switch = switch-kind (state .switch);
+          (state .waslocked);
+      switchkind = switch-kind (state .switch);
     }
 
 -- an answer with another number names the same
 pub numbered-inRange : (number : ℕ) (told : Answer) → InRange told → InRange (numbered number told)
 numbered-inRange number told range =
-    record { selected = range .selected; on = range .on; state = range .state; switch = range .switch }
+    record { selected = range .selected; switchinput = range .switchinput; clockstate = range .clockstate; switchkind = range .switchkind }
 
 -- ---- an answer that names what is there
 
@@ -188,13 +188,13 @@ isRanged-range : (told : Answer) → isRanged told ≡ true → InRange told
 unfolding isRanged
 isRanged-range told is =
     let all =
-    four (namesInput (told .selected)) (namesInput (told .on)) (leb (told .state) locked)
-    (leb (told .switch) switchManual) is in
+    four (namesInput (told .selected)) (namesInput (told .switchinput)) (leb (told .clockstate) locked)
+    (leb (told .switchkind) switchManual) is in
     record {
       selected = ranged-input (told .selected) (all .0);
-      on = ranged-input (told .on) (all .1);
-      state = leb-true (told .state) locked (all .2);
-      switch = leb-true (told .switch) switchManual (all .3);
+      switchinput = ranged-input (told .switchinput) (all .1);
+      clockstate = leb-true (told .clockstate) locked (all .2);
+      switchkind = leb-true (told .switchkind) switchManual (all .3);
     }
   where
     four : (a b c d : Bool) → (a && b && c && d) ≡ true → (a ≡ true) × (b ≡ true) × (c ≡ true) × (d ≡ true)
@@ -209,9 +209,9 @@ unfolding isRanged
 inRange-ranged told range =
     rw (
       names (told .selected) (range .selected),
-      names (told .on) (range .on),
-      le-leb (told .state) locked (range .state),
-      le-leb (told .switch) switchManual (range .switch),
+      names (told .switchinput) (range .switchinput),
+      le-leb (told .clockstate) locked (range .clockstate),
+      le-leb (told .switchkind) switchManual (range .switchkind),
     )
   where
     names : (number : ℕ) → IsInput number → namesInput number ≡ true

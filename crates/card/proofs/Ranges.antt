@@ -50,12 +50,12 @@ any-codes state port = codeOfPort-small state port
 -- ---- the clock quality
 
 -- what a clock tells by itself
-own-least : (profile : Profile) → 1 ≤ limitsOf profile .own .0
+own-least : (profile : Profile) → 1 ≤ limitsOf profile .freerunning .0
 unfolding limitsOf
 own-least P.OptionOne = omega arith
 own-least (P.OptionTwo place marks) = omega arith
 
-own-most : (profile : Profile) → limitsOf profile .own .0 ≤ lastClockQuality profile
+own-most : (profile : Profile) → limitsOf profile .freerunning .0 ≤ lastClockQuality profile
 unfolding limitsOf lastClockQuality
 own-most P.OptionOne = omega arith
 own-most (P.OptionTwo place marks) = omega arith
@@ -87,8 +87,8 @@ module _ (sequence : Sequence) where
   same : profileOf (past .history) ≡ profile
   same = recorded-profile sequence
 
-  read : lentAfter sequence .answer .quality ≡ qualityBy past .0
-  read = ap (λ (answer : Answer). answer .quality) (demand-2-lent sequence .answer)
+  read : lentAfter sequence .answer .clockquality ≡ qualityBy past .0
+  read = ap (λ (answer : Answer). answer .clockquality) (demand-2-lent sequence .answer)
 
   -- a usable quality that is selected, with mode on
   usable-within : modeOn (past .history) ≡ true → candidateSelected past .usable ≡ true

@@ -48,16 +48,16 @@ pub sameAmong-all : (ones others : List Input) (count : ℕ) (same : Bool) → s
 sameAmong-all ones others count same s h k = let z : count ≡ 16 = omega arith in s ∙ (rw z)
 
 -- switch, selection and whether the clock was ever locked, call by call
-pub once-told : (one other : Selector) (ours theirs : Switch) (mine its : Selection) (held was : Bool)
+pub once-told : (one other : Selector) (ours theirs : Switch) (mine its : Selection) (waslocked was : Bool)
     (kind sort on at number place : ℕ)
     → ours ≡ one .switch → theirs ≡ other .switch → mine ≡ one .selection → its ≡ other .selection
-    → held ≡ one .held → was ≡ other .held
+    → waslocked ≡ one .waslocked → was ≡ other .waslocked
     → kind ≡ switchNumber ours → sort ≡ switchNumber theirs → on ≡ switchInput ours → at ≡ switchInput theirs
     → number ≡ selectedNumber mine → place ≡ selectedNumber its
-    → (eqb kind sort && eqb on at && eqb number place && eqb (boolByte held) (boolByte was)) ≡ sameOnce one other
+    → (eqb kind sort && eqb on at && eqb number place && eqb (boolByte waslocked) (boolByte was)) ≡ sameOnce one other
 unfolding sameOnce
-once-told one other ours theirs mine its held was kind sort on at number place o t m i h w k s n a e p =
-    rw (k, s, n, a, e, p, o, t, m, i, h, w, boolByte-flag (one .held), boolByte-flag (other .held))
+once-told one other ours theirs mine its waslocked was kind sort on at number place o t m i h w k s n a e p =
+    rw (k, s, n, a, e, p, o, t, m, i, h, w, boolByte-flag (one .waslocked), boolByte-flag (other .waslocked))
 
 -- the whole, call by call
 pub sound-told : (watch : Watch) (time next count : ℕ) (answer : Answer) (again : Selector) (runs once told : Bool)

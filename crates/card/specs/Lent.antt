@@ -69,7 +69,7 @@ namesInput number = leb number lastInput || eqb number noInput
 -- what an answer names is there
 unfoldable pub isRanged : Answer → Bool
 isRanged told =
-    namesInput (told .selected) && namesInput (told .on) && leb (told .state) locked && leb (told .switch) switchManual
+    namesInput (told .selected) && namesInput (told .switchinput) && leb (told .clockstate) locked && leb (told .switchkind) switchManual
 
 -- a watch whose answer names what is there: it, or with the answer of its state
 unfoldable pub rangedWatch : Watch → Watch

@@ -21,9 +21,9 @@ IsInput number = (number ≤ lastInput) ⊎ (number ≡ noInput)
 -- the numbers by which C finds an input or a name
 pub record InRange (told : Answer) : Type 0 where
   pub selected : IsInput (told .selected)
-  pub on : IsInput (told .on)
-  pub state : told .state ≤ locked
-  pub switch : told .switch ≤ switchManual
+  pub switchinput : IsInput (told .switchinput)
+  pub clockstate : told .clockstate ≤ locked
+  pub switchkind : told .switchkind ≤ switchManual
 
 -- after any step, on any numbers at all
 pub record AnyLent (times small words due told : List ℕ) (kind time input argument : ℕ) (frame : List ℕ) : Type 0 where

@@ -29,9 +29,9 @@ lastClockQuality (P.OptionTwo place marks) = 9
 
 -- `clock_quality` after calls in a row: "1 to 4, in option II 1 to 9; 0 with quality mode off"
 pub record ClockQualityRanged (sequence : Sequence) : Type 0 where
-  pub off : modeOn (recorded sequence) ≡ false → lentAfter sequence .answer .quality ≡ 0
-  pub least : modeOn (recorded sequence) ≡ true → 1 ≤ lentAfter sequence .answer .quality
-  pub most : lentAfter sequence .answer .quality ≤ lastClockQuality (profileOf sequence)
+  pub off : modeOn (recorded sequence) ≡ false → lentAfter sequence .answer .clockquality ≡ 0
+  pub least : modeOn (recorded sequence) ≡ true → 1 ≤ lentAfter sequence .answer .clockquality
+  pub most : lentAfter sequence .answer .clockquality ≤ lastClockQuality (profileOf sequence)
 
 -- the last number of a quality on paper, which is failed
 unfoldable pub lastQuality : Profile → ℕ

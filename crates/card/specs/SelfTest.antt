@@ -82,10 +82,10 @@ unfoldable pub isTold : Answer → TestLine → Bool
 isTold told line =
     eqb (told .number) (line .6) &&
     eqb (told .selected) (line .7) &&
-    eqb (told .state) (line .8) &&
-    eqb (told .quality) (line .9) &&
-    eqb (told .switch) 0 &&
-    eqb (told .on) noInput
+    eqb (told .clockstate) (line .8) &&
+    eqb (told .clockquality) (line .9) &&
+    eqb (told .switchkind) 0 &&
+    eqb (told .switchinput) noInput
 
 -- lines one after the other are each answered as they have to be
 unfoldable pub answeredRight : List TestLine → Watch → Bool

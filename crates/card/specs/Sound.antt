@@ -42,16 +42,16 @@ sameOnce one other =
     eqb (switchNumber (one .switch)) (switchNumber (other .switch)) &&
     eqb (switchInput (one .switch)) (switchInput (other .switch)) &&
     eqb (selectedNumber (one .selection)) (selectedNumber (other .selection)) &&
-    eqb (flag (one .held)) (flag (other .held))
+    eqb (flag (one .waslocked)) (flag (other .waslocked))
 
 -- two answers are the same, but for the number
 unfoldable pub sameAnswer : Answer → Answer → Bool
 sameAnswer one other =
     eqb (one .selected) (other .selected) &&
-    eqb (one .state) (other .state) &&
-    eqb (one .quality) (other .quality) &&
-    eqb (one .switch) (other .switch) &&
-    eqb (one .on) (other .on)
+    eqb (one .clockstate) (other .clockstate) &&
+    eqb (one .clockquality) (other .clockquality) &&
+    eqb (one .switchkind) (other .switchkind) &&
+    eqb (one .switchinput) (other .switchinput)
 
 -- the state's time is below 2^48, a tick at it changes nothing of these, the time that is kept for what is due is ahead
 -- and not too late, and the answer is that of the state

@@ -7,13 +7,13 @@ use inplace::SMALL;
 use inplace::TIMES;
 use inplace::WORDS;
 use inplace::answer_at;
-use inplace::held_at;
 use inplace::input_at;
 use inplace::next_due;
 use inplace::selection_at;
 use inplace::serve;
 use inplace::switch_at;
 use inplace::time_at;
+use inplace::was_locked_at;
 use input::Input;
 use numbers::Answer;
 use numbers::INPUT_COUNT;
@@ -87,11 +87,11 @@ fn same_once(small: &[u8; SMALL], after: &[u8; SMALL]) -> bool
     let theirs = switch_at(after);
     let selected = selection_at(small);
     let other = selection_at(after);
-    let held = held_at(small) as u8 == held_at(after) as u8;
+    let waslocked = was_locked_at(small) as u8 == was_locked_at(after) as u8;
     let kind = switch_number(ours) == switch_number(theirs);
     let on = switch_input(ours) == switch_input(theirs);
     let selection = selected_number(selected) == selected_number(other);
-    kind & on & selection & held
+    kind & on & selection & waslocked
 }
 
 // What was answered last is an answer, but for the number.
@@ -99,10 +99,10 @@ fn same_answer(told: &[u8; TOLD], answer: Answer) -> bool
     ensures { λ same. ⌜ same ≡ sameAnswer (answerIn (now (told .entry))) answer ⌝ }
 {
     let selected = told[1] == answer.selected;
-    let state = told[2] == answer.state;
-    let quality = told[3] == answer.quality;
-    let switch = told[4] == answer.switch;
-    let on = told[5] == answer.on;
+    let state = told[2] == answer.clockstate;
+    let quality = told[3] == answer.clockquality;
+    let switch = told[4] == answer.switchkind;
+    let on = told[5] == answer.switchinput;
     selected & state & quality & switch & on
 }
 

@@ -23,7 +23,7 @@ use Rattle.choice.specs.Rank.{rankOf, floorRank, Within}
 use Rattle.choice.specs.Candidate.{nobody, isUsable, isAdmitted, rankedQuality, candidateOf, isEligible, EligibleCandidate, isBetter, isLike, eligibleAmong, betterAmong, isLower, lowerAmong, anyLower}
 use Rattle.choice.specs.Choice.{Ranking}
 use Rattle.choice.proofs.Places.{within-exact}
-use Rattle.choice.proofs.Laws.{isBetter-rank, isBetter-priority, isBetter-not}
+use Rattle.choice.proofs.ChoiceLaws.{isBetter-rank, isBetter-priority, isBetter-not}
 
 -- ---- isEligible
 

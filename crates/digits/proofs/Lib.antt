@@ -1,5 +1,5 @@
--- Laws of digits: of runs of them, of what they stand for, of faults in them, and of decimal text.
+-- Laws of digits: of runs of them, of what they stand for, of nondigits in them, and of decimal text.
 pub mod Runs
 pub mod Values
-pub mod Faults
+pub mod Nondigits
 pub mod Decimals

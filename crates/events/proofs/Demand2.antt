@@ -76,17 +76,17 @@ module _ (sequence : Sequence) where
   selected-by = selected-shown (after .selection) refl ∙ ap (shown (pastOf sequence)) (agreed .selection)
 
   quality-by : qualityOf after ≡ qualityBy (pastOf sequence)
-  quality-by = λ j. clockQuality (limitsOf (agreed .profile j) .own) (agreed .mode j) (selected-by j)
+  quality-by = λ j. clockQuality (limitsOf (agreed .profile j) .freerunning) (agreed .mode j) (selected-by j)
 
   answer-by : (number : ℕ) → answerOf number after ≡ answerBy number (pastOf sequence)
   unfolding answerOf
   answer-by number = λ j. record {
     number = number;
     selected = selectedNumber (agreed .selection j);
-    state = clockState (selected-by j .usable) (agreed .held j);
-    quality = quality-by j .0;
-    switch = switchNumber (agreed .switch j);
-    on = switchInput (agreed .switch j);
+    clockstate = clockState (selected-by j .usable) (agreed .waslocked j);
+    clockquality = quality-by j .0;
+    switchkind = switchNumber (agreed .switch j);
+    switchinput = switchInput (agreed .switch j);
   }
 
   sending-at : (port : ℕ) → port < inputCount

@@ -2,7 +2,7 @@
 use Prim.Native.Nat.{ℕ}
 use mathlib.Core.List.{map}
 use mathlib.Core.Path.{sym, _∙_, subst}
-use Rattle.switch.proofs.Selecting.{held-right}
+use Rattle.switch.proofs.Selecting.{waslocked-right}
 use Rattle.events.specs.Sequence.{Sequence}
 use Rattle.events.specs.Past.{seen, recorded, madeIn}
 use Rattle.events.specs.Happened.{MadeAt, Happened}
@@ -21,9 +21,9 @@ happened sequence =
       recordedProfile = recorded-profile sequence;
       switch = agrees .switch;
       selection = agrees .selection;
-      held = agrees .held;
+      waslocked = agrees .waslocked;
       madeAt =
           subst (λ (time : ℕ). MadeAt (recorded sequence) time (madeIn sequence)) (sym (agrees .time)) (agrees .madeAt);
       eligibility = candidate-stated (recorded sequence);
-      heldRight = held-right (map seen (madeIn sequence));
+      wasLockedRight = waslocked-right (map seen (madeIn sequence));
     }

@@ -108,7 +108,7 @@ within-telling (P.OptionTwo place marks) floor passed most within =
     (omega arith, omega arith))
     (λ p. let h = within .numbered p in (h .0, omega (arith, h .1, most)))
 
-own-telling : (profile : Profile) → Telling profile (limitsOf profile .own .0)
+own-telling : (profile : Profile) → Telling profile (limitsOf profile .freerunning .0)
 unfolding limitsOf
 own-telling P.OptionOne = (omega arith, omega arith)
 own-telling (P.OptionTwo place marks) = (omega arith, omega arith)

@@ -27,7 +27,7 @@ use Rattle.choice.proofs.Ranks.{eligible-exact, Before, isBetter-exact, lower-f
 use Rattle.switch.specs.OneChoice.{forcedMayStand, manualMayStand}
 use Rattle.switch.proofs.Standing.{Passes}
 use Rattle.switch.proofs.Selecting.{manualMayStand-eligible, manualMayStand-lower, eligible-admitted}
-use Rattle.selector.proofs.Laws.{getD-past}
+use Rattle.selector.proofs.SelectorLaws.{getD-past}
 use Rattle.selector.proofs.Ports.{getD-ports}
 use Rattle.events.specs.Past.{Made, candidateBy, candidatesBy, seen}
 use Rattle.events.specs.Happened.{MadeAt}

@@ -1,5 +1,5 @@
--- The clock is locked exactly if something usable is selected; floors and fixed qualities stay in their ranges, and what
--- is never usable follows. Cites `happened`, `demand-2-answers` and `demand-3`; of usable `eligible-exact`.
+-- The clock is locked exactly if something usable is selected; floors and fixed qualities stay in their ranges, and
+-- what is never usable follows. Cites `happened`, `demand-2-answers` and `demand-3`; of usable `eligible-exact`.
 -- Assumes nothing.
 use Prim.Native.Nat.{ℕ, _≤_, _<_}
 use mathlib.Core.Bool.{Bool, true, false, not, _&&_, cond, true≢false}
@@ -165,22 +165,22 @@ module _ (past : Past) where
 
 -- ---- the clock state
 
-module _ (usable held : Bool) where
-  state-usable : usable ≡ true → clockState usable held ≡ locked
+module _ (usable waslocked : Bool) where
+  state-usable : usable ≡ true → clockState usable waslocked ≡ locked
   unfolding clockState
   state-usable u = rw u
 
-  state-holds : usable ≡ false → held ≡ true → clockState usable held ≡ holdover
+  state-holds : usable ≡ false → waslocked ≡ true → clockState usable waslocked ≡ holdover
   unfolding clockState
   state-holds u h = rw (u, h)
 
-  state-free : usable ≡ false → held ≡ false → clockState usable held ≡ freeRun
+  state-free : usable ≡ false → waslocked ≡ false → clockState usable waslocked ≡ freeRun
   unfolding clockState
   state-free u h = rw (u, h)
 
-state-locked : (usable held : Bool) → clockState usable held ≡ locked → usable ≡ true
+state-locked : (usable waslocked : Bool) → clockState usable waslocked ≡ locked → usable ≡ true
 unfolding clockState
-state-locked true held e = refl
+state-locked true waslocked e = refl
 state-locked false true e = absurd (omega (arith, e))
 state-locked false false e = absurd (omega (arith, e))
 
@@ -188,8 +188,8 @@ module _ (sequence : Sequence) where
   abbrev past : Past
   past = pastOf sequence
 
-  state-by : clockStateAfter sequence ≡ clockState (candidateSelected past .usable) (decidedBy (madeIn sequence) .held)
-  state-by = ap (λ (answer : Answer). answer .state) (demand-2-answers sequence .answer accepted)
+  state-by : clockStateAfter sequence ≡ clockState (candidateSelected past .usable) (decidedBy (madeIn sequence) .waslocked)
+  state-by = ap (λ (answer : Answer). answer .clockstate) (demand-2-answers sequence .answer accepted)
 
   -- a forced switch that stands selects its input
   forced-selects : (on : ℕ) → StandsForced on (madeIn sequence) → decidedBy (madeIn sequence) .selection ≡ selected on
@@ -207,12 +207,12 @@ module _ (sequence : Sequence) where
         );
         holds = λ nothing ever.
             state-by ∙
-            state-holds _ _ (nothing-usable past .1 nothing) (happened sequence .heldRight .any (ever .0) (ever .1));
+            state-holds _ _ (nothing-usable past .1 nothing) (happened sequence .wasLockedRight .any (ever .0) (ever .1));
         free = λ nothing never.
             state-by ∙
             state-free _ _ (nothing-usable past .1 nothing)
-            (byBool (decidedBy (madeIn sequence) .held)
-            (λ h. absurd (never (happened sequence .heldRight .some h)))
+            (byBool (decidedBy (madeIn sequence) .waslocked)
+            (λ h. absurd (never (happened sequence .wasLockedRight .some h)))
             (λ h. h));
         below = λ on stands mode outside some.
             let same : some .number ≡ on =
@@ -306,13 +306,13 @@ floor-last (P.OptionTwo place marks) = omega arith
 
 -- a fresh floor is in the range
 own-ranged-floor : (profile : Profile)
-    → (1 ≤ limitsOf profile .own .0) × (limitsOf profile .own .0 ≤ limitsOf profile .floor)
+    → (1 ≤ limitsOf profile .freerunning .0) × (limitsOf profile .freerunning .0 ≤ limitsOf profile .floor)
 unfolding limitsOf
 own-ranged-floor P.OptionOne = (omega arith, omega arith)
 own-ranged-floor (P.OptionTwo place marks) = (omega arith, omega arith)
 
 floor-ranged : (profile : Profile) (set : ℕ) → (set ≡ 0) ⊎ InRow (rowOf (limitsOf profile) kindFloor) set
-    → (1 ≤ floorIn (limitsOf profile .own) set) × (floorIn (limitsOf profile .own) set ≤ limitsOf profile .floor)
+    → (1 ≤ floorIn (limitsOf profile .freerunning) set) × (floorIn (limitsOf profile .freerunning) set ≤ limitsOf profile .floor)
 unfolding floorIn rowOf
 floor-ranged profile set (inl e) = rw e (own-ranged-floor profile)
 floor-ranged profile set (inr h) = rw (ne-eqb set 0 (λ e. omega (arith, e, h .0))) h

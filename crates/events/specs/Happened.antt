@@ -10,7 +10,7 @@ use Rattle.numbers.specs.Profile.{placeOf}
 use Rattle.numbers.specs.Inputs.{inputCount}
 use Rattle.input.specs.Recorded.{History, modeOn, timeOf, priorityOf, isLockedOut, floorOf, PassedAt, Ordered}
 use Rattle.choice.specs.Candidate.{nobody, candidateOf}
-use Rattle.switch.specs.Choices.{HeldRight}
+use Rattle.switch.specs.Choices.{WasLockedRight}
 use Rattle.events.specs.Sequence.{Given, Sequence, stateAfter, numberAfter}
 use Rattle.events.specs.Past.{Made, candidatesBy, seen, decidedBy, numberBy, pastOf, recorded, madeIn}
 
@@ -33,7 +33,7 @@ pub record Happened (sequence : Sequence) : Type 0 where
   -- what the state holds is what the choices made come to
   pub switch : stateAfter sequence .switch ≡ decidedBy (madeIn sequence) .switch
   pub selection : stateAfter sequence .selection ≡ decidedBy (madeIn sequence) .selection
-  pub held : stateAfter sequence .held ≡ decidedBy (madeIn sequence) .held
+  pub waslocked : stateAfter sequence .waslocked ≡ decidedBy (madeIn sequence) .waslocked
   -- the latest of them was made at the state's time
   pub madeAt : MadeAt (recorded sequence) (stateAfter sequence .time) (madeIn sequence)
   -- what a choice looks at is by the passed quality that document 01 states of the recorded events, now and at the tick
@@ -46,4 +46,4 @@ pub record Happened (sequence : Sequence) : Type 0 where
       (isLockedOut number (recorded sequence))
       (modeOn (recorded sequence))
   -- the clock has been locked exactly if it was after one of the choices made
-  pub heldRight : HeldRight (map seen (madeIn sequence))
+  pub wasLockedRight : WasLockedRight (map seen (madeIn sequence))

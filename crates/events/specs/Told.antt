@@ -31,7 +31,7 @@ candidateSelected past = shown past (decidedBy (past .made) .selection)
 -- tell 6"
 abbrev pub qualityBy : Past → Quality
 qualityBy past =
-    clockQuality (limitsOf (profileOf (past .history)) .own) (modeOn (past .history)) (candidateSelected past)
+    clockQuality (limitsOf (profileOf (past .history)) .freerunning) (modeOn (past .history)) (candidateSelected past)
 
 -- "Answer line: number .., selected input or ff, clock state, clock quality, switch .., its input or ff"
 abbrev pub answerBy : ℕ → Past → Answer
@@ -39,10 +39,10 @@ answerBy number past =
     record {
       number = number;
       selected = selectedNumber (decidedBy (past .made) .selection);
-      state = clockState (candidateSelected past .usable) (decidedBy (past .made) .held);
-      quality = qualityBy past .0;
-      switch = switchNumber (decidedBy (past .made) .switch);
-      on = switchInput (decidedBy (past .made) .switch);
+      clockstate = clockState (candidateSelected past .usable) (decidedBy (past .made) .waslocked);
+      clockquality = qualityBy past .0;
+      switchkind = switchNumber (decidedBy (past .made) .switch);
+      switchinput = switchInput (decidedBy (past .made) .switch);
     }
 
 -- what a port tells of the clock quality: "A port marked first generation sends TNC and ST3E as" ST3

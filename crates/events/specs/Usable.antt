@@ -51,7 +51,7 @@ EverLocked made = (back : ℕ) × Locked (choicesAgo back (map seen made))
 
 -- the clock state that is answered after a sequence of events
 abbrev pub clockStateAfter : Sequence → ℕ
-clockStateAfter sequence = answerOf accepted (stateAfter sequence) .state
+clockStateAfter sequence = answerOf accepted (stateAfter sequence) .clockstate
 
 -- after a sequence of events
 pub record LockedExactly (sequence : Sequence) : Type 0 where

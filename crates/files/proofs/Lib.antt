@@ -1,2 +1,2 @@
 -- What reading and printing come to, way by way.
-pub mod Laws
+pub mod FilesLaws

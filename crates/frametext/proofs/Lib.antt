@@ -1,2 +1,2 @@
 -- A frame's octets out of its digits, and the lines that are printed.
-pub mod Laws
+pub mod MessageLaws

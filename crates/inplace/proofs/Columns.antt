@@ -11,7 +11,7 @@ use lib.Seq.{getD-set-same, getD-set-other}
 use borrow.Author.Tests.{eqb-true, eqb-false, ltb-true, eq-eqb, ne-eqb}
 use mir.Val.{boolByte}
 use Rattle.numbers.specs.Kind.{kindArgument}
-use Rattle.input.proofs.Laws.{kindArgument-back}
+use Rattle.input.proofs.RecordLaws.{kindArgument-back}
 use Rattle.numbers.proofs.Truth.{byBool, both-first, both-second}
 use Rattle.run.specs.declared.Run.{Run}
 use Rattle.input.specs.declared.Input.{Input}
@@ -172,7 +172,7 @@ wordsOf input = (0, input .heard .last) ∷ (1, input .settings .holdoff) ∷ []
 
 abbrev pub smallOf : Input → ℕ → List (ℕ × ℕ)
 smallOf input kind =
-    (0, input .heard .frame .0) ∷ (1, input .heard .line .0) ∷ (2, input .heard .count) ∷
+    (0, input .heard .frame .0) ∷ (1, input .heard .linequality .0) ∷ (2, input .heard .count) ∷
     (3, boolByte (input .heard .signal)) ∷
     (4, input .run .good .0) ∷
     (5, boolByte (input .run .failed)) ∷

@@ -27,21 +27,21 @@ switch-on times small words = switchOf-on _ _
 
 -- a choice made of what a state on an input has, and held
 pub chosen : (state after : Selector) (choice : AfterChoice) (candidates : List Candidate) (switch : Switch)
-    (selection : Selection) (held : Bool)
+    (selection : Selection) (waslocked : Bool)
     → On (state .switch)
     → after ≡ withChoice state (heldChoice choice)
-    → choice ≡ decide candidates switch selection held
+    → choice ≡ decide candidates switch selection waslocked
     → candidates ≡ candidatesOf (state .profile) (state .inputs) (state .mode)
-    → switch ≡ state .switch → selection ≡ state .selection → held ≡ state .held
+    → switch ≡ state .switch → selection ≡ state .selection → waslocked ≡ state .waslocked
     → after ≡ decided state
 unfolding decided
-chosen state after choice candidates switch selection held on stored c d s l h =
+chosen state after choice candidates switch selection waslocked on stored c d s l h =
     stored ∙
     ap (withChoice state)
     (ap heldChoice
     (c ∙ (λ j. decide (d j) (s j) (l j) (h j))) ∙
     choice-again (candidatesOf (state .profile) (state .inputs) (state .mode)) (state .switch) (state .selection)
-    (state .held) on)
+    (state .waslocked) on)
 
 -- inputs brought to a time, the time stored, a choice made
 pub moment : (state brought timed after : Selector) (time : ℕ) (mode : Bool)
@@ -66,7 +66,7 @@ pub fresh-stored : (state inputs timed commanded chosen after : Selector) (profi
     → timed ≡ withTime inputs 0
     → commanded ≡ withCommand timed true (heldSwitch W.Nothing)
     → chosen
-    ≡ withChoice commanded (heldChoice (record { switch = W.Nothing; selection = S.Nothing; held = false }))
+    ≡ withChoice commanded (heldChoice (record { switch = W.Nothing; selection = S.Nothing; waslocked = false }))
     → after ≡ withProfile chosen profile
     → after ≡ freshSelector profile
 unfolding switchOf selectionOf isSelected switchNumber switchInput selectedNumber
@@ -76,7 +76,7 @@ fresh-stored state inputs timed commanded chosen after profile i t d c p =
     (c ∙
     ap
     (λ (one : Selector). withChoice one
-    (heldChoice (record { switch = W.Nothing; selection = S.Nothing; held = false })))
+    (heldChoice (record { switch = W.Nothing; selection = S.Nothing; waslocked = false })))
     (d ∙
     ap (λ (one : Selector). withCommand one true (heldSwitch W.Nothing))
     (t ∙ ap (λ (one : Selector). withTime one 0) i)))

@@ -157,10 +157,10 @@ selectionOf-back S.Nothing inside = refl
 selectionOf-back (S.At number) inside = rw (le-ltb lastInput (number .0) (omega arith))
 
 -- a choice from a switch on an input
-pub choice-again : (candidates : List Candidate) (switch : Switch) (selection : Selection) (held : Bool) → On switch
-    → heldChoice (decide candidates switch selection held) ≡ decide candidates switch selection held
+pub choice-again : (candidates : List Candidate) (switch : Switch) (selection : Selection) (waslocked : Bool) → On switch
+    → heldChoice (decide candidates switch selection waslocked) ≡ decide candidates switch selection waslocked
 unfolding decide
-choice-again candidates switch selection held on =
+choice-again candidates switch selection waslocked on =
     let stands : On (judged candidates switch) = judged-on candidates switch on in
     rw (
       switchOf-back (judged candidates switch) stands,

@@ -117,22 +117,22 @@ time-stored times time long small words =
 
 -- the numbers of a choice stored
 abbrev pub choiceIn : List ℕ → Bool → ℕ → ℕ → ℕ → ℕ → List ℕ
-choiceIn small held kind on selection number =
-    set (set (set (set (set small 225 (boolByte held)) 226 kind) 227 on) 228 selection) 229 number
+choiceIn small waslocked kind on selection number =
+    set (set (set (set (set small 225 (boolByte waslocked)) 226 kind) 227 on) 228 selection) 229 number
 
 pub choice-stored : (small : List ℕ) (choice : AfterChoice) (kind on selection number : ℕ) → length small ≡ 232
     → kind ≡ switchNumber (choice .switch) → on ≡ switchInput (choice .switch)
     → selection ≡ isSelected (choice .selection)
     → number ≡ selectedNumber (choice .selection)
     → (times words : List ℕ)
-    → selectorAt times (choiceIn small (choice .held) kind on selection number) words
+    → selectorAt times (choiceIn small (choice .waslocked) kind on selection number) words
     ≡ withChoice (selectorAt times small words) (heldChoice choice)
 unfolding selectorAt
 choice-stored small choice kind on selection number wide k o s n times words =
     let ss : List (ℕ × ℕ) =
-    (1, boolByte (choice .held)) ∷ (2, kind) ∷ (3, on) ∷ (4, selection) ∷ (5, number) ∷ [] in
+    (1, boolByte (choice .waslocked)) ∷ (2, kind) ∷ (3, on) ∷ (4, selection) ∷ (5, number) ∷ [] in
     selector-once times small words [] ss [] refl (onces-rest 224 8 ss small refl (omega arith)) refl ∙
-    rw (isSet-byte (choice .held), k, o, s, n)
+    rw (isSet-byte (choice .waslocked), k, o, s, n)
 
 -- the numbers of a command stored
 abbrev pub commandIn : List ℕ → Bool → ℕ → ℕ → List ℕ

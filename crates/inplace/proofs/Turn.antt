@@ -21,10 +21,10 @@ use Rattle.selector.specs.declared.Selector.{Selector}
 use Rattle.selector.specs.State.{candidateFor, candidatesOf}
 use Rattle.selector.specs.Answer.{answerOf, qualityOf, selectedNumber, signFor, ports}
 use Rattle.selector.proofs.Filled.{filled, filled-turn, filled-turn-in-place, filled-done}
-use Rattle.selector.proofs.Laws.{getD-past, signFor-turn}
+use Rattle.selector.proofs.SelectorLaws.{getD-past, signFor-turn}
 use Rattle.selector.proofs.Ports.{getD-ports}
 use Rattle.due.specs.Next.{lesser, nextOf, nextAmong, nextOfAll, nextDue}
-use Rattle.due.proofs.Laws.{nextAmong-more, nextAmong-all}
+use Rattle.due.proofs.DueLaws.{nextAmong-more, nextAmong-all}
 use Rattle.inplace.specs.Lists.{inputAt, selectorAt, withInputs, withInput, framedAt, withFramed}
 use Rattle.inplace.proofs.Columns.{writes-same, selector-stored}
 
@@ -214,7 +214,7 @@ due-done times small words mode time at due e m t h k =
 pub signs-told : (rule : Bool → Bool → Bool → ℕ → ℕ) (say : Profile → Quality → ℕ) (state : Selector)
     (profile : Profile) (mode : Bool) (told : Answer) (later : Quality) (sign first marks : ℕ) (list : List ℕ)
     → told ≡ answerOf accepted state → profile ≡ state .profile → mode ≡ state .mode
-    → sign ≡ say profile (quality (told .quality)) → later ≡ toldBy true (quality (told .quality))
+    → sign ≡ say profile (quality (told .clockquality)) → later ≡ toldBy true (quality (told .clockquality))
     → first ≡ say profile later → marks ≡ marksOf profile
     → list ≡ map (signFor rule (state .inputs) mode (told .selected) marks sign first) ports
     → list
@@ -226,7 +226,7 @@ pub signs-told : (rule : Bool → Bool → Bool → ℕ → ℕ) (say : Profile 
 unfolding answerOf
 signs-told rule say state profile mode told later sign first marks list t p m s l f k e =
     let n : told .selected ≡ selectedNumber (state .selection) = ap (λ (one : Answer). one .selected) t in
-    let q : quality (told .quality) ≡ qualityOf state = ap (λ (one : Answer). quality (one .quality)) t in
+    let q : quality (told .clockquality) ≡ qualityOf state = ap (λ (one : Answer). quality (one .clockquality)) t in
     let s′ : sign ≡ say (state .profile) (qualityOf state) = s ∙ (λ j. say (p j) (q j)) in
     let f′ : first ≡ say (state .profile) (toldBy true (qualityOf state)) =
     f ∙ (λ j. say (p j) ((l ∙ ap (toldBy true) q) j)) in

@@ -42,7 +42,7 @@ heardIn times small words =
     record {
       framed = times 0;
       frame = quality (small 0);
-      line = quality (small 1);
+      linequality = quality (small 1);
       last = words 0;
       count = small 2;
       signal = isSet (small 3);
@@ -106,7 +106,7 @@ selectorIn inputs times small words =
       selection = selectionOf (small 4) (record { 0 = small 5 });
       profile = profileIn (small 6) (small 7) (words 0);
       mode = isSet (small 0);
-      held = isSet (small 1);
+      waslocked = isSet (small 1);
     }
 
 -- the state that three lists hold
@@ -124,7 +124,7 @@ withInputs state inputs =
       selection = state .selection;
       profile = state .profile;
       mode = state .mode;
-      held = state .held;
+      waslocked = state .waslocked;
     }
 
 -- a state with another input in one place; where there is no such place, the state
@@ -139,7 +139,7 @@ framedAt input framed =
           record {
             framed = framed;
             frame = input .heard .frame;
-            line = input .heard .line;
+            linequality = input .heard .linequality;
             last = input .heard .last;
             count = input .heard .count;
             signal = input .heard .signal;
@@ -162,7 +162,7 @@ withTime state time =
       selection = state .selection;
       profile = state .profile;
       mode = state .mode;
-      held = state .held;
+      waslocked = state .waslocked;
     }
 
 -- a state of another profile
@@ -175,7 +175,7 @@ withProfile state profile =
       selection = state .selection;
       profile = profile;
       mode = state .mode;
-      held = state .held;
+      waslocked = state .waslocked;
     }
 
 -- a state with another quality mode and another switch
@@ -188,7 +188,7 @@ withCommand state mode switch =
       selection = state .selection;
       profile = state .profile;
       mode = mode;
-      held = state .held;
+      waslocked = state .waslocked;
     }
 
 -- a switch as it is held: none where it is on no input
@@ -201,5 +201,5 @@ heldChoice choice =
     record {
       switch = heldSwitch (choice .switch);
       selection = selectionOf (isSelected (choice .selection)) (record { 0 = selectedNumber (choice .selection) });
-      held = choice .held;
+      waslocked = choice .waslocked;
     }

@@ -50,7 +50,7 @@ heardBy input history =
     record {
       framed = frameTime (heard input isFrame history);
       frame = frameSaid (heard input isFrame history);
-      line = lineSaid (heard input isCounted history);
+      linequality = lineSaid (heard input isCounted history);
       last = lastCode (heard input isCounted history);
       count = codeCount (heard input isCounted history);
       signal = signalGood input history;
@@ -118,7 +118,7 @@ module _ (input : ℕ) (event : Recorded) (earlier : History) where
       (λ j. record {
         framed = split frameTime g f event frames j;
         frame = split frameSaid g f event frames j;
-        line = split lineSaid g c event codes j;
+        linequality = split lineSaid g c event codes j;
         last = split lastCode g c event codes j;
         count = split codeCount g c event codes j;
         signal = good-cond (eqb kind kindSignal) (event .argument) (lastArgument input kindSignal 1 earlier) j;

@@ -20,7 +20,7 @@ use Rattle.input.specs.Recorded.{History, modeOn}
 
 -- "forget the codes heard, the count of equal ones and the frames heard"
 abbrev pub forgotten : Bool → Heard
-forgotten signal = record { framed = 0; frame = failed; line = failed; last = 0; count = 0; signal = signal }
+forgotten signal = record { framed = 0; frame = failed; linequality = failed; last = 0; count = 0; signal = signal }
 
 -- "signal failing"
 abbrev pub freshHeard : Heard
@@ -62,7 +62,7 @@ heardAfter heard kind argument said time =
     record {
       framed = cond forgets 0 (cond frame time (heard .framed));
       frame = cond forgets failed (cond frame said (heard .frame));
-      line = cond forgets failed (cond counted (lineAfter said count (heard .line)) (heard .line));
+      linequality = cond forgets failed (cond counted (lineAfter said count (heard .linequality)) (heard .linequality));
       last = cond forgets 0 (cond counted argument (heard .last));
       count = cond forgets 0 (cond counted count (heard .count));
       signal = cond (eqb kind kindSignal) (eqb argument 0) (heard .signal);
@@ -90,7 +90,7 @@ qualityNow heard settings mode =
     (cond (not mode) notTold
     (cond (not (eqb (settings .fixed .0) 0)) (settings .fixed)
     (cond (takesFrames (settings .kind)) (heard .frame)
-    (heard .line))))
+    (heard .linequality))))
 
 -- raw quality is that of a frame, which expires
 unfoldable pub canExpire : Heard → Settings → Bool → Bool

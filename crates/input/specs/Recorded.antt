@@ -72,7 +72,7 @@ floorSet input history = lastArgument input kindFloor 0 history
 
 -- the floor in force: as set, or "fresh value 4", in option II "fresh value 6"
 abbrev pub floorOf : ℕ → History → ℕ
-floorOf input history = floorIn (limitsOf (profileOf history) .own) (floorSet input history)
+floorOf input history = floorIn (limitsOf (profileOf history) .freerunning) (floorSet input history)
 
 -- "SSM sending on or off", fresh on
 abbrev pub isSending : ℕ → History → Bool

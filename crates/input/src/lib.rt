@@ -36,7 +36,7 @@ const MINUTE: u64 = 60_000;
 pub struct Heard {
     pub framed: u64,
     pub frame: Quality,
-    pub line: Quality,
+    pub linequality: Quality,
     pub last: u16,
     pub count: u8,
     pub signal: bool,
@@ -91,7 +91,7 @@ fn forgotten(signal: bool) -> Heard
     Heard {
         framed: 0,
         frame: FAILED,
-        line: FAILED,
+        linequality: FAILED,
         last: 0,
         count: 0,
         signal,
@@ -119,9 +119,9 @@ impl Heard {
     {
         if self.signal {
             let count = equal_count(number, self.last, self.count);
-            let old = self.line;
+            let old = self.linequality;
             let line = line_after(said, count, old);
-            self.line = line;
+            self.linequality = line;
             self.last = number;
             self.count = count;
             return self;
@@ -153,7 +153,7 @@ fn quality_now(heard: Heard, settings: Settings, mode: bool) -> Quality
                 if takes_frames(kind) {
                     return heard.frame;
                 }
-                return heard.line;
+                return heard.linequality;
             }
             return settings.fixed;
         }

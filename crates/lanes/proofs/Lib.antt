@@ -1,2 +1,2 @@
 -- Laws of what the code answers, one for each way through.
-pub mod Laws
+pub mod LanesLaws

@@ -23,12 +23,12 @@ pub record Judging (test : Bool) (octet answer : ℕ) : Type 0 where
 -- what is judged of the five octets of an answer, as one number
 abbrev pub answerValue : View → Answer → ℕ
 answerValue view answer =
-    (((judgedOctet (view .selected) (answer .selected) * 256 + judgedOctet (view .state) (answer .state)) * 256
-    + judgedOctet (view .quality) (answer .quality))
+    (((judgedOctet (view .selected) (answer .selected) * 256 + judgedOctet (view .state) (answer .clockstate)) * 256
+    + judgedOctet (view .quality) (answer .clockquality))
     * 256
-    + judgedOctet (view .switch) (answer .switch))
+    + judgedOctet (view .switch) (answer .switchkind))
     * 256
-    + judgedOctet (view .switch) (answer .on)
+    + judgedOctet (view .switch) (answer .switchinput)
 
 -- the code of a port
 unfoldable pub codeValue : List ℕ → ℕ → ℕ

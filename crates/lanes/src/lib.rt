@@ -49,10 +49,10 @@ pub fn answer_value(view: View, answer: Answer) -> u64
     ensures { λ value. ⌜ value ≡ answerValue view answer ⌝ }
 {
     let selected = judged(view.selected, answer.selected);
-    let state = judged(view.state, answer.state);
-    let quality = judged(view.quality, answer.quality);
-    let switch = judged(view.switch, answer.switch);
-    let on = judged(view.switch, answer.on);
+    let state = judged(view.state, answer.clockstate);
+    let quality = judged(view.quality, answer.clockquality);
+    let switch = judged(view.switch, answer.switchkind);
+    let on = judged(view.switch, answer.switchinput);
     (((selected * 256 + state) * 256 + quality) * 256 + switch) * 256 + on
 }
 

@@ -1,7 +1,7 @@
 -- The tables of codes and words, by computation; the tests on a row of the table of kinds; that no report says failed;
 -- of rows of refusals, that the first that applies is the smallest. `Truth`: tests, by their cases.
 pub mod Truth
-pub mod Laws
+pub mod KindLaws
 pub mod Rows
 pub mod Cases
 pub mod Profiles

@@ -32,9 +32,9 @@ optionOf (P.OptionTwo place marks) = optionTwo
 -- what a clock by itself tells, which is also an input's fresh floor
 unfoldable pub limitsOf : Profile → Limits
 -- "fixed quality 1 to 5", "a floor 1 to 4, fresh value 4", "0 line, 1 Ethernet", "otherwise 4"
-limitsOf P.OptionOne = record { fixed = 5; floor = 4; input = 1; words = false; own = sec }
+limitsOf P.OptionOne = record { fixed = 5; floor = 4; input = 1; words = false; freerunning = sec }
 -- "fixed quality runs 1 to 10", "Floors run 1 to 8, fresh value 6", "argument 2 of event kind 10", "tell 6"
-limitsOf (P.OptionTwo place marks) = record { fixed = 10; floor = 8; input = 2; words = true; own = st3 }
+limitsOf (P.OptionTwo place marks) = record { fixed = 10; floor = 8; input = 2; words = true; freerunning = st3 }
 
 -- "the place of PROV (0 none, 1 to 8 ..)"; option I has none
 unfoldable pub placeOf : Profile → ℕ

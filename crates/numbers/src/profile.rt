@@ -34,7 +34,7 @@ pub struct Limits {
     pub floor: u16,
     pub input: u16,
     pub words: bool,
-    pub own: Quality,
+    pub freerunning: Quality,
 }
 
 // What the options differ in.
@@ -47,14 +47,14 @@ pub fn limits_of(profile: Profile) -> Limits
             floor: 4,
             input: 1,
             words: false,
-            own: SEC,
+            freerunning: SEC,
         },
         Profile::OptionTwo(_, _) => Limits {
             fixed: 10,
             floor: 8,
             input: 2,
             words: true,
-            own: ST3,
+            freerunning: ST3,
         },
     }
 }

@@ -54,19 +54,19 @@ told-number due told next number one seven state =
 pub told-answer : (due told : List ℕ) (next : ℕ) (answer : Answer) (count : ℕ) → length due ≡ 1 → length told ≡ 7
     → (state : Selector)
     → watchHeld state (set due 0 next)
-    (set (set (set (set (set (set (set told 0 (answer .number)) 1 (answer .selected)) 2 (answer .state)) 3
-    (answer .quality))
+    (set (set (set (set (set (set (set told 0 (answer .number)) 1 (answer .selected)) 2 (answer .clockstate)) 3
+    (answer .clockquality))
     4
-    (answer .switch))
+    (answer .switchkind))
     5
-    (answer .on))
+    (answer .switchinput))
     6
     count)
     ≡ watchOf state next answer count
 told-answer due told next answer count one seven state =
     let ss : List (ℕ × ℕ) =
-    (0, answer .number) ∷ (1, answer .selected) ∷ (2, answer .state) ∷ (3, answer .quality) ∷ (4, answer .switch) ∷
-    (5, answer .on) ∷
+    (0, answer .number) ∷ (1, answer .selected) ∷ (2, answer .clockstate) ∷ (3, answer .clockquality) ∷ (4, answer .switchkind) ∷
+    (5, answer .switchinput) ∷
     (6, count) ∷
     [] in
     let same = onces-rest 0 7 ss told refl (omega arith) in

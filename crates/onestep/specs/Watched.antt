@@ -15,10 +15,10 @@ sixValues told =
     record {
       number = told 0;
       selected = told 1;
-      state = told 2;
-      quality = told 3;
-      switch = told 4;
-      on = told 5;
+      clockstate = told 2;
+      clockquality = told 3;
+      switchkind = told 4;
+      switchinput = told 5;
     }
 
 -- the answer that a list holds

@@ -99,10 +99,10 @@ pub fn tell(due: &mut [u64; DUE], told: &mut [u8; TOLD], next: u64, answer: Answ
     due[NEXT] = next;
     told[NUMBER] = answer.number;
     told[SELECTED] = answer.selected;
-    told[STATE] = answer.state;
-    told[QUALITY] = answer.quality;
-    told[SWITCH] = answer.switch;
-    told[ON] = answer.on;
+    told[STATE] = answer.clockstate;
+    told[QUALITY] = answer.clockquality;
+    told[SWITCH] = answer.switchkind;
+    told[ON] = answer.switchinput;
     told[COUNT] = count;
 }
 

@@ -21,7 +21,7 @@ use Rattle.sender.specs.declared.Asked.{Asked}
 use Rattle.sender.specs.declared.Senders.{Senders}
 use Rattle.sender.specs.Heartbeat.{Question, questionOf, questionNumber}
 use Rattle.sender.specs.Sender.{senderAt, askedNumber, answeredWith, askedOf, asked, contentOf, AskSenders}
-use Rattle.sender.proofs.Laws.{questionNumber-fit}
+use Rattle.sender.proofs.SenderLaws.{questionNumber-fit}
 use Rattle.sender.proofs.Agrees.{asked-refused}
 use Rattle.questions.specs.declared.LineText.{LineText}
 use Rattle.questions.specs.declared.QuestionAnswer.{QuestionAnswer}

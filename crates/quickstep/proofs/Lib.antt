@@ -1,8 +1,8 @@
 -- `Again`: what is said again changes next to nothing. `Due`: a time before which nothing is due. `Step`: the plain
--- step before anything is due. `Laws`: the code's definitions, way by way. `Right`: a watch has the state, the answers
--- and the counts of the plain step.
+-- step before anything is due. `QuickLaws`: the code's definitions, way by way. `SameAsPlain`: a watch has the state,
+-- the answers and the counts of the plain step.
 pub mod Again
 pub mod Due
 pub mod Step
-pub mod Laws
-pub mod Right
+pub mod QuickLaws
+pub mod SameAsPlain

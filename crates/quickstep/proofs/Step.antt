@@ -33,11 +33,11 @@ use Rattle.due.proofs.Every.{every-at}
 use Rattle.due.proofs.Millisecond.{SettledAt}
 use Rattle.due.proofs.Calm.{Calm, decided-moved}
 use Rattle.due.proofs.Jump.{each-before, dueIn-before}
-use Rattle.due.proofs.Right.{ticked-each, served-count}
+use Rattle.due.proofs.ServesEachDue.{ticked-each, served-count}
 use Rattle.events.specs.declared.Stepped.{Stepped}
 use Rattle.events.specs.Given.{recordedEvent}
 use Rattle.events.specs.Step.{inputAfter, inputsAfter, modeAfter, atItsMoment, stepped, earlyNumber, lateNumber, stepRead}
-use Rattle.events.proofs.Laws.{lateRefusal-other}
+use Rattle.events.proofs.EventLaws.{lateRefusal-other}
 use Rattle.events.proofs.Refused.{accepted-input}
 use Rattle.events.proofs.Calm.{accepted-or-not, stepRead-barred, stepRead-taken, not-before, not-never, calm-brought, brought-time}
 use Rattle.quickstep.specs.Again.{isAgain, againInput}
@@ -75,7 +75,7 @@ candidate-alike : (profile : Profile) (before after : Input) (mode : Bool) → s
 unfolding seenAlike candidateFor
 candidate-alike profile before after mode e =
     ap
-    (λ (seen : Seen). candidateOf (placeOf profile) (floorIn (limitsOf profile .own) (seen .floor)) (seen .passed)
+    (λ (seen : Seen). candidateOf (placeOf profile) (floorIn (limitsOf profile .freerunning) (seen .floor)) (seen .passed)
     (seen .priority) (seen .locked) mode)
     (sym (isLike-same (seenOf before) (seenOf after) e))
 

@@ -26,7 +26,7 @@ use Rattle.quickstep.specs.declared.Own.{Own}
 unfoldable pub codeAgain : Profile → Heard → ℕ → Bool
 codeAgain profile heard code =
     heard .signal && eqb (heard .last) code && eqb (heard .count) reportsNeeded &&
-    eqb (heard .line .0) (qualityOfCode profile code .0)
+    eqb (heard .linequality .0) (qualityOfCode profile code .0)
 
 -- a frame says what the last one said, in a run that is failed or not failed
 unfoldable pub frameAgain : Profile → Heard → Bool → ℕ → Bool
@@ -72,7 +72,7 @@ framedInput input time =
           record {
             framed = time;
             frame = input .heard .frame;
-            line = input .heard .line;
+            linequality = input .heard .linequality;
             last = input .heard .last;
             count = input .heard .count;
             signal = input .heard .signal;

@@ -36,10 +36,10 @@ numbered number answer =
     record {
       number = number;
       selected = answer .selected;
-      state = answer .state;
-      quality = answer .quality;
-      switch = answer .switch;
-      on = answer .on;
+      clockstate = answer .clockstate;
+      clockquality = answer .clockquality;
+      switchkind = answer .switchkind;
+      switchinput = answer .switchinput;
     }
 
 -- a fresh state
@@ -58,7 +58,7 @@ movedTo state inputs time =
       selection = state .selection;
       profile = state .profile;
       mode = state .mode;
-      held = state .held;
+      waslocked = state .waslocked;
     }
 
 -- a time before which nothing is due, at an event: once it has come, when something is next due of the inputs, later

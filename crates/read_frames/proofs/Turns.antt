@@ -17,7 +17,7 @@ use Rattle.calls.specs.declared.Ended.{Ended}
 use Rattle.calls.specs.declared.Outcome.{Outcome}
 use Rattle.calls.specs.Calls.{isWhole, readEnding, octetsMoved, Delivered, TextTaken}
 use Rattle.calls.specs.Answered.{Begins, GoesOn, Answered}
-use Rattle.calls.proofs.Laws.{text-all}
+use Rattle.calls.proofs.CallsLaws.{text-all}
 use Rattle.calls.proofs.Answered.{piece-within, piece-count, piece-none, turn-unread, turn-taken, turn-last, ended-right}
 use Rattle.read_frames.specs.declared.Told.{Told}
 use Rattle.read_frames.specs.Frames.{toldOf, toldSoFar, framesTold, longestTold, HoldsLine, ToldChunk}

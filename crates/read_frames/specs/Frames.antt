@@ -10,7 +10,7 @@ use Rattle.digits.specs.Digits.{isDigit, allDigits}
 use Rattle.reader.specs.Lines.{lineFeed, linesOf}
 use Rattle.frametext.specs.Message.{frameLineText}
 use Rattle.replayer.specs.Chunks.{endedLines, unended}
-use Rattle.text.specs.Parts.{Put}
+use Rattle.text.specs.PutAt.{Put}
 use Rattle.read_frames.specs.declared.Told.{Told}
 
 -- ---- what is told

@@ -6,7 +6,7 @@
 use calls::Ending;
 use calls::Stream;
 use calls::write_alone;
-use clerk::serve;
+use lineloop::serve;
 use unitstart::UnitStart;
 use unitstart::read_unit_start;
 ghost use mathlib.Core.Path.{_≡_};
@@ -20,7 +20,7 @@ fn main() {
         say_unit_start(start);
         return;
     };
-    let ended = serve(desk::of_unit(profile, minimum));
+    let ended = serve(answerer::of_unit(profile, minimum));
     let ending = ended.ending;
     calls::say(ending);
 }

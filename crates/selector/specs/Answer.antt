@@ -32,12 +32,12 @@ selectedCandidate profile inputs mode (S.At number) = candidateAt profile inputs
 abbrev pub stateOf : Selector → ℕ
 stateOf state =
     clockState (selectedCandidate (state .profile) (state .inputs) (state .mode) (state .selection) .usable)
-    (state .held)
+    (state .waslocked)
 
 -- the clock quality of a selector
 abbrev pub qualityOf : Selector → Quality
 qualityOf state =
-    clockQuality (limitsOf (state .profile) .own) (state .mode)
+    clockQuality (limitsOf (state .profile) .freerunning) (state .mode)
     (selectedCandidate (state .profile) (state .inputs) (state .mode) (state .selection))
 
 -- "Answer line: number .., selected input or ff, clock state, clock quality, switch .., its input or ff"
@@ -46,10 +46,10 @@ answerOf number state =
     record {
       number = number;
       selected = selectedNumber (state .selection);
-      state = stateOf state;
-      quality = qualityOf state .0;
-      switch = switchNumber (state .switch);
-      on = switchInput (state .switch);
+      clockstate = stateOf state;
+      clockquality = qualityOf state .0;
+      switchkind = switchNumber (state .switch);
+      switchinput = switchInput (state .switch);
     }
 
 -- what goes out of a port, code or word, by a rule: `first` says the clock quality on a port marked first generation

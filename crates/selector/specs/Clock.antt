@@ -31,9 +31,9 @@ locked = 2
 -- "02 locked if an input is selected and its passed quality is usable ..; otherwise 01 holdover if it was locked after
 -- any earlier choice, 00 free run if not"
 unfoldable pub clockState : Bool → Bool → ℕ
-clockState isClockLocked held =
+clockState isClockLocked waslocked =
     cond isClockLocked locked
-    (cond held holdover
+    (cond waslocked holdover
     freeRun)
 
 -- "Clock quality: 0 with mode off; the passed quality when locked; otherwise 4", or what the option's own clock tells

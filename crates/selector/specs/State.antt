@@ -28,7 +28,7 @@ freshSelector profile =
       selection = S.Nothing;
       profile = profile;
       mode = true;
-      held = false;
+      waslocked = false;
     }
 
 -- what a choice looks at of an input
@@ -44,7 +44,7 @@ seenOf input =
 -- an input as a choice sees it
 unfoldable pub candidateFor : Profile → Bool → Input → Candidate
 candidateFor profile mode input =
-    candidateOf (placeOf profile) (floorIn (limitsOf profile .own) (input .settings .floor)) (passedOf input)
+    candidateOf (placeOf profile) (floorIn (limitsOf profile .freerunning) (input .settings .floor)) (passedOf input)
     (input .settings .priority)
     (input .settings .locked)
     mode
@@ -63,14 +63,14 @@ withChoice state choice =
       selection = choice .selection;
       profile = state .profile;
       mode = state .mode;
-      held = choice .held;
+      waslocked = choice .waslocked;
     }
 
 -- what the switch judged and the choice made come to
 abbrev pub afterChoice : Selector → AfterChoice
 afterChoice state =
     decide (candidatesOf (state .profile) (state .inputs) (state .mode)) (state .switch)
-    (state .selection) (state .held)
+    (state .selection) (state .waslocked)
 
 -- "the switch judged, the choice made"
 unfoldable pub decided : Selector → Selector
@@ -86,7 +86,7 @@ allBroughtTo state time =
       selection = state .selection;
       profile = state .profile;
       mode = state .mode;
-      held = state .held;
+      waslocked = state .waslocked;
     }
 
 -- "a tick at its time (all passed qualities brought up to date, the switch judged, the choice made)"

@@ -60,7 +60,7 @@ pub struct Selector {
     pub selection: Selection,
     pub profile: Profile,
     pub mode: bool,
-    pub held: bool,
+    pub waslocked: bool,
 }
 
 // An input, or a fresh one where there is no such number.
@@ -98,7 +98,7 @@ pub fn candidate_for(profile: Profile, input: Input, mode: bool) -> Candidate
     let priority = seen.priority;
     let place = place_of(profile);
     let limits = limits_of(profile);
-    let own = limits.own;
+    let own = limits.freerunning;
     let floor = floor_in(own, seen.floor);
     candidate_of(place, floor, passed, priority, seen.locked, mode)
 }
@@ -164,7 +164,7 @@ impl Selector {
             selection,
             profile,
             mode: true,
-            held: false,
+            waslocked: false,
         }
     }
 
@@ -177,7 +177,7 @@ impl Selector {
         let candidates = candidates_of(profile, inputs, self.mode);
         let before = self.switch;
         let earlier = self.selection;
-        let choice = decide(candidates, before, earlier, self.held);
+        let choice = decide(candidates, before, earlier, self.waslocked);
         let switch = choice.switch;
         let selection = choice.selection;
         Selector {
@@ -187,7 +187,7 @@ impl Selector {
             selection,
             profile,
             mode: self.mode,
-            held: choice.held,
+            waslocked: choice.waslocked,
         }
     }
 
@@ -211,16 +211,16 @@ impl Selector {
         let selection = self.selection;
         let profile = self.profile;
         let limits = limits_of(profile);
-        let own = limits.own;
+        let own = limits.freerunning;
         let candidate = selected_candidate(profile, inputs, self.mode, selection);
         let quality = clock_quality(own, self.mode, candidate);
         Answer {
             number,
             selected: selected_number(selection),
-            state: clock_state(candidate.usable, self.held),
-            quality: quality.0,
-            switch: switch_number(switch),
-            on: switch_input(switch),
+            clockstate: clock_state(candidate.usable, self.waslocked),
+            clockquality: quality.0,
+            switchkind: switch_number(switch),
+            switchinput: switch_input(switch),
         }
     }
 
@@ -232,7 +232,7 @@ impl Selector {
         let selection = self.selection;
         let profile = self.profile;
         let limits = limits_of(profile);
-        let own = limits.own;
+        let own = limits.freerunning;
         let candidate = selected_candidate(profile, inputs, self.mode, selection);
         clock_quality(own, self.mode, candidate)
     }
@@ -378,13 +378,13 @@ fn selected_candidate(
 }
 
 // The clock state: locked, or whether it ever was.
-pub fn clock_state(locked: bool, held: bool) -> u8
-    ensures { λ answer. ⌜ answer ≡ clockState locked held ⌝ }
+pub fn clock_state(locked: bool, waslocked: bool) -> u8
+    ensures { λ answer. ⌜ answer ≡ clockState locked waslocked ⌝ }
 {
     if locked {
         return LOCKED;
     }
-    if held {
+    if waslocked {
         return HOLDOVER;
     }
     FREE_RUN

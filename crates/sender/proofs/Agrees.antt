@@ -10,7 +10,7 @@ use lib.Seq.{getD-set-same, getD-set-other}
 use borrow.Author.Tests.{eq-eqb, ne-eqb, eqb-true, eqb-false, leb-true, leb-false}
 use Rattle.numbers.specs.Refusal.{accepted}
 use Rattle.numbers.proofs.Truth.{byBool, both-second}
-use Rattle.selector.proofs.Laws.{getD-past}
+use Rattle.selector.proofs.SelectorLaws.{getD-past}
 use Rattle.sender.specs.declared.Asked.{Asked}
 use Rattle.sender.specs.declared.Heartbeat.{Heartbeat}
 use Rattle.sender.specs.declared.Heartbeat.the-variants as H
@@ -19,7 +19,7 @@ use Rattle.sender.specs.declared.Senders.{Senders}
 use Rattle.sender.specs.Heartbeat.{Question, Questions, codeAsked, questionNumber, isEarlier, numberOver, acceptedOf, sentOver, heartbeatOver}
 use Rattle.sender.specs.Sender.{freshSender, freshSenders, heartbeatOf, afterHeartbeat, senderAt, askedNumber, answeredWith, askedOf, asked}
 use Rattle.sender.specs.Sequence.{sendersAfter}
-use Rattle.sender.proofs.Laws.{Fit, questionNumber-fit}
+use Rattle.sender.proofs.SenderLaws.{Fit, questionNumber-fit}
 use Rattle.sender.proofs.Kept.{lastAsked, isEarlier-asked, senderOver, heartbeatOf-over, afterHeartbeat-over, Falling, falling-descending}
 
 -- ---- acceptedOf

@@ -1,7 +1,7 @@
 -- Outgoing codes are small; the laws of what the code keeps, one for each way through; what it keeps is what the
 -- accepted questions come to, after any sequence; and what is stated in `specs/Sending`.
 pub mod Codes
-pub mod Laws
+pub mod SenderLaws
 pub mod Kept
 pub mod Agrees
 pub mod Sending

@@ -20,7 +20,7 @@ use Rattle.due.specs.Each.{each, dueIn}
 use Rattle.due.proofs.Calm.{movedTo, Calm, calm-tickedOnce}
 use Rattle.due.proofs.Each.{each-each, dueIn-each, dueIn-most}
 use Rattle.due.proofs.Jump.{nextDue-later, each-before, each-next, dueIn-next}
-use Rattle.due.proofs.Right.{ticked-each}
+use Rattle.due.proofs.ServesEachDue.{ticked-each}
 use Rattle.input.specs.Recorded.{timeOf}
 use Rattle.numbers.specs.declared.Event.{Event}
 use Rattle.numbers.specs.Profile.{limitsOf}

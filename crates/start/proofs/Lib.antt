@@ -1,2 +1,2 @@
 -- Laws of START, way by way.
-pub mod Laws
+pub mod StartLaws

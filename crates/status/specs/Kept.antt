@@ -1,5 +1,5 @@
--- What is known of an input, by what the code keeps of it. Cited by `src/lib.rt`; `proofs/Right` shows that it is what
--- `Status` says. Assumes nothing.
+-- What is known of an input, by what the code keeps of it. Cited by `src/lib.rt`; `proofs/WhatHappened` shows that it
+-- is what `Status` says. Assumes nothing.
 use Prim.Native.Nat.{ℕ}
 use mathlib.Core.Bool.{Bool, cond}
 use lib.ListN.{getD}
@@ -41,7 +41,7 @@ statusOf profile input mode time =
       kind = input .settings .kind;
       priority = input .settings .priority;
       locked = input .settings .locked;
-      floor = floorIn (limitsOf profile .own) (input .settings .floor);
+      floor = floorIn (limitsOf profile .freerunning) (input .settings .floor);
     }
 
 -- an input of a state, at the state's time

@@ -87,7 +87,7 @@ pub fn status_of(profile: Profile, input: Input, mode: bool, time: u64) -> Statu
     let priority = settings.priority;
     let kind = settings.kind;
     let limits = limits_of(profile);
-    let own = limits.own;
+    let own = limits.freerunning;
     let floor = floor_in(own, settings.floor);
     let candidate = candidate_for(profile, input, mode);
     let raw = forecast.raw_at(time);

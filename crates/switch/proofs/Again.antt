@@ -13,7 +13,7 @@ use Rattle.choice.proofs.Choosing.{choose-again}
 use Rattle.choice.proofs.Ranks.{isBetter-ranking}
 use Rattle.switch.specs.declared.Switch.{Switch}
 use Rattle.switch.specs.declared.Switch.the-variants as W
-use Rattle.switch.specs.OneChoice.{judged, selectedBy, isClockLocked, isHeld, decide}
+use Rattle.switch.specs.OneChoice.{judged, selectedBy, isClockLocked, wasLocked, decide}
 use Rattle.switch.specs.Choices.{ChoiceMoment, Choices, commanded, decidedOver}
 use Rattle.switch.proofs.Standing.{Commands, stands, judged-stands, commanded-other}
 
@@ -37,25 +37,25 @@ selectedBy-again candidates W.Nothing before =
 selectedBy-again candidates (W.Forced on) before = refl
 selectedBy-again candidates (W.Manual on) before = refl
 
-pub isHeld-again : (held locked : Bool) → isHeld (isHeld held locked) locked ≡ isHeld held locked
-unfolding isHeld
-isHeld-again held true = refl
-isHeld-again held false = refl
+pub wasLocked-again : (waslocked locked : Bool) → wasLocked (wasLocked waslocked locked) locked ≡ wasLocked waslocked locked
+unfolding wasLocked
+wasLocked-again waslocked true = refl
+wasLocked-again waslocked false = refl
 
 -- ---- the theorems
 
-module _ (candidates : List Candidate) (switch : Switch) (before : Selection) (held : Bool) where
+module _ (candidates : List Candidate) (switch : Switch) (before : Selection) (waslocked : Bool) where
   -- deciding again changes nothing
   pub decided-again :
-      decide candidates (decide candidates switch before held .switch) (decide candidates switch before held .selection)
-      (decide candidates switch before held .held)
-      ≡ decide candidates switch before held
+      decide candidates (decide candidates switch before waslocked .switch) (decide candidates switch before waslocked .selection)
+      (decide candidates switch before waslocked .waslocked)
+      ≡ decide candidates switch before waslocked
   unfolding decide
   decided-again =
       rw (
         judged-again candidates switch,
         selectedBy-again candidates (judged candidates switch) before,
-        isHeld-again held (isClockLocked candidates (selectedBy candidates (judged candidates switch) before)),
+        wasLocked-again waslocked (isClockLocked candidates (selectedBy candidates (judged candidates switch) before)),
       )
 
 module _ (again choice : ChoiceMoment) (earlier : Choices) where
@@ -66,7 +66,7 @@ module _ (again choice : ChoiceMoment) (earlier : Choices) where
   decidedOver-again same none =
       rw (same, commanded-other (again .kind) (again .on) (decidedOver (choice ∷ earlier) .switch) none)
       (decided-again (choice .candidates) (commanded (choice .kind) (choice .on) (decidedOver earlier .switch))
-      (decidedOver earlier .selection) (decidedOver earlier .held))
+      (decidedOver earlier .selection) (decidedOver earlier .waslocked))
 
   -- such as a tick's
   pub decidedOver-tick : again .candidates ≡ choice .candidates → again .kind ≡ kindTick

@@ -19,9 +19,9 @@ use Rattle.choice.proofs.Choosing.{choose-chosen, selected-injective, nothing-s
 use Rattle.choice.proofs.Ranks.{isBetter-ranking, lower-none}
 use Rattle.switch.specs.declared.Switch.{Switch}
 use Rattle.switch.specs.declared.Switch.the-variants as W
-use Rattle.switch.specs.OneChoice.{forcedMayStand, manualMayStand, judged, selectedBy, isClockLocked, isHeld, decide}
-use Rattle.switch.specs.Choices.{ChoiceMoment, Choices, forcedOn, manualOn, commanded, decidedOver, choicesAgo, Locked, HeldRight}
-use Rattle.switch.proofs.Laws.{selectedBy-forced, selectedBy-manual}
+use Rattle.switch.specs.OneChoice.{forcedMayStand, manualMayStand, judged, selectedBy, isClockLocked, wasLocked, decide}
+use Rattle.switch.specs.Choices.{ChoiceMoment, Choices, forcedOn, manualOn, commanded, decidedOver, choicesAgo, Locked, WasLockedRight}
+use Rattle.switch.proofs.OneChoiceLaws.{selectedBy-forced, selectedBy-manual}
 use Rattle.switch.proofs.Standing.{Passes, manual-passes, switch-right}
 
 -- ---- what has to hold, over candidates
@@ -144,18 +144,18 @@ selected-admitted (choice ∷ earlier) number x = go (decidedOver (choice ∷ ea
         (selected-injective (on .0) number (sym (selection-right choice earlier .manual (on .0) y .0) ∙ x))
         (eligible-admitted (choice .candidates) (on .0) (selection-right choice earlier .manual (on .0) y .1))
 
--- ---- held
+-- ---- waslocked
 
-held-some : (choices : Choices) → decidedOver choices .held ≡ true → (back : ℕ) × Locked (choicesAgo back choices)
-unfolding decidedOver choicesAgo decide isHeld
-held-some [] x = absurd (false≢true x)
-held-some (choice ∷ earlier) x =
+waslocked-some : (choices : Choices) → decidedOver choices .waslocked ≡ true → (back : ℕ) × Locked (choicesAgo back choices)
+unfolding decidedOver choicesAgo decide wasLocked
+waslocked-some [] x = absurd (false≢true x)
+waslocked-some (choice ∷ earlier) x =
     go (isClockLocked (choice .candidates) (decidedOver (choice ∷ earlier) .selection)) refl x
-    (λ z. held-some earlier z)
+    (λ z. waslocked-some earlier z)
   where
     go : (locked : Bool) → isClockLocked (choice .candidates) (decidedOver (choice ∷ earlier) .selection) ≡ locked
-        → cond locked true (decidedOver earlier .held) ≡ true
-        → (decidedOver earlier .held ≡ true → (back : ℕ) × Locked (choicesAgo back earlier))
+        → cond locked true (decidedOver earlier .waslocked) ≡ true
+        → (decidedOver earlier .waslocked ≡ true → (back : ℕ) × Locked (choicesAgo back earlier))
         → (back : ℕ) × Locked (choicesAgo back (choice ∷ earlier))
     go true y z before = (0, y)
     go false y z before = (suc (before z .0), before z .1)
@@ -164,15 +164,15 @@ either-true : (locked : Bool) → cond locked true true ≡ true
 either-true true = refl
 either-true false = refl
 
-held-any : (choices : Choices) (back : ℕ) → Locked (choicesAgo back choices) → decidedOver choices .held ≡ true
-unfolding decidedOver choicesAgo decide isHeld
-held-any [] zero x = absurd x
-held-any [] (suc back) x = absurd x
-held-any (choice ∷ earlier) zero x = rw x
-held-any (choice ∷ earlier) (suc back) x =
-    rw (held-any earlier back x)
+waslocked-any : (choices : Choices) (back : ℕ) → Locked (choicesAgo back choices) → decidedOver choices .waslocked ≡ true
+unfolding decidedOver choicesAgo decide wasLocked
+waslocked-any [] zero x = absurd x
+waslocked-any [] (suc back) x = absurd x
+waslocked-any (choice ∷ earlier) zero x = rw x
+waslocked-any (choice ∷ earlier) (suc back) x =
+    rw (waslocked-any earlier back x)
     (either-true (isClockLocked (choice .candidates) (decidedOver (choice ∷ earlier) .selection)))
 
 -- the clock has been locked exactly if it was locked after some choice
-pub held-right : (choices : Choices) → HeldRight choices
-held-right choices = record { some = held-some choices; any = held-any choices }
+pub waslocked-right : (choices : Choices) → WasLockedRight choices
+waslocked-right choices = record { some = waslocked-some choices; any = waslocked-any choices }

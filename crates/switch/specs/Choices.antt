@@ -47,13 +47,13 @@ commanded kind on switch =
 
 -- what the choices come to: each is made on what the one before it left
 unfoldable pub decidedOver : Choices → AfterChoice
-decidedOver [] = record { switch = W.Nothing; selection = S.Nothing; held = false }
+decidedOver [] = record { switch = W.Nothing; selection = S.Nothing; waslocked = false }
 decidedOver (choice ∷ earlier) =
     let before = decidedOver earlier in
     decide (choice .candidates)
     (commanded (choice .kind) (choice .on) (before .switch))
     (before .selection)
-    (before .held)
+    (before .waslocked)
 
 -- of choices, the latest first: the one that was made `count` choices ago, with those before it
 unfoldable pub choicesAgo : {Choice : Type 0} → ℕ → List Choice → List Choice
@@ -67,6 +67,6 @@ Locked [] = ⊥
 Locked (choice ∷ earlier) = isClockLocked (choice .candidates) (decidedOver (choice ∷ earlier) .selection) ≡ true
 
 -- "if it was locked after any earlier choice"
-pub record HeldRight (choices : Choices) : Type 0 where
-  pub some : decidedOver choices .held ≡ true → (back : ℕ) × Locked (choicesAgo back choices)
-  pub any : (back : ℕ) → Locked (choicesAgo back choices) → decidedOver choices .held ≡ true
+pub record WasLockedRight (choices : Choices) : Type 0 where
+  pub some : decidedOver choices .waslocked ≡ true → (back : ℕ) × Locked (choicesAgo back choices)
+  pub any : (back : ℕ) → Locked (choicesAgo back choices) → decidedOver choices .waslocked ≡ true

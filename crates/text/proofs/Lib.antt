@@ -1,2 +1,2 @@
 -- Laws of text written from a place, of numbers in decimal, and of numbers read.
-pub mod Laws
+pub mod PlacedText

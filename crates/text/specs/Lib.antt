@@ -1,3 +1,3 @@
 -- Numbers written and read; what the parts of the code promise one another.
 pub mod Text
-pub mod Parts
+pub mod PutAt

@@ -9,7 +9,7 @@ ghost use Prim.Native.Nat.{_+_, _*_, _≤_};
 ghost use lib.ListN.{length};
 ghost use Rattle.digits.specs.Decimal.{decimalOf};
 ghost use Rattle.text.specs.Text.{widestNumber, PutNumbers, readNumber};
-ghost use Rattle.text.specs.Parts.{nextText, Put};
+ghost use Rattle.text.specs.PutAt.{nextText, Put};
 
 // A space and 20 digits hold every number of 64 bits.
 const WIDEST_NUMBER: usize = 21;

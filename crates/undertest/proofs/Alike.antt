@@ -25,7 +25,7 @@ use Rattle.due.specs.Served.{ticked}
 use Rattle.due.specs.Each.{stateIsDue, oneMore, each}
 use Rattle.due.proofs.Calm.{movedTo, Calm}
 use Rattle.due.proofs.Each.{oneMore-due, oneMore-brought, oneMore-inputs, calm-oneMore, calm-each}
-use Rattle.due.proofs.Right.{ticked-each}
+use Rattle.due.proofs.ServesEachDue.{ticked-each}
 use Rattle.numbers.proofs.Truth.{byBool}
 use Rattle.undertest.proofs.Candidates.{Barred, SameAdmitted, decide-same}
 
@@ -183,7 +183,7 @@ module _ (input : ℕ) (line : Input) (state : Selector)
     unfolding decided
     decided-with =
         ap (withChoice (withRecord input line state))
-        (sym (decide-same _ _ candidates-same (state .switch) (state .selection) (state .held)))
+        (sym (decide-same _ _ candidates-same (state .switch) (state .selection) (state .waslocked)))
 
   pub brought-with : (time : ℕ)
       → allBroughtTo (withRecord input line state) time ≡

@@ -185,10 +185,10 @@ module _ (one other : List Candidate) (same : SameAdmitted one other) where
   -- ---- the theorems
 
   -- the switch judged and the choice made come to the same
-  pub decide-same : (switch : Switch) (before : Selection) (held : Bool)
-      → decide one switch before held ≡ decide other switch before held
+  pub decide-same : (switch : Switch) (before : Selection) (waslocked : Bool)
+      → decide one switch before waslocked ≡ decide other switch before waslocked
   unfolding decide
-  decide-same switch before held =
+  decide-same switch before waslocked =
       rw (
         locked-same (selectedBy one (judged one switch) before) (selectedBy-admitted one switch before),
         judged-same switch,

@@ -13,7 +13,7 @@ use Rattle.choice.specs.Candidate.{isUsable, isAdmitted, rankedQuality, candida
 use Rattle.choice.specs.Rank.{isPlaced, rankOf}
 use Rattle.choice.specs.Choice.{seeded, offered, scanned, choose}
 use Rattle.switch.specs.Choices.{commanded}
-use Rattle.switch.specs.OneChoice.{manualMayStand, judged, selectedBy, isClockLocked, isHeld, decide}
+use Rattle.switch.specs.OneChoice.{manualMayStand, judged, selectedBy, isClockLocked, wasLocked, decide}
 use Rattle.selector.specs.State.{candidateFor, decided, tickedOnce}
 use Rattle.due.specs.Next.{lesser, sumOrNever, ifLater, timerDue, frameDue, nextOf, nextAmong}
 use Rattle.due.specs.Served.{servedFrom, served}
@@ -36,7 +36,7 @@ unfolding
     stepRead atItsMoment commanded recordedArgument modeAfter inputsAfter inputAfter heldArgument isHeldInByte
     lateRefusal isForcedSwitch earlyRefusal frameRefusal isWrongKind firstThatApplies isInputOut isArgumentOut rowOf
     served servedFrom nextAmong nextOf frameDue timerDue ifLater sumOrNever lesser
-    tickedOnce decided candidateFor decide isHeld isClockLocked selectedBy judged manualMayStand
+    tickedOnce decided candidateFor decide wasLocked isClockLocked selectedBy judged manualMayStand
     choose scanned offered seeded lowerAmong isLower isBetter isEligible candidateOf rankedQuality isAdmitted isUsable
     isPlaced rankOf
     recordAfter takes afterEvent inputBroughtTo inputAtMoment forecast canExpire qualityNow settingsAfter heardAfter

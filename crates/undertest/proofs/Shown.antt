@@ -89,7 +89,7 @@ module _ (input : ℕ) (line : Input) (state : Selector) (shown : shownOf (line 
   signs-with rule says =
       ap
       (λ (candidate : Candidate). signsOf rule says (withRecord input line state)
-      (clockQuality (limitsOf (state .profile) .own) (state .mode) candidate))
+      (clockQuality (limitsOf (state .profile) .freerunning) (state .mode) candidate))
       candidate-with ∙
       ports-same (signAt rule says (withRecord input line state) (qualityOf state))
       (signAt rule says state (qualityOf state))

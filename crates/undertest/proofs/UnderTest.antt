@@ -32,7 +32,7 @@ use Rattle.events.specs.Refusals.{earlyRefusal}
 use Rattle.events.specs.Step.{kindAt, recordedEvent, eventTaken, atItsMoment, earlyNumber, lateNumber, stepRead, step}
 use Rattle.events.specs.Sequence.{Given, Sequence, stateAfter, numberAfter}
 use Rattle.events.specs.Past.{pastOf, recorded}
-use Rattle.events.proofs.Laws.{lateRefusal-other}
+use Rattle.events.proofs.EventLaws.{lateRefusal-other}
 use Rattle.events.proofs.Refused.{accepted-input}
 use Rattle.events.proofs.Agrees.{settings-at, sequence-agrees}
 use Rattle.events.proofs.Calm.{accepted-or-not, atItsMoment-tick, stepRead-refused, stepRead-barred, stepRead-taken, not-before, not-never, calm-brought, brought-time, sequence-calm}

@@ -295,10 +295,10 @@ output-same unit other answer profile mode minimum = λ j.
   where
     squelched : isSquelched unit ≡ isSquelched other
     squelched = λ j.
-        not (eqb (answer j .state) locked) ||
+        not (eqb (answer j .clockstate) locked) ||
         (mode j &&
         ltb (rankOf (placeOf (profile j)) (minimum j) .0)
-        (rankOf (placeOf (profile j)) (quality (answer j .quality)) .0))
+        (rankOf (placeOf (profile j)) (quality (answer j .clockquality)) .0))
 
 module _ (minimum : Quality) (input : ℕ) (one other : UnitSequence) (butFor : UnitsEqualButFor input one other)
     (off : OffInBoth input one) where

@@ -1,6 +1,6 @@
--- `Laws`: the code's definitions, way by way. `Ticks`: a tick and an event of one selector. `Halves`, `Times`,
+-- `UnitLaws`: the code's definitions, way by way. `Ticks`: a tick and an event of one selector. `Halves`, `Times`,
 -- `Output`, `Runs`, `Agree`, `Cases`: the theorems.
-pub mod Laws
+pub mod UnitLaws
 pub mod Ticks
 pub mod Halves
 pub mod Times

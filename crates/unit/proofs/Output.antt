@@ -55,19 +55,19 @@ use Rattle.unit.proofs.Halves.{half-after, minimum-after}
 -- ---- what the code computes is what has happened
 
 -- the clock is locked exactly if what is selected is usable, and then tells its quality
-clock-same : (place : ℕ) (minimum own : Quality) (mode held : Bool) (candidate : Candidate)
-    → (not (eqb (clockState (candidate .usable) held) locked) ||
+clock-same : (place : ℕ) (minimum own : Quality) (mode waslocked : Bool) (candidate : Candidate)
+    → (not (eqb (clockState (candidate .usable) waslocked) locked) ||
     (mode && ltb (rankOf place minimum .0) (rankOf place (clockQuality own mode candidate) .0))) ≡
     (not (candidate .usable) || (mode && ltb (rankOf place minimum .0) (rankOf place (candidate .quality) .0)))
 unfolding clockState clockQuality
-clock-same place minimum own true held candidate =
+clock-same place minimum own true waslocked candidate =
     byBool (candidate .usable)
     (λ u. rw u)
-    (λ u. byBool held (λ h. rw (u, h)) (λ h. rw (u, h)))
-clock-same place minimum own false held candidate =
+    (λ u. byBool waslocked (λ h. rw (u, h)) (λ h. rw (u, h)))
+clock-same place minimum own false waslocked candidate =
     byBool (candidate .usable)
     (λ u. rw u)
-    (λ u. byBool held (λ h. rw (u, h)) (λ h. rw (u, h)))
+    (λ u. byBool waslocked (λ h. rw (u, h)) (λ h. rw (u, h)))
 
 -- a unit whose station selector is after a sequence of events
 module _ (unit : Unit) (own : Sequence) (minimum : Quality)
@@ -87,11 +87,11 @@ module _ (unit : Unit) (own : Sequence) (minimum : Quality)
   squelched-own : isSquelched unit ≡ squelchedBy minimum (pastOf own)
   unfolding isSquelched squelchedBy
   squelched-own =
-      (λ j. not (eqb (station-answer j .state) locked) ||
+      (λ j. not (eqb (station-answer j .clockstate) locked) ||
       (station-mode j &&
       ltb (rankOf (placeOf (station-profile j)) (set j) .0)
-      (rankOf (placeOf (station-profile j)) (quality (station-answer j .quality)) .0))) ∙
-      clock-same (placeOf (profileOf (recorded own))) minimum _ (modeOn (recorded own)) (decidedBy (madeIn own) .held)
+      (rankOf (placeOf (station-profile j)) (quality (station-answer j .clockquality)) .0))) ∙
+      clock-same (placeOf (profileOf (recorded own))) minimum _ (modeOn (recorded own)) (decidedBy (madeIn own) .waslocked)
       (candidateSelected (pastOf own))
 
   source-own : sourceOf unit ≡ outputBy minimum (pastOf own) .source

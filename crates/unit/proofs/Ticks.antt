@@ -18,7 +18,7 @@ use Rattle.numbers.proofs.Truth.{byBool}
 use Rattle.numbers.proofs.Rows.{testOf, row-exact}
 use Rattle.selector.specs.declared.Selector.{Selector}
 use Rattle.due.specs.Served.{ticked}
-use Rattle.due.proofs.Right.{ticked-twice}
+use Rattle.due.proofs.ServesEachDue.{ticked-twice}
 use Rattle.events.specs.Refusals.{isWrongKind}
 use Rattle.events.specs.Given.{Given, Sequence, tickAt}
 use Rattle.events.specs.Step.{step}

@@ -63,8 +63,8 @@ stepUnit unit to event frame = stepUnitRead unit to event (readCode frame)
 abbrev pub squelchedBy : Answer → Bool → Profile → Quality → Bool
 squelchedBy answer mode profile minimum =
     let place = placeOf profile in
-    not (eqb (answer .state) locked) ||
-    (mode && ltb (rankOf place minimum .0) (rankOf place (quality (answer .quality)) .0))
+    not (eqb (answer .clockstate) locked) ||
+    (mode && ltb (rankOf place minimum .0) (rankOf place (quality (answer .clockquality)) .0))
 
 -- the source identifier of an output that squelches, or doesn't
 abbrev pub sourceBy : Bool → Answer → ℕ

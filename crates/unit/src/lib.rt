@@ -130,19 +130,19 @@ fn half_step(state: Selector, goes: bool, event: Event, read: FrameRead) -> Step
     ticked
 }
 
-// Whether an output squelches, which is to send AIS, by what its selector answers: nothing usable is
-// selected, or, quality mode on, the selected input's passed quality is worse than the minimum. A
-// locked clock's quality is that passed quality.
+// Whether an output squelches, which is to send AIS, by what its selector answers: nothing usable
+// is selected, or, quality mode on, the selected input's passed quality is worse than the minimum.
+// A locked clock's quality is that passed quality.
 pub fn squelches(answer: Answer, mode: bool, profile: Profile, minimum: Quality) -> bool
     ensures { λ squelched. ⌜ squelched ≡ squelchedBy answer mode profile minimum ⌝ }
 {
-    if answer.state != LOCKED {
+    if answer.clockstate != LOCKED {
         return true;
     }
     if mode {
         let place = place_of(profile);
         let worst = rank_of(place, minimum);
-        let passed = rank_of(place, Quality(answer.quality));
+        let passed = rank_of(place, Quality(answer.clockquality));
         return worst.0 < passed.0;
     }
     false

@@ -1,2 +1,2 @@
 -- Laws of the start of a unit.
-pub mod Laws
+pub mod UnitStartLaws

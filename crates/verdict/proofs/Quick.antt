@@ -15,7 +15,7 @@ use Rattle.lanes.specs.Span.{nextSpan}
 use Rattle.verdict.specs.declared.tell.Question.{Question}
 use Rattle.verdict.specs.Told.{pushed, sinceSpan, spansSince, overSpans, laneTold, spansTold}
 use Rattle.verdict.specs.Bench.{shownBy, rightAt, QuickRight}
-use Rattle.verdict.proofs.Laws.{spansLeft, left-step, left-all}
+use Rattle.verdict.proofs.ToldLaws.{spansLeft, left-step, left-all}
 
 shown-value : (view : View) (state : Selector) (number : ℕ)
     → rightAt view (shownBy view state) number ≡ valueOf view state number

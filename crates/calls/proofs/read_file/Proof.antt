@@ -5,7 +5,7 @@ use native.Mathlib.Omega.{arith}
 use mathlib.Core.Path.{_≡_, refl, sym, _∙_}
 use borrow.Author.Tests.{not-true}
 use lib.ListN.{length}
-use Rattle.calls.proofs.Laws.{delivered-failed, moved-within, sum-is}
+use Rattle.calls.proofs.CallsLaws.{delivered-failed, moved-within, sum-is}
 use borrow.Author.Needs.{needs}
 use Rattle.calls.proofs.read_file.Statement.{statement}
 use Rattle.calls.proofs.read_file.Tie as tie

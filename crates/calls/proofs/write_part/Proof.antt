@@ -2,7 +2,7 @@
 -- Assumes nothing.
 use mathlib.Core.Path.{refl}
 use native.Mathlib.Omega.{arith}
-use Rattle.calls.proofs.Laws.{moved-within, sum-is}
+use Rattle.calls.proofs.CallsLaws.{moved-within, sum-is}
 use borrow.Author.Needs.{needs}
 use Rattle.calls.proofs.write_part.Statement.{statement}
 use Rattle.calls.proofs.write_part.Tie as tie

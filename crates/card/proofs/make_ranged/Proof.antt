@@ -1,7 +1,7 @@
 -- `card::make_ranged` meets its contract. Assumes nothing.
 use Rattle.inplace.specs.Lists.{selectorAt}
 use Rattle.onestep.specs.Watched.{watchAt}
-use Rattle.card.proofs.Laws.{ranged-kept, ranged-anew}
+use Rattle.card.proofs.CardLaws.{ranged-kept, ranged-anew}
 use borrow.Author.Needs.{needs}
 use Rattle.card.proofs.make_ranged.Statement.{statement}
 use Rattle.card.proofs.make_ranged.Tie as tie

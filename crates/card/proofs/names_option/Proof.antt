@@ -1,5 +1,5 @@
 -- `card::names_option` meets its contract. Assumes nothing.
-use Rattle.card.proofs.Laws.{namesOption-one, namesOption-other}
+use Rattle.card.proofs.CardLaws.{namesOption-one, namesOption-other}
 use borrow.Author.Needs.{needs}
 use Rattle.card.proofs.names_option.Statement.{statement}
 use Rattle.card.proofs.names_option.Tie as tie

@@ -1,5 +1,5 @@
 -- `card::read_for` meets its contract. Assumes nothing.
-use Rattle.card.proofs.Laws.{readFor-laws}
+use Rattle.card.proofs.CardLaws.{readFor-laws}
 use borrow.Author.Needs.{needs}
 use Rattle.card.proofs.read_for.Statement.{statement}
 use Rattle.card.proofs.read_for.Tie as tie

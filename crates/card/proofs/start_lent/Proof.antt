@@ -1,7 +1,7 @@
 -- `card::start_lent` meets its contract. Assumes nothing.
 use Rattle.inplace.specs.Lists.{selectorAt}
 use Rattle.onestep.specs.Watched.{watchAt}
-use Rattle.card.proofs.Laws.{start-neither, start-fresh, start-refused}
+use Rattle.card.proofs.CardLaws.{start-neither, start-fresh, start-refused}
 use borrow.Author.Tests.{not-true, not-false}
 use borrow.Author.Needs.{needs}
 use Rattle.card.proofs.start_lent.Statement.{statement}

@@ -1,6 +1,6 @@
 -- `card::step_lent` meets its contract. Assumes nothing.
 use Rattle.onestep.specs.Watched.{watchAt}
-use Rattle.card.proofs.Laws.{step-called}
+use Rattle.card.proofs.CardLaws.{step-called}
 use borrow.Author.Needs.{needs}
 use Rattle.card.proofs.step_lent.Statement.{statement}
 use Rattle.card.proofs.step_lent.Tie as tie

@@ -1,5 +1,5 @@
 -- `card::write_port` meets its contract. Assumes nothing.
-use Rattle.card.proofs.Laws.{writePort-laws}
+use Rattle.card.proofs.CardLaws.{writePort-laws}
 use borrow.Author.Needs.{needs}
 use Rattle.card.proofs.write_port.Statement.{statement}
 use Rattle.card.proofs.write_port.Tie as tie

@@ -1,6 +1,6 @@
 -- `choice::are_alike` meets its contract: each way is a law.
 -- Assumes nothing.
-use Rattle.choice.proofs.Laws.{alike-laws}
+use Rattle.choice.proofs.ChoiceLaws.{alike-laws}
 use Rattle.choice.proofs.are_alike.Statement.{statement}
 use Rattle.choice.proofs.are_alike.Tie as tie
 

@@ -1,6 +1,6 @@
 -- `choice::candidate_at` meets its contract: there are sixteen candidates.
 -- Assumes nothing.
-use Rattle.choice.proofs.Laws.{candidateAt-laws}
+use Rattle.choice.proofs.ChoiceLaws.{candidateAt-laws}
 use borrow.Author.Needs.{needs}
 use Rattle.choice.proofs.candidate_at.Statement.{statement}
 use Rattle.choice.proofs.candidate_at.Tie as tie

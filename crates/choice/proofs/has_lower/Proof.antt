@@ -4,7 +4,7 @@ use Prim.Native.Nat.{_≤_, _-_}
 use mathlib.Core.Path.{_≡_}
 use borrow.Author.Needs.{needs}
 use Rattle.choice.specs.Candidate.{lowerAmong}
-use Rattle.choice.proofs.Laws.{lowerAmong-laws}
+use Rattle.choice.proofs.ChoiceLaws.{lowerAmong-laws}
 use Rattle.choice.proofs.has_lower.Statement.{statement}
 use Rattle.choice.proofs.has_lower.Tie as tie
 

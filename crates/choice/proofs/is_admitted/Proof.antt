@@ -1,6 +1,6 @@
 -- `choice::is_admitted` meets its contract: each way is a law.
 -- Assumes nothing.
-use Rattle.choice.proofs.Laws.{isAdmitted-laws}
+use Rattle.choice.proofs.ChoiceLaws.{isAdmitted-laws}
 use Rattle.choice.proofs.is_admitted.Statement.{statement}
 use Rattle.choice.proofs.is_admitted.Tie as tie
 

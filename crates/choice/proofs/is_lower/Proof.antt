@@ -1,6 +1,6 @@
 -- `choice::is_lower` meets its contract: each way is a law.
 -- Assumes nothing.
-use Rattle.choice.proofs.Laws.{isLower-laws}
+use Rattle.choice.proofs.ChoiceLaws.{isLower-laws}
 use borrow.Author.Needs.{needs}
 use Rattle.choice.proofs.is_lower.Statement.{statement}
 use Rattle.choice.proofs.is_lower.Tie as tie

@@ -1,6 +1,6 @@
 -- `choice::offered` meets its contract: each way is a law.
 -- Assumes nothing.
-use Rattle.choice.proofs.Laws.{offered-laws}
+use Rattle.choice.proofs.ChoiceLaws.{offered-laws}
 use borrow.Author.Needs.{needs}
 use Rattle.choice.proofs.offered.Statement.{statement}
 use Rattle.choice.proofs.offered.Tie as tie

@@ -1,6 +1,6 @@
 -- `choice::ranked_quality` meets its contract: each way is a law.
 -- Assumes nothing.
-use Rattle.choice.proofs.Laws.{rankedQuality-laws}
+use Rattle.choice.proofs.ChoiceLaws.{rankedQuality-laws}
 use Rattle.choice.proofs.ranked_quality.Statement.{statement}
 use Rattle.choice.proofs.ranked_quality.Tie as tie
 

@@ -1,6 +1,6 @@
 -- `choice::seeded` meets its contract: each way is a law.
 -- Assumes nothing.
-use Rattle.choice.proofs.Laws.{seeded-laws}
+use Rattle.choice.proofs.ChoiceLaws.{seeded-laws}
 use borrow.Author.Needs.{needs}
 use Rattle.choice.proofs.seeded.Statement.{statement}
 use Rattle.choice.proofs.seeded.Tie as tie

@@ -3,7 +3,7 @@
 use mathlib.Core.Path.{sym, ap}
 use lib.ListN.{length}
 use lib.Seq.{length-take-le}
-use Rattle.files.proofs.Laws.{handed-of}
+use Rattle.files.proofs.FilesLaws.{handed-of}
 use borrow.Author.Needs.{needs}
 use Rattle.convert.proofs.print_converted.Statement.{statement}
 use Rattle.convert.proofs.print_converted.Tie as tie

@@ -3,7 +3,7 @@
 use mathlib.Core.Path.{_≡_, ap}
 use lib.ListN.{length}
 use Rattle.digits.specs.Digits.{digitsOf}
-use Rattle.frametext.proofs.Laws.{placesFrom, placesFrom-all}
+use Rattle.frametext.proofs.MessageLaws.{placesFrom, placesFrom-all}
 use borrow.Author.Needs.{needs}
 use Rattle.frametext.proofs.address_digits.Statement.{statement}
 use Rattle.frametext.proofs.address_digits.Tie as tie

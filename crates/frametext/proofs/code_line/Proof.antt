@@ -3,7 +3,7 @@
 use mathlib.Core.Path.{_≡_}
 use lib.ListN.{length}
 use Rattle.digits.specs.Digits.{digitsOf}
-use Rattle.frametext.proofs.Laws.{placesFrom, codeLine-is}
+use Rattle.frametext.proofs.MessageLaws.{placesFrom, codeLine-is}
 use borrow.Author.Needs.{needs}
 use Rattle.frametext.proofs.code_line.Statement.{statement}
 use Rattle.frametext.proofs.code_line.Tie as tie

@@ -5,7 +5,7 @@ use mathlib.Core.List.{[], _∷_}
 use mathlib.Core.Path.{ap, _∙_}
 use Rattle.digits.specs.Digits.{digitsOf}
 use Rattle.frametext.specs.Message.{inFront}
-use Rattle.frametext.proofs.Laws.{messageText-refused, messageText-code}
+use Rattle.frametext.proofs.MessageLaws.{messageText-refused, messageText-code}
 use borrow.Author.Needs.{needs}
 use Rattle.frametext.proofs.line_of.Statement.{statement}
 use Rattle.frametext.proofs.line_of.Tie as tie

@@ -11,7 +11,7 @@ use Rattle.digits.specs.Digits.{allDigits}
 use Rattle.frame.specs.declared.FrameMessage.{FrameMessage}
 use Rattle.frame.specs.Read.{readFrame}
 use Rattle.frametext.specs.Message.{messageText, inFront}
-use Rattle.frametext.proofs.Laws.{octets-front, octets-within, messageLine-other, messageLine-odd, messageLine-long, messageLine-frame}
+use Rattle.frametext.proofs.MessageLaws.{octets-front, octets-within, messageLine-other, messageLine-odd, messageLine-long, messageLine-frame}
 use borrow.Author.Needs.{needs}
 use Rattle.frametext.proofs.message_line.Statement.{statement}
 use Rattle.frametext.proofs.message_line.Tie as tie

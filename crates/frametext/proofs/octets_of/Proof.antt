@@ -7,7 +7,7 @@ use native.Mathlib.Omega.{arith}
 use lib.ListN.{length, take, replicate}
 use Rattle.digits.specs.Digits.{octetsOf}
 use Rattle.frame.specs.Octets.{longestFrame}
-use Rattle.frametext.proofs.Laws.{octetsOf-at, octets-next, octets-all}
+use Rattle.frametext.proofs.MessageLaws.{octetsOf-at, octets-next, octets-all}
 use borrow.Author.Needs.{needs}
 use Rattle.frametext.proofs.octets_of.Statement.{statement}
 use Rattle.frametext.proofs.octets_of.Tie as tie

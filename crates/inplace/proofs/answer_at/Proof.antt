@@ -16,8 +16,8 @@ selection-at-requires c κs = search needs
 switch-at-requires : tie.Need-switch-at-requires
 switch-at-requires c κs = search needs
 
-held-at-requires : tie.Need-held-at-requires
-held-at-requires c κs = search needs
+was-locked-at-requires : tie.Need-was-locked-at-requires
+was-locked-at-requires c κs = search needs
 
 limits-of-requires : tie.Need-limits-of-requires
 limits-of-requires c κs = search needs
@@ -51,7 +51,7 @@ returns c = let args = c .before .before .before .before .before .before .before
       c .before .before .before .before .clock-quality .ensures,
       c .before .before .before .before .before .selected-at .ensures,
       c .before .before .before .before .before .before .before .limits-of .ensures,
-      c .before .before .before .before .before .before .before .before .held-at .ensures (args .times .now) (args .words .now),
+      c .before .before .before .before .before .before .before .before .was-locked-at .ensures (args .times .now) (args .words .now),
       c .before .before .before .before .before .before .before .before .before .switch-at .ensures (args .times .now) (args .words .now),
       c .before .before .before .before .before .before .before .before .before .before .selection-at .ensures (args .times .now) (args .words .now),
       c .before .before .before .before .before .before .before .before .before .before .before .mode-at .ensures (args .times .now) (args .words .now),
@@ -66,7 +66,7 @@ answer-at-spec =
     mode-at-requires
     selection-at-requires
     switch-at-requires
-    held-at-requires
+    was-locked-at-requires
     limits-of-requires
     selected-at-requires
     clock-quality-requires

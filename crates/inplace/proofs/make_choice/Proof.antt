@@ -14,8 +14,8 @@ switch-at-requires c κs = search needs
 selection-at-requires : tie.Need-selection-at-requires
 selection-at-requires c κs = search needs
 
-held-at-requires : tie.Need-held-at-requires
-held-at-requires c κs = search needs
+was-locked-at-requires : tie.Need-was-locked-at-requires
+was-locked-at-requires c κs = search needs
 
 decide-requires : tie.Need-decide-requires
 decide-requires c κs = search needs
@@ -32,14 +32,14 @@ returns c =
     (c .before .before .before .before .before .before .before .before .before .candidates-at .result)
     (c .before .before .before .before .before .before .before .switch-at .result)
     (c .before .before .before .before .before .selection-at .result)
-    (c .before .before .before .held-at .result)
+    (c .before .before .before .was-locked-at .result)
     (switch-on (args .times .now) (args .small .now) (args .words .now))
     (c .put-choice .ensures (args .times .now) (args .words .now))
     (c .before .before .decide .ensures)
     (c .before .before .before .before .before .before .before .before .before .candidates-at .ensures)
     (c .before .before .before .before .before .before .before .switch-at .ensures (args .times .now) (args .words .now))
     (c .before .before .before .before .before .selection-at .ensures (args .times .now) (args .words .now))
-    (c .before .before .before .held-at .ensures (args .times .now) (args .words .now))
+    (c .before .before .before .was-locked-at .ensures (args .times .now) (args .words .now))
 
 pub make-choice-spec : {M : Type 1} → statement M
-make-choice-spec = tie.close (tie.spec candidates-at-requires switch-at-requires selection-at-requires held-at-requires decide-requires put-choice-requires returns)
+make-choice-spec = tie.close (tie.spec candidates-at-requires switch-at-requires selection-at-requires was-locked-at-requires decide-requires put-choice-requires returns)

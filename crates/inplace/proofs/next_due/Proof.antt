@@ -3,7 +3,7 @@ use Prim.Native.Nat.{_≤_, _-_}
 use mathlib.Core.Path.{_≡_}
 use borrow.Author.Needs.{needs}
 use Rattle.due.specs.Next.{nextAmong}
-use Rattle.due.proofs.Laws.{nextAmong-laws}
+use Rattle.due.proofs.DueLaws.{nextAmong-laws}
 use Rattle.inplace.specs.Lists.{selectorAt}
 use Rattle.inplace.proofs.Turn.{due-turn, due-done}
 use Rattle.inplace.proofs.next_due.Statement.{statement}

@@ -1,5 +1,5 @@
 -- `inplace::selected_at` meets its contract. Assumes nothing.
-use Rattle.selector.proofs.Laws.{selectedCandidate-laws}
+use Rattle.selector.proofs.SelectorLaws.{selectedCandidate-laws}
 use borrow.Author.Needs.{needs}
 use Rattle.inplace.proofs.selected_at.Statement.{statement}
 use Rattle.inplace.proofs.selected_at.Tie as tie

@@ -1,6 +1,6 @@
 -- `input::equal_count` meets its contract: each way is a law.
 -- Assumes nothing.
-use Rattle.input.proofs.Laws.{equalCount-laws}
+use Rattle.input.proofs.RecordLaws.{equalCount-laws}
 use borrow.Author.Needs.{needs}
 use Rattle.input.proofs.equal_count.Statement.{statement}
 use Rattle.input.proofs.equal_count.Tie as tie

@@ -1,7 +1,7 @@
 -- `lane::bad_from` meets its contract: each way is a law.
 -- Assumes nothing.
 use borrow.Author.Needs.{needs}
-use Rattle.lane.proofs.Laws.{lane-laws}
+use Rattle.lane.proofs.LaneLaws.{lane-laws}
 use Rattle.lane.proofs.bad_from.Statement.{statement}
 use Rattle.lane.proofs.bad_from.Tie as tie
 

@@ -1,7 +1,7 @@
 -- `lane::goes_on` meets its contract: each way is a law.
 -- Assumes nothing.
 use borrow.Author.Needs.{needs}
-use Rattle.lane.proofs.Laws.{lane-laws}
+use Rattle.lane.proofs.LaneLaws.{lane-laws}
 use Rattle.lane.proofs.goes_on.Statement.{statement}
 use Rattle.lane.proofs.goes_on.Tie as tie
 

@@ -1,7 +1,7 @@
 -- `lane::marked` meets its contract: each way is a law.
 -- Assumes nothing.
 use borrow.Author.Needs.{needs}
-use Rattle.lane.proofs.Laws.{lane-laws}
+use Rattle.lane.proofs.LaneLaws.{lane-laws}
 use Rattle.lane.proofs.marked.Statement.{statement}
 use Rattle.lane.proofs.marked.Tie as tie
 

@@ -1,7 +1,7 @@
 -- `lane::right` meets its contract: each way is a law.
 -- Assumes nothing.
 use borrow.Author.Needs.{needs}
-use Rattle.lane.proofs.Laws.{lane-laws}
+use Rattle.lane.proofs.LaneLaws.{lane-laws}
 use Rattle.lane.proofs.right.Statement.{statement}
 use Rattle.lane.proofs.right.Tie as tie
 

@@ -1,7 +1,7 @@
 -- `lane::told_lane` meets its contract: each way is a law.
 -- Assumes nothing.
 use borrow.Author.Needs.{needs}
-use Rattle.lane.proofs.Laws.{lane-laws}
+use Rattle.lane.proofs.LaneLaws.{lane-laws}
 use Rattle.lane.proofs.told_lane.Statement.{statement}
 use Rattle.lane.proofs.told_lane.Tie as tie
 

@@ -1,7 +1,7 @@
 -- `lanes::code_value` meets its contract: each way is a law.
 -- Assumes nothing.
 use borrow.Author.Needs.{needs}
-use Rattle.lanes.proofs.Laws.{lanes-laws}
+use Rattle.lanes.proofs.LanesLaws.{lanes-laws}
 use Rattle.lanes.proofs.code_value.Statement.{statement}
 use Rattle.lanes.proofs.code_value.Tie as tie
 

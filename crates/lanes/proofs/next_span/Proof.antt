@@ -1,7 +1,7 @@
 -- `lanes::next_span` meets its contract: each way is a law.
 -- Assumes nothing.
 use borrow.Author.Needs.{needs}
-use Rattle.lanes.proofs.Laws.{lanes-laws}
+use Rattle.lanes.proofs.LanesLaws.{lanes-laws}
 use Rattle.lanes.proofs.next_span.Statement.{statement}
 use Rattle.lanes.proofs.next_span.Tie as tie
 

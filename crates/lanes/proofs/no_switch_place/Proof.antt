@@ -1,7 +1,7 @@
 -- `lanes::no_switch_place` meets its contract: each way is a law.
 -- Assumes nothing.
 use borrow.Author.Needs.{needs}
-use Rattle.lanes.proofs.Laws.{lanes-laws}
+use Rattle.lanes.proofs.LanesLaws.{lanes-laws}
 use Rattle.lanes.proofs.no_switch_place.Statement.{statement}
 use Rattle.lanes.proofs.no_switch_place.Tie as tie
 

@@ -1,7 +1,7 @@
 -- `onestep::at_its_moment` meets its contract: it is the definition, call by call. Assumes nothing.
 use Rattle.inplace.specs.Lists.{selectorAt}
 use Rattle.inplace.proofs.Moment.{switch-on}
-use Rattle.onestep.proofs.Laws.{own-moment}
+use Rattle.onestep.proofs.StepLaws.{own-moment}
 use borrow.Author.Needs.{needs}
 use Rattle.onestep.proofs.at_its_moment.Statement.{statement}
 use Rattle.onestep.proofs.at_its_moment.Tie as tie

@@ -1,5 +1,5 @@
 -- `onestep::inputs_after` meets its contract: each way is a law. Assumes nothing.
-use Rattle.onestep.proofs.Laws.{inputs-mode, inputs-own}
+use Rattle.onestep.proofs.StepLaws.{inputs-mode, inputs-own}
 use borrow.Author.Needs.{needs}
 use Rattle.onestep.proofs.inputs_after.Statement.{statement}
 use Rattle.onestep.proofs.inputs_after.Tie as tie

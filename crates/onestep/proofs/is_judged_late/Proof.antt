@@ -1,5 +1,5 @@
 -- `onestep::is_judged_late` meets its contract: each way is a law. Assumes nothing.
-use Rattle.onestep.proofs.Laws.{isJudgedLate-laws}
+use Rattle.onestep.proofs.StepLaws.{isJudgedLate-laws}
 use borrow.Author.Needs.{needs}
 use Rattle.onestep.proofs.is_judged_late.Statement.{statement}
 use Rattle.onestep.proofs.is_judged_late.Tie as tie

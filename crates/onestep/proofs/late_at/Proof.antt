@@ -1,6 +1,6 @@
 -- `onestep::late_at` meets its contract: each way is a law. Assumes nothing.
 use Rattle.inplace.specs.Lists.{selectorAt}
-use Rattle.onestep.proofs.Laws.{late-judged, late-never}
+use Rattle.onestep.proofs.StepLaws.{late-judged, late-never}
 use borrow.Author.Needs.{needs}
 use Rattle.onestep.proofs.late_at.Statement.{statement}
 use Rattle.onestep.proofs.late_at.Tie as tie

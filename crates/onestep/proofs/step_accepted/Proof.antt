@@ -1,6 +1,6 @@
 -- `onestep::step_accepted` meets its contract: it is the definition, call by call. Assumes nothing.
 use Rattle.inplace.specs.Lists.{selectorAt}
-use Rattle.onestep.proofs.Laws.{accepted-few, accepted-step}
+use Rattle.onestep.proofs.StepLaws.{accepted-few, accepted-step}
 use borrow.Author.Needs.{needs}
 use Rattle.onestep.proofs.step_accepted.Statement.{statement}
 use Rattle.onestep.proofs.step_accepted.Tie as tie

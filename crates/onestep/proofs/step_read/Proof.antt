@@ -1,7 +1,7 @@
 -- `onestep::step_read` meets its contract: each way is a law. Assumes nothing.
 use mathlib.Core.Path.{refl}
 use Rattle.inplace.specs.Lists.{selectorAt}
-use Rattle.onestep.proofs.Laws.{read-refused, read-accepted}
+use Rattle.onestep.proofs.StepLaws.{read-refused, read-accepted}
 use borrow.Author.Needs.{needs}
 use Rattle.onestep.proofs.step_read.Statement.{statement}
 use Rattle.onestep.proofs.step_read.Tie as tie

@@ -1,5 +1,5 @@
 -- `onestep::step_ticked` meets its contract: each way is a law. Assumes nothing.
-use Rattle.onestep.proofs.Laws.{ticked-late, ticked-accepted, recorded-input}
+use Rattle.onestep.proofs.StepLaws.{ticked-late, ticked-accepted, recorded-input}
 use borrow.Author.Needs.{needs}
 use Rattle.onestep.proofs.step_ticked.Statement.{statement}
 use Rattle.onestep.proofs.step_ticked.Tie as tie

@@ -1,6 +1,6 @@
 -- `questions::is_source` meets its contract: each way is a law.
 -- Assumes nothing.
-use Rattle.questions.proofs.Parts.{isSource-laws}
+use Rattle.questions.proofs.LineParts.{isSource-laws}
 use borrow.Author.Needs.{needs}
 use Rattle.questions.proofs.is_source.Statement.{statement}
 use Rattle.questions.proofs.is_source.Tie as tie

@@ -6,7 +6,7 @@ use native.Mathlib.Omega.{arith}
 use borrow.Author.Needs.{needs}
 use lib.ListN.{length}
 use Rattle.questions.specs.Line.{partEnd}
-use Rattle.questions.proofs.Parts.{partEnd-next, partEnd-space, partEnd-over}
+use Rattle.questions.proofs.LineParts.{partEnd-next, partEnd-space, partEnd-over}
 use Rattle.questions.proofs.part_end.Statement.{statement}
 use Rattle.questions.proofs.part_end.Tie as tie
 

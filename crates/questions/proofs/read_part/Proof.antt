@@ -1,6 +1,6 @@
 -- `questions::read_part` meets its contract: each way is a law.
 -- Assumes nothing.
-use Rattle.questions.proofs.Parts.{readPart-laws}
+use Rattle.questions.proofs.LineParts.{readPart-laws}
 use borrow.Author.Needs.{needs}
 use Rattle.questions.proofs.read_part.Statement.{statement}
 use Rattle.questions.proofs.read_part.Tie as tie

@@ -1,6 +1,6 @@
 -- `quickstep::again_own` meets its contract: each way is a law.
 -- Assumes nothing.
-use Rattle.quickstep.proofs.Laws.{againOwn-laws}
+use Rattle.quickstep.proofs.QuickLaws.{againOwn-laws}
 use borrow.Author.Needs.{needs}
 use Rattle.quickstep.proofs.again_own.Statement.{statement}
 use Rattle.quickstep.proofs.again_own.Tie as tie

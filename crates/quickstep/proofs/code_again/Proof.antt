@@ -1,6 +1,6 @@
 -- `quickstep::code_again` meets its contract: each way is a law.
 -- Assumes nothing.
-use Rattle.quickstep.proofs.Laws.{codeAgain-laws}
+use Rattle.quickstep.proofs.QuickLaws.{codeAgain-laws}
 use borrow.Author.Needs.{needs}
 use Rattle.quickstep.proofs.code_again.Statement.{statement}
 use Rattle.quickstep.proofs.code_again.Tie as tie

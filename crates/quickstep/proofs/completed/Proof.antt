@@ -1,6 +1,6 @@
 -- `quickstep::completed` meets its contract: each way is a law.
 -- Assumes nothing.
-use Rattle.quickstep.proofs.Laws.{completed-laws}
+use Rattle.quickstep.proofs.QuickLaws.{completed-laws}
 use borrow.Author.Needs.{needs}
 use Rattle.quickstep.proofs.completed.Statement.{statement}
 use Rattle.quickstep.proofs.completed.Tie as tie

@@ -1,6 +1,6 @@
 -- `quickstep::due_after` meets its contract: each way is a law.
 -- Assumes nothing.
-use Rattle.quickstep.proofs.Laws.{dueAfter-laws}
+use Rattle.quickstep.proofs.QuickLaws.{dueAfter-laws}
 use borrow.Author.Needs.{needs}
 use Rattle.quickstep.proofs.due_after.Statement.{statement}
 use Rattle.quickstep.proofs.due_after.Tie as tie

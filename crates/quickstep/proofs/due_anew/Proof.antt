@@ -1,6 +1,6 @@
 -- `quickstep::due_anew` meets its contract: each way is a law.
 -- Assumes nothing.
-use Rattle.quickstep.proofs.Laws.{dueAnew-laws}
+use Rattle.quickstep.proofs.QuickLaws.{dueAnew-laws}
 use borrow.Author.Needs.{needs}
 use Rattle.quickstep.proofs.due_anew.Statement.{statement}
 use Rattle.quickstep.proofs.due_anew.Tie as tie

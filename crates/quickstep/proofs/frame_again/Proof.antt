@@ -1,6 +1,6 @@
 -- `quickstep::frame_again` meets its contract: each way is a law.
 -- Assumes nothing.
-use Rattle.quickstep.proofs.Laws.{frameAgain-laws}
+use Rattle.quickstep.proofs.QuickLaws.{frameAgain-laws}
 use borrow.Author.Needs.{needs}
 use Rattle.quickstep.proofs.frame_again.Statement.{statement}
 use Rattle.quickstep.proofs.frame_again.Tie as tie

@@ -1,6 +1,6 @@
 -- `quickstep::is_command` meets its contract: each arm is a law.
 -- Assumes nothing.
-use Rattle.quickstep.proofs.Laws.{isCommand-laws}
+use Rattle.quickstep.proofs.QuickLaws.{isCommand-laws}
 use Rattle.quickstep.proofs.is_command.Statement.{statement}
 use Rattle.quickstep.proofs.is_command.Tie as tie
 

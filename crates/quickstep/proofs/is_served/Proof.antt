@@ -1,6 +1,6 @@
 -- `quickstep::is_served` meets its contract: each way is a law.
 -- Assumes nothing.
-use Rattle.quickstep.proofs.Laws.{isServed-laws}
+use Rattle.quickstep.proofs.QuickLaws.{isServed-laws}
 use borrow.Author.Needs.{needs}
 use Rattle.quickstep.proofs.is_served.Statement.{statement}
 use Rattle.quickstep.proofs.is_served.Tie as tie

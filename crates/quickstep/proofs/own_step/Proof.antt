@@ -1,7 +1,7 @@
 -- `quickstep::own_step` meets its contract: each way is a law.
 -- Assumes nothing.
 use borrow.Author.Needs.{needs}
-use Rattle.quickstep.proofs.Laws.{ownStep-laws}
+use Rattle.quickstep.proofs.QuickLaws.{ownStep-laws}
 use Rattle.quickstep.proofs.own_step.Statement.{statement}
 use Rattle.quickstep.proofs.own_step.Tie as tie
 

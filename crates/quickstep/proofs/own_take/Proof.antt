@@ -1,7 +1,7 @@
 -- `quickstep::own_take` meets its contract: each way is a law.
 -- Assumes nothing.
 use borrow.Author.Needs.{needs}
-use Rattle.quickstep.proofs.Laws.{ownTake-laws}
+use Rattle.quickstep.proofs.QuickLaws.{ownTake-laws}
 use Rattle.quickstep.proofs.own_take.Statement.{statement}
 use Rattle.quickstep.proofs.own_take.Tie as tie
 

@@ -1,6 +1,6 @@
 -- `quickstep::seen_alike` meets its contract by a law.
 -- Assumes nothing.
-use Rattle.quickstep.proofs.Laws.{seenAlike-laws}
+use Rattle.quickstep.proofs.QuickLaws.{seenAlike-laws}
 use borrow.Author.Needs.{needs}
 use Rattle.quickstep.proofs.seen_alike.Statement.{statement}
 use Rattle.quickstep.proofs.seen_alike.Tie as tie

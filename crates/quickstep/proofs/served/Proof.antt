@@ -1,6 +1,6 @@
 -- `quickstep::served` meets its contract: it is the definition, call by call.
 -- Assumes nothing.
-use Rattle.quickstep.proofs.Laws.{servedWatch-calls}
+use Rattle.quickstep.proofs.QuickLaws.{servedWatch-calls}
 use borrow.Author.Needs.{needs}
 use Rattle.quickstep.proofs.served.Statement.{statement}
 use Rattle.quickstep.proofs.served.Tie as tie

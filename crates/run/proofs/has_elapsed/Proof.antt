@@ -1,6 +1,6 @@
 -- `run::has_elapsed` meets its contract: each way is a law.
 -- Assumes nothing.
-use Rattle.run.proofs.Laws.{elapsed-laws}
+use Rattle.run.proofs.RunLaws.{elapsed-laws}
 use Rattle.run.proofs.has_elapsed.Statement.{statement}
 use Rattle.run.proofs.has_elapsed.Tie as tie
 

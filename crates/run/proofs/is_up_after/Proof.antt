@@ -1,6 +1,6 @@
 -- `run::is_up_after` meets its contract: each way is a law.
 -- Assumes nothing.
-use Rattle.run.proofs.Laws.{isUpAfter-laws}
+use Rattle.run.proofs.RunLaws.{isUpAfter-laws}
 use borrow.Author.Needs.{needs}
 use Rattle.run.proofs.is_up_after.Statement.{statement}
 use Rattle.run.proofs.is_up_after.Tie as tie

@@ -1,6 +1,6 @@
 -- `run::last_good` meets its contract: each way is a law.
 -- Assumes nothing.
-use Rattle.run.proofs.Laws.{lastGood-laws}
+use Rattle.run.proofs.RunLaws.{lastGood-laws}
 use borrow.Author.Needs.{needs}
 use Rattle.run.proofs.last_good.Statement.{statement}
 use Rattle.run.proofs.last_good.Tie as tie

@@ -1,6 +1,6 @@
 -- `run::run_start` meets its contract: each way is a law.
 -- Assumes nothing.
-use Rattle.run.proofs.Laws.{runStart-laws}
+use Rattle.run.proofs.RunLaws.{runStart-laws}
 use Rattle.run.proofs.run_start.Statement.{statement}
 use Rattle.run.proofs.run_start.Tie as tie
 

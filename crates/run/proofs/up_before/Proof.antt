@@ -1,6 +1,6 @@
 -- `run::up_before` meets its contract: each way is a law.
 -- Assumes nothing.
-use Rattle.run.proofs.Laws.{upBefore-laws}
+use Rattle.run.proofs.RunLaws.{upBefore-laws}
 use borrow.Author.Needs.{needs}
 use Rattle.run.proofs.up_before.Statement.{statement}
 use Rattle.run.proofs.up_before.Tie as tie

@@ -1,6 +1,6 @@
 -- `selector::clock_quality` meets its contract: each way is a law.
 -- Assumes nothing.
-use Rattle.selector.proofs.Laws.{clockQuality-laws}
+use Rattle.selector.proofs.SelectorLaws.{clockQuality-laws}
 use Rattle.selector.proofs.clock_quality.Statement.{statement}
 use Rattle.selector.proofs.clock_quality.Tie as tie
 

@@ -1,6 +1,6 @@
 -- `selector::clock_state` meets its contract: each way is a law.
 -- Assumes nothing.
-use Rattle.selector.proofs.Laws.{clockState-laws}
+use Rattle.selector.proofs.SelectorLaws.{clockState-laws}
 use Rattle.selector.proofs.clock_state.Statement.{statement}
 use Rattle.selector.proofs.clock_state.Tie as tie
 

@@ -1,6 +1,6 @@
 -- `selector::input_at` meets its contract: each way is a law.
 -- Assumes nothing.
-use Rattle.selector.proofs.Laws.{inputAt-laws}
+use Rattle.selector.proofs.SelectorLaws.{inputAt-laws}
 use borrow.Author.Needs.{needs}
 use Rattle.selector.proofs.input_at.Statement.{statement}
 use Rattle.selector.proofs.input_at.Tie as tie

@@ -1,6 +1,6 @@
 -- `selector::outgoing_code` meets its contract: each way is a law.
 -- Assumes nothing.
-use Rattle.selector.proofs.Laws.{outgoingCode-laws}
+use Rattle.selector.proofs.SelectorLaws.{outgoingCode-laws}
 use Rattle.selector.proofs.outgoing_code.Statement.{statement}
 use Rattle.selector.proofs.outgoing_code.Tie as tie
 

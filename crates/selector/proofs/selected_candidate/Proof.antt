@@ -1,6 +1,6 @@
 -- `selector::selected_candidate` meets its contract: each way is a law.
 -- Assumes nothing.
-use Rattle.selector.proofs.Laws.{selectedCandidate-laws}
+use Rattle.selector.proofs.SelectorLaws.{selectedCandidate-laws}
 use borrow.Author.Needs.{needs}
 use Rattle.selector.proofs.selected_candidate.Statement.{statement}
 use Rattle.selector.proofs.selected_candidate.Tie as tie

@@ -1,6 +1,6 @@
 -- `selector::selected_number` meets its contract: each way is a law.
 -- Assumes nothing.
-use Rattle.selector.proofs.Laws.{selectedNumber-laws}
+use Rattle.selector.proofs.SelectorLaws.{selectedNumber-laws}
 use borrow.Author.Needs.{needs}
 use Rattle.selector.proofs.selected_number.Statement.{statement}
 use Rattle.selector.proofs.selected_number.Tie as tie

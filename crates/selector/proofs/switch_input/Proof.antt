@@ -1,6 +1,6 @@
 -- `selector::switch_input` meets its contract: each way is a law.
 -- Assumes nothing.
-use Rattle.selector.proofs.Laws.{switchInput-laws}
+use Rattle.selector.proofs.SelectorLaws.{switchInput-laws}
 use borrow.Author.Needs.{needs}
 use Rattle.selector.proofs.switch_input.Statement.{statement}
 use Rattle.selector.proofs.switch_input.Tie as tie

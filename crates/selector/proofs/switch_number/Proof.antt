@@ -1,6 +1,6 @@
 -- `selector::switch_number` meets its contract: each way is a law.
 -- Assumes nothing.
-use Rattle.selector.proofs.Laws.{switchNumber-laws}
+use Rattle.selector.proofs.SelectorLaws.{switchNumber-laws}
 use borrow.Author.Needs.{needs}
 use Rattle.selector.proofs.switch_number.Statement.{statement}
 use Rattle.selector.proofs.switch_number.Tie as tie

@@ -1,5 +1,5 @@
 -- `sender::ask_one` meets its contract. Assumes nothing.
-use Rattle.sender.proofs.Laws.{lent-laws, one-refused, one-no-code, one-accepted}
+use Rattle.sender.proofs.SenderLaws.{lent-laws, one-refused, one-no-code, one-accepted}
 use borrow.Author.Needs.{needs}
 use Rattle.sender.proofs.ask_one.Statement.{statement}
 use Rattle.sender.proofs.ask_one.Tie as tie

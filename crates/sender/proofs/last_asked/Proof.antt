@@ -1,5 +1,5 @@
 -- `sender::last_asked` meets its contract. Assumes nothing.
-use Rattle.sender.proofs.Laws.{lastAsked-laws}
+use Rattle.sender.proofs.SenderLaws.{lastAsked-laws}
 use Rattle.sender.proofs.last_asked.Statement.{statement}
 use Rattle.sender.proofs.last_asked.Tie as tie
 

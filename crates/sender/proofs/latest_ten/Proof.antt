@@ -1,6 +1,6 @@
 -- `sender::latest_ten` meets its contract: ten times are their ten elements.
 -- Assumes nothing.
-use Rattle.sender.proofs.Laws.{ten}
+use Rattle.sender.proofs.SenderLaws.{ten}
 use borrow.Author.Needs.{needs}
 use Rattle.sender.proofs.latest_ten.Statement.{statement}
 use Rattle.sender.proofs.latest_ten.Tie as tie

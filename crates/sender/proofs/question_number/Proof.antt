@@ -1,6 +1,6 @@
 -- `sender::question_number` meets its contract: each way is a law.
 -- Assumes nothing.
-use Rattle.sender.proofs.Laws.{questionNumber-laws}
+use Rattle.sender.proofs.SenderLaws.{questionNumber-laws}
 use Rattle.sender.proofs.question_number.Statement.{statement}
 use Rattle.sender.proofs.question_number.Tie as tie
 

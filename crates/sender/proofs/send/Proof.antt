@@ -1,6 +1,6 @@
 -- `sender::send` meets its contract: each way is a law.
 -- Assumes nothing.
-use Rattle.sender.proofs.Laws.{contentBy-laws}
+use Rattle.sender.proofs.SenderLaws.{contentBy-laws}
 use borrow.Author.Needs.{needs}
 use Rattle.sender.proofs.send.Statement.{statement}
 use Rattle.sender.proofs.send.Tie as tie

@@ -6,7 +6,7 @@ use native.Mathlib.Omega.{arith}
 use lib.ListN.{length, drop}
 use Rattle.digits.specs.Digits.{allNumerals}
 use Rattle.start.specs.Start.{isDecimal}
-use Rattle.start.proofs.Laws.{isDecimal-none, isDecimal-some, numerals-low, numerals-high, numerals-next, numerals-end}
+use Rattle.start.proofs.StartLaws.{isDecimal-none, isDecimal-some, numerals-low, numerals-high, numerals-next, numerals-end}
 use Rattle.start.proofs.is_decimal.Statement.{statement}
 use Rattle.start.proofs.is_decimal.Tie as tie
 

@@ -1,6 +1,6 @@
 -- `start::is_marks` meets its contract: each way is a law.
 -- Assumes nothing.
-use Rattle.start.proofs.Laws.{isMarks-laws}
+use Rattle.start.proofs.StartLaws.{isMarks-laws}
 use borrow.Author.Needs.{needs}
 use Rattle.start.proofs.is_marks.Statement.{statement}
 use Rattle.start.proofs.is_marks.Tie as tie

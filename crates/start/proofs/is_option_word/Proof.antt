@@ -1,6 +1,6 @@
 -- `start::is_option_word` meets its contract: each way is a law.
 -- Assumes nothing.
-use Rattle.start.proofs.Laws.{isOptionWord-laws}
+use Rattle.start.proofs.StartLaws.{isOptionWord-laws}
 use borrow.Author.Needs.{needs}
 use Rattle.start.proofs.is_option_word.Statement.{statement}
 use Rattle.start.proofs.is_option_word.Tie as tie

@@ -1,7 +1,7 @@
 -- `start::marks_in` meets its contract: four digits are a number, by their two octets.
 -- Assumes nothing.
 use native.Mathlib.Omega.{arith}
-use Rattle.start.proofs.Laws.{four-value}
+use Rattle.start.proofs.StartLaws.{four-value}
 use borrow.Author.Needs.{needs}
 use Rattle.start.proofs.marks_in.Statement.{statement}
 use Rattle.start.proofs.marks_in.Tie as tie

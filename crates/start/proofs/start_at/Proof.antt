@@ -2,8 +2,8 @@
 -- Assumes nothing.
 use mathlib.Core.Path.{sym, _∙_}
 use native.Mathlib.Omega.{arith}
-use Rattle.text.proofs.Laws.{readNumber-most}
-use Rattle.start.proofs.Laws.{place-above, place-start}
+use Rattle.text.proofs.PlacedText.{readNumber-most}
+use Rattle.start.proofs.StartLaws.{place-above, place-start}
 use borrow.Author.Needs.{needs}
 use Rattle.start.proofs.start_at.Statement.{statement}
 use Rattle.start.proofs.start_at.Tie as tie

@@ -1,6 +1,6 @@
 -- `start::start_by` meets its contract: each way is a law.
 -- Assumes nothing.
-use Rattle.start.proofs.Laws.{startBy-laws}
+use Rattle.start.proofs.StartLaws.{startBy-laws}
 use borrow.Author.Needs.{needs}
 use Rattle.start.proofs.start_by.Statement.{statement}
 use Rattle.start.proofs.start_by.Tie as tie

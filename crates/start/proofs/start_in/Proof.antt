@@ -1,6 +1,6 @@
 -- `start::start_in` meets its contract: each way is a law.
 -- Assumes nothing.
-use Rattle.start.proofs.Laws.{startIn-laws, decimal-holds, marks-hold}
+use Rattle.start.proofs.StartLaws.{startIn-laws, decimal-holds, marks-hold}
 use borrow.Author.Needs.{needs}
 use Rattle.start.proofs.start_in.Statement.{statement}
 use Rattle.start.proofs.start_in.Tie as tie

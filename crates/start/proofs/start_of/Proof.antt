@@ -1,6 +1,6 @@
 -- `start::start_of` meets its contract: each way is a law.
 -- Assumes nothing.
-use Rattle.start.proofs.Laws.{startOf-laws}
+use Rattle.start.proofs.StartLaws.{startOf-laws}
 use borrow.Author.Needs.{needs}
 use Rattle.start.proofs.start_of.Statement.{statement}
 use Rattle.start.proofs.start_of.Tie as tie

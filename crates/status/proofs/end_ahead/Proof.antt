@@ -1,7 +1,7 @@
 -- `status::end_ahead` meets its contract: each way is a law.
 -- Assumes nothing.
 use native.Mathlib.Omega.{arith}
-use Rattle.status.proofs.Laws.{endAhead-sum, endAhead-over, endAhead-never, endAhead-past}
+use Rattle.status.proofs.StatusLaws.{endAhead-sum, endAhead-over, endAhead-never, endAhead-past}
 use borrow.Author.Needs.{needs}
 use Rattle.status.proofs.end_ahead.Statement.{statement}
 use Rattle.status.proofs.end_ahead.Tie as tie

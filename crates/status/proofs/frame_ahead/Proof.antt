@@ -1,6 +1,6 @@
 -- `status::frame_ahead` meets its contract: each way is a law.
 -- Assumes nothing.
-use Rattle.status.proofs.Laws.{frameAhead-laws}
+use Rattle.status.proofs.StatusLaws.{frameAhead-laws}
 use borrow.Author.Needs.{needs}
 use Rattle.status.proofs.frame_ahead.Statement.{statement}
 use Rattle.status.proofs.frame_ahead.Tie as tie

@@ -1,6 +1,6 @@
 -- `status::timer_ahead` meets its contract: each way is a law.
 -- Assumes nothing.
-use Rattle.status.proofs.Laws.{timerAhead-laws}
+use Rattle.status.proofs.StatusLaws.{timerAhead-laws}
 use borrow.Author.Needs.{needs}
 use Rattle.status.proofs.timer_ahead.Statement.{statement}
 use Rattle.status.proofs.timer_ahead.Tie as tie

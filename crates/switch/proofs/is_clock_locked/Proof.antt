@@ -1,6 +1,6 @@
 -- `switch::is_clock_locked` meets its contract: each way is a law.
 -- Assumes nothing.
-use Rattle.switch.proofs.Laws.{isClockLocked-laws}
+use Rattle.switch.proofs.OneChoiceLaws.{isClockLocked-laws}
 use borrow.Author.Needs.{needs}
 use Rattle.switch.proofs.is_clock_locked.Statement.{statement}
 use Rattle.switch.proofs.is_clock_locked.Tie as tie

@@ -1,6 +1,6 @@
 -- `switch::judge` meets its contract: each way is a law.
 -- Assumes nothing.
-use Rattle.switch.proofs.Laws.{judged-laws}
+use Rattle.switch.proofs.OneChoiceLaws.{judged-laws}
 use borrow.Author.Needs.{needs}
 use Rattle.switch.proofs.judge.Statement.{statement}
 use Rattle.switch.proofs.judge.Tie as tie

@@ -1,6 +1,6 @@
 -- `switch::manual_may_stand` meets its contract: each way is a law.
 -- Assumes nothing.
-use Rattle.switch.proofs.Laws.{manualMayStand-laws}
+use Rattle.switch.proofs.OneChoiceLaws.{manualMayStand-laws}
 use borrow.Author.Needs.{needs}
 use Rattle.switch.proofs.manual_may_stand.Statement.{statement}
 use Rattle.switch.proofs.manual_may_stand.Tie as tie

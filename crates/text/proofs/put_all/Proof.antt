@@ -3,7 +3,7 @@
 use Prim.Native.Nat.{_-_}
 use native.Mathlib.Omega.{arith}
 use lib.ListN.{length}
-use Rattle.text.proofs.Laws.{PutSoFar, put-start, put-room, put-next, put-end}
+use Rattle.text.proofs.PlacedText.{PutSoFar, put-start, put-room, put-next, put-end}
 use Rattle.text.proofs.put_all.Statement.{statement}
 use Rattle.text.proofs.put_all.Tie as tie
 

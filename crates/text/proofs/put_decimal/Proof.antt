@@ -5,7 +5,7 @@ use native.Mathlib.Omega.{arith}
 use borrow.Author.Needs.{needs}
 use lib.ListN.{length, drop, length-take, length-drop}
 use Rattle.digits.specs.Decimal.{decimalPlaces}
-use Rattle.text.proofs.Laws.{DecimalPart, decimal-text, written-decimal}
+use Rattle.text.proofs.PlacedText.{DecimalPart, decimal-text, written-decimal}
 use Rattle.text.proofs.put_decimal.Statement.{statement}
 use Rattle.text.proofs.put_decimal.Tie as tie
 

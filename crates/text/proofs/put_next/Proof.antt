@@ -4,7 +4,7 @@ use mathlib.Core.Path.{_∙_}
 use native.Mathlib.Omega.{arith}
 use borrow.Author.Needs.{needs}
 use lib.ListN.{length-set}
-use Rattle.text.proofs.Laws.{decimalOf-short, written-spaced, written-first}
+use Rattle.text.proofs.PlacedText.{decimalOf-short, written-spaced, written-first}
 use Rattle.text.proofs.put_next.Statement.{statement}
 use Rattle.text.proofs.put_next.Tie as tie
 

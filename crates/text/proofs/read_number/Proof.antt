@@ -4,7 +4,7 @@ use Prim.Native.Nat.{_+_, _*_, _-_, _≤_}
 use mathlib.Core.Path.{sym, _∙_}
 use native.Mathlib.Omega.{arith}
 use lib.ListN.{length, getD}
-use Rattle.text.proofs.Laws.{readNumber-none, readNumber-some, readOn-low, readOn-high, readOn-over, readOn-next, Reading, readOn-end}
+use Rattle.text.proofs.PlacedText.{readNumber-none, readNumber-some, readOn-low, readOn-high, readOn-over, readOn-next, Reading, readOn-end}
 use Rattle.text.proofs.read_number.Statement.{statement}
 use Rattle.text.proofs.read_number.Tie as tie
 

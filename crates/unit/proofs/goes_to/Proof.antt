@@ -1,6 +1,6 @@
 -- `unit::goes_to` meets its contract: each way is a law.
 -- Assumes nothing.
-use Rattle.unit.proofs.Laws.{goesTo-laws}
+use Rattle.unit.proofs.UnitLaws.{goesTo-laws}
 use borrow.Author.Needs.{needs}
 use Rattle.unit.proofs.goes_to.Statement.{statement}
 use Rattle.unit.proofs.goes_to.Tie as tie

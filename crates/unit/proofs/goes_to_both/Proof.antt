@@ -1,7 +1,7 @@
 -- `unit::goes_to_both` meets its contract: each arm is one kind.
 -- Assumes nothing.
 use borrow.Author.Tests.{ne-eqb}
-use Rattle.unit.proofs.Laws.{goesToBoth-word}
+use Rattle.unit.proofs.UnitLaws.{goesToBoth-word}
 use Rattle.unit.specs.Unit.{goesToBoth}
 use Rattle.unit.proofs.goes_to_both.Statement.{statement}
 use Rattle.unit.proofs.goes_to_both.Tie as tie

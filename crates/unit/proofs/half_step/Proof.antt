@@ -1,6 +1,6 @@
 -- `unit::half_step` meets its contract: each way is a law.
 -- Assumes nothing.
-use Rattle.unit.proofs.Laws.{halfStep-laws}
+use Rattle.unit.proofs.UnitLaws.{halfStep-laws}
 use borrow.Author.Needs.{needs}
 use Rattle.unit.proofs.half_step.Statement.{statement}
 use Rattle.unit.proofs.half_step.Tie as tie

@@ -1,6 +1,6 @@
 -- `unit::is_to` meets its contract: each way is a law.
 -- Assumes nothing.
-use Rattle.unit.proofs.Laws.{isTo-laws}
+use Rattle.unit.proofs.UnitLaws.{isTo-laws}
 use borrow.Author.Needs.{needs}
 use Rattle.unit.proofs.is_to.Statement.{statement}
 use Rattle.unit.proofs.is_to.Tie as tie

@@ -1,6 +1,6 @@
 -- `unit::source_by` meets its contract: each of the two ways.
 -- Assumes nothing.
-use Rattle.unit.proofs.Laws.{sourceBy-laws}
+use Rattle.unit.proofs.UnitLaws.{sourceBy-laws}
 use Rattle.unit.proofs.source_by.Statement.{statement}
 use Rattle.unit.proofs.source_by.Tie as tie
 

@@ -1,6 +1,6 @@
 -- `unit::squelches` meets its contract: each way is a law.
 -- Assumes nothing.
-use Rattle.unit.proofs.Laws.{squelchedBy-laws}
+use Rattle.unit.proofs.UnitLaws.{squelchedBy-laws}
 use borrow.Author.Needs.{needs}
 use Rattle.unit.proofs.squelches.Statement.{statement}
 use Rattle.unit.proofs.squelches.Tie as tie

@@ -1,6 +1,6 @@
 -- `unit::unit_start_number` meets its contract: each way is a law.
 -- Assumes nothing.
-use Rattle.unit.proofs.Laws.{unitStartNumber-laws}
+use Rattle.unit.proofs.UnitLaws.{unitStartNumber-laws}
 use borrow.Author.Needs.{needs}
 use Rattle.unit.proofs.unit_start_number.Statement.{statement}
 use Rattle.unit.proofs.unit_start_number.Tie as tie

@@ -1,5 +1,5 @@
 -- `unitcard::half_in` meets its contract: each way is a law. Assumes nothing.
-use Rattle.unitcard.proofs.Laws.{halfIn-laws}
+use Rattle.unitcard.proofs.UnitcardLaws.{halfIn-laws}
 use Rattle.unitcard.proofs.half_in.Statement.{statement}
 use Rattle.unitcard.proofs.half_in.Tie as tie
 

@@ -1,6 +1,6 @@
 -- `unitcard::half_step` meets its contract: the tick, and the event where it goes there. Assumes nothing.
 use Rattle.inplace.specs.Lists.{selectorAt}
-use Rattle.unitcard.proofs.Laws.{half-ticked, half-taken}
+use Rattle.unitcard.proofs.UnitcardLaws.{half-ticked, half-taken}
 use borrow.Author.Needs.{needs}
 use Rattle.unitcard.proofs.half_step.Statement.{statement}
 use Rattle.unitcard.proofs.half_step.Tie as tie

@@ -1,6 +1,6 @@
 -- `unitcard::send` meets its contract: it is the definition, call by call. Assumes nothing.
 use Rattle.inplace.specs.Lists.{selectorAt}
-use Rattle.unitcard.proofs.Laws.{sent-told}
+use Rattle.unitcard.proofs.UnitcardLaws.{sent-told}
 use borrow.Author.Needs.{needs}
 use Rattle.unitcard.proofs.send.Statement.{statement}
 use Rattle.unitcard.proofs.send.Tie as tie

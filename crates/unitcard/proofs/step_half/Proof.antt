@@ -2,7 +2,7 @@
 use Rattle.inplace.specs.Lists.{selectorAt}
 use Rattle.onestep.specs.Watched.{watchAt}
 use Rattle.unit.specs.Kept.{halfStep}
-use Rattle.unitcard.proofs.Laws.{half-stepped}
+use Rattle.unitcard.proofs.UnitcardLaws.{half-stepped}
 use borrow.Author.Needs.{needs}
 use Rattle.unitcard.proofs.step_half.Statement.{statement}
 use Rattle.unitcard.proofs.step_half.Tie as tie

@@ -1,7 +1,7 @@
 -- `unitcard::tell_half` meets its contract: it is the definition, call by call. Assumes nothing.
 use Rattle.inplace.specs.Lists.{selectorAt}
 use Rattle.onestep.specs.Watched.{watchHeld, watchAt}
-use Rattle.unitcard.proofs.Laws.{half-told}
+use Rattle.unitcard.proofs.UnitcardLaws.{half-told}
 use borrow.Author.Needs.{needs}
 use Rattle.unitcard.proofs.tell_half.Statement.{statement}
 use Rattle.unitcard.proofs.tell_half.Tie as tie

@@ -1,6 +1,6 @@
 -- `unitstart::start_of` meets its contract: each way is a law.
 -- Assumes nothing.
-use Rattle.unitstart.proofs.Laws.{unitStartOf-laws}
+use Rattle.unitstart.proofs.UnitStartLaws.{unitStartOf-laws}
 use borrow.Author.Needs.{needs}
 use Rattle.unitstart.proofs.start_of.Statement.{statement}
 use Rattle.unitstart.proofs.start_of.Tie as tie

@@ -1,6 +1,6 @@
 -- `unitstart::start_two` meets its contract: each way is a law.
 -- Assumes nothing.
-use Rattle.unitstart.proofs.Laws.{unitStartTwo-laws}
+use Rattle.unitstart.proofs.UnitStartLaws.{unitStartTwo-laws}
 use borrow.Author.Needs.{needs}
 use Rattle.unitstart.proofs.start_two.Statement.{statement}
 use Rattle.unitstart.proofs.start_two.Tie as tie

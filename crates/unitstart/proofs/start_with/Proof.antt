@@ -2,8 +2,8 @@
 -- Assumes nothing.
 use mathlib.Core.Path.{sym, _∙_}
 use native.Mathlib.Omega.{arith}
-use Rattle.text.proofs.Laws.{readNumber-most}
-use Rattle.unitstart.proofs.Laws.{with-above, with-number}
+use Rattle.text.proofs.PlacedText.{readNumber-most}
+use Rattle.unitstart.proofs.UnitStartLaws.{with-above, with-number}
 use borrow.Author.Needs.{needs}
 use Rattle.unitstart.proofs.start_with.Statement.{statement}
 use Rattle.unitstart.proofs.start_with.Tie as tie

@@ -1,6 +1,6 @@
 -- `unitstart::unit_start_by` meets its contract: each way is a law.
 -- Assumes nothing.
-use Rattle.unitstart.proofs.Laws.{unitStartBy-laws}
+use Rattle.unitstart.proofs.UnitStartLaws.{unitStartBy-laws}
 use borrow.Author.Needs.{needs}
 use Rattle.unitstart.proofs.unit_start_by.Statement.{statement}
 use Rattle.unitstart.proofs.unit_start_by.Tie as tie

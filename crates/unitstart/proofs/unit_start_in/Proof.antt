@@ -1,6 +1,6 @@
 -- `unitstart::unit_start_in` meets its contract: each way is a law.
 -- Assumes nothing.
-use Rattle.unitstart.proofs.Laws.{unitStartIn-laws, minimum-holds}
+use Rattle.unitstart.proofs.UnitStartLaws.{unitStartIn-laws, minimum-holds}
 use borrow.Author.Needs.{needs}
 use Rattle.unitstart.proofs.unit_start_in.Statement.{statement}
 use Rattle.unitstart.proofs.unit_start_in.Tie as tie

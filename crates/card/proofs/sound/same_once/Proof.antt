@@ -17,17 +17,17 @@ selection-at-requires c κs = search needs
 selection-at-requires-2 : tie.Need-selection-at-requires-2
 selection-at-requires-2 c κs = search needs
 
-held-at-requires : tie.Need-held-at-requires
-held-at-requires c κs = search needs
+was-locked-at-requires : tie.Need-was-locked-at-requires
+was-locked-at-requires c κs = search needs
 
-cast-held : tie.Need-cast-held
-cast-held c = search needs
+cast-waslocked : tie.Need-cast-waslocked
+cast-waslocked c = search needs
 
-held-at-requires-2 : tie.Need-held-at-requires-2
-held-at-requires-2 c κs = search needs
+was-locked-at-requires-2 : tie.Need-was-locked-at-requires-2
+was-locked-at-requires-2 c κs = search needs
 
-cast-held-2 : tie.Need-cast-held-2
-cast-held-2 c = search needs
+cast-waslocked-2 : tie.Need-cast-waslocked-2
+cast-waslocked-2 c = search needs
 
 switch-number-requires : tie.Need-switch-number-requires
 switch-number-requires c κs = search needs
@@ -55,8 +55,8 @@ returns c = let args = c .before .before .before .before .before .before .before
     (c .before .before .before .before .before .before .before .before .before .before .switch-at2 .result)
     (c .before .before .before .before .before .before .before .before .before .selection-at .result)
     (c .before .before .before .before .before .before .before .before .selection-at2 .result)
-    (c .before .before .before .before .before .before .before .held-at .result)
-    (c .before .before .before .before .before .before .held-at2 .result)
+    (c .before .before .before .before .before .before .before .was-locked-at .result)
+    (c .before .before .before .before .before .before .was-locked-at2 .result)
     (c .before .before .before .before .before .switch-number .result)
     (c .before .before .before .before .switch-number2 .result)
     (c .before .before .before .switch-input .result)
@@ -67,8 +67,8 @@ returns c = let args = c .before .before .before .before .before .before .before
     (c .before .before .before .before .before .before .before .before .before .before .switch-at2 .ensures later words)
     (c .before .before .before .before .before .before .before .before .before .selection-at .ensures times words)
     (c .before .before .before .before .before .before .before .before .selection-at2 .ensures later words)
-    (c .before .before .before .before .before .before .before .held-at .ensures times words)
-    (c .before .before .before .before .before .before .held-at2 .ensures later words)
+    (c .before .before .before .before .before .before .before .was-locked-at .ensures times words)
+    (c .before .before .before .before .before .before .was-locked-at2 .ensures later words)
     (c .before .before .before .before .before .switch-number .ensures)
     (c .before .before .before .before .switch-number2 .ensures)
     (c .before .before .before .switch-input .ensures)
@@ -84,10 +84,10 @@ same-once-spec =
     switch-at-requires-2
     selection-at-requires
     selection-at-requires-2
-    held-at-requires
-    cast-held
-    held-at-requires-2
-    cast-held-2
+    was-locked-at-requires
+    cast-waslocked
+    was-locked-at-requires-2
+    cast-waslocked-2
     switch-number-requires
     switch-number-requires-2
     switch-input-requires

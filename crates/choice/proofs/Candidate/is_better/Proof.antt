@@ -1,6 +1,6 @@
 -- `choice::Candidate::is_better` meets its contract: each way is a law.
 -- Assumes nothing.
-use Rattle.choice.proofs.Laws.{isBetter-laws}
+use Rattle.choice.proofs.ChoiceLaws.{isBetter-laws}
 use Rattle.choice.proofs.Candidate.is_better.Statement.{statement}
 use Rattle.choice.proofs.Candidate.is_better.Tie as tie
 

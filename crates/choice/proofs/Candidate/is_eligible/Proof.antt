@@ -1,6 +1,6 @@
 -- `choice::Candidate::is_eligible` meets its contract: each way is a law.
 -- Assumes nothing.
-use Rattle.choice.proofs.Laws.{isEligible-laws}
+use Rattle.choice.proofs.ChoiceLaws.{isEligible-laws}
 use Rattle.choice.proofs.Candidate.is_eligible.Statement.{statement}
 use Rattle.choice.proofs.Candidate.is_eligible.Tie as tie
 

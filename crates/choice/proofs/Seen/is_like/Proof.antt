@@ -1,6 +1,6 @@
 -- `choice::Seen::is_like` meets its contract: each way is a law.
 -- Assumes nothing.
-use Rattle.choice.proofs.Laws.{isLike-laws}
+use Rattle.choice.proofs.ChoiceLaws.{isLike-laws}
 use borrow.Author.Needs.{needs}
 use Rattle.choice.proofs.Seen.is_like.Statement.{statement}
 use Rattle.choice.proofs.Seen.is_like.Tie as tie

@@ -1,6 +1,6 @@
 -- `input::Heard::signal` meets its contract: each way is a law.
 -- Assumes nothing.
-use Rattle.input.proofs.Laws.{heardAfter-signal-laws}
+use Rattle.input.proofs.RecordLaws.{heardAfter-signal-laws}
 use borrow.Author.Needs.{needs}
 use Rattle.input.proofs.Heard.signal.Statement.{statement}
 use Rattle.input.proofs.Heard.signal.Tie as tie

@@ -1,6 +1,6 @@
 -- `input::Input::lockout` meets its contract: it is the definition, call by call.
 -- Assumes nothing.
-use Rattle.input.proofs.Laws.{afterEvent-lockout}
+use Rattle.input.proofs.RecordLaws.{afterEvent-lockout}
 use mathlib.Core.Path.{_∙_}
 use borrow.Author.Needs.{needs}
 use Rattle.input.proofs.Input.lockout.Statement.{statement}

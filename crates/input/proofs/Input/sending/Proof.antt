@@ -1,6 +1,6 @@
 -- `input::Input::sending` meets its contract: it is the definition, call by call.
 -- Assumes nothing.
-use Rattle.input.proofs.Laws.{afterEvent-sending}
+use Rattle.input.proofs.RecordLaws.{afterEvent-sending}
 use mathlib.Core.Path.{_∙_}
 use borrow.Author.Needs.{needs}
 use Rattle.input.proofs.Input.sending.Statement.{statement}

@@ -1,5 +1,5 @@
 -- `onestep::watch::due_at` meets its contract: each way is a law. Assumes nothing.
-use Rattle.quickstep.proofs.Laws.{dueAnew-laws}
+use Rattle.quickstep.proofs.QuickLaws.{dueAnew-laws}
 use borrow.Author.Needs.{needs}
 use Rattle.onestep.proofs.watch.due_at.Statement.{statement}
 use Rattle.onestep.proofs.watch.due_at.Tie as tie

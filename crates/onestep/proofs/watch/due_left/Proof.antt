@@ -1,5 +1,5 @@
 -- `onestep::watch::due_left` meets its contract: each way is a law. Assumes nothing.
-use Rattle.quickstep.proofs.Laws.{dueAfter-laws}
+use Rattle.quickstep.proofs.QuickLaws.{dueAfter-laws}
 use borrow.Author.Needs.{needs}
 use Rattle.onestep.proofs.watch.due_left.Statement.{statement}
 use Rattle.onestep.proofs.watch.due_left.Tie as tie

@@ -1,6 +1,6 @@
 -- `quickstep::Watch::take` meets its contract: each way is a law.
 -- Assumes nothing.
-use Rattle.quickstep.proofs.Laws.{takeStep-own}
+use Rattle.quickstep.proofs.QuickLaws.{takeStep-own}
 use borrow.Author.Needs.{needs}
 use Rattle.quickstep.proofs.Watch.take.Statement.{statement}
 use Rattle.quickstep.proofs.Watch.take.Tie as tie

@@ -1,6 +1,6 @@
 -- `run::Forecast::is_expired` meets its contract: each way is a law.
 -- Assumes nothing.
-use Rattle.run.proofs.Laws.{isExpired-laws}
+use Rattle.run.proofs.RunLaws.{isExpired-laws}
 use borrow.Author.Needs.{needs}
 use Rattle.run.proofs.Forecast.is_expired.Statement.{statement}
 use Rattle.run.proofs.Forecast.is_expired.Tie as tie

@@ -1,6 +1,6 @@
 -- `run::Forecast::raw_at` meets its contract: each way is a law.
 -- Assumes nothing.
-use Rattle.run.proofs.Laws.{rawAt-laws}
+use Rattle.run.proofs.RunLaws.{rawAt-laws}
 use borrow.Author.Needs.{needs}
 use Rattle.run.proofs.Forecast.raw_at.Statement.{statement}
 use Rattle.run.proofs.Forecast.raw_at.Tie as tie

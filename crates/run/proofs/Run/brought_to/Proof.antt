@@ -1,6 +1,6 @@
 -- `run::Run::brought_to` meets its contract: each way is a law.
 -- Assumes nothing.
-use Rattle.run.proofs.Laws.{broughtTo-laws, isExpired-fits}
+use Rattle.run.proofs.RunLaws.{broughtTo-laws, isExpired-fits}
 use borrow.Author.Needs.{needs}
 use Rattle.run.proofs.Run.brought_to.Statement.{statement}
 use Rattle.run.proofs.Run.brought_to.Tie as tie

@@ -1,6 +1,6 @@
 -- `run::Run::passed_quality` meets its contract: each way is a law.
 -- Assumes nothing.
-use Rattle.run.proofs.Laws.{passedQuality-laws}
+use Rattle.run.proofs.RunLaws.{passedQuality-laws}
 use Rattle.run.proofs.Run.passed_quality.Statement.{statement}
 use Rattle.run.proofs.Run.passed_quality.Tie as tie
 

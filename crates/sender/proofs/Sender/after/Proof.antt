@@ -1,6 +1,6 @@
 -- `sender::Sender::after` meets its contract: each way is a law.
 -- Assumes nothing.
-use Rattle.sender.proofs.Laws.{after-laws}
+use Rattle.sender.proofs.SenderLaws.{after-laws}
 use borrow.Author.Needs.{needs}
 use Rattle.sender.proofs.Sender.after.Statement.{statement}
 use Rattle.sender.proofs.Sender.after.Tie as tie

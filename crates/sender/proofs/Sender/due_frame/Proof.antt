@@ -1,6 +1,6 @@
 -- `sender::Sender::due_frame` meets its contract: each way is a law.
 -- Assumes nothing.
-use Rattle.sender.proofs.Laws.{heartbeatDue-laws}
+use Rattle.sender.proofs.SenderLaws.{heartbeatDue-laws}
 use borrow.Author.Needs.{needs}
 use Rattle.sender.proofs.Sender.due_frame.Statement.{statement}
 use Rattle.sender.proofs.Sender.due_frame.Tie as tie

@@ -1,6 +1,6 @@
 -- `sender::Sender::heartbeat` meets its contract: each way is a law.
 -- Assumes nothing.
-use Rattle.sender.proofs.Laws.{heartbeatOf-laws}
+use Rattle.sender.proofs.SenderLaws.{heartbeatOf-laws}
 use borrow.Author.Needs.{needs}
 use Rattle.sender.proofs.Sender.heartbeat.Statement.{statement}
 use Rattle.sender.proofs.Sender.heartbeat.Tie as tie

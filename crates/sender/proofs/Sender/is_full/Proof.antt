@@ -1,6 +1,6 @@
 -- `sender::Sender::is_full` meets its contract: each way is a law.
 -- Assumes nothing.
-use Rattle.sender.proofs.Laws.{isFull-laws}
+use Rattle.sender.proofs.SenderLaws.{isFull-laws}
 use borrow.Author.Needs.{needs}
 use Rattle.sender.proofs.Sender.is_full.Statement.{statement}
 use Rattle.sender.proofs.Sender.is_full.Tie as tie

@@ -1,6 +1,6 @@
 -- `sender::Sender::with_frame` meets its contract: each way is a law.
 -- Assumes nothing.
-use Rattle.sender.proofs.Laws.{withFrame-laws}
+use Rattle.sender.proofs.SenderLaws.{withFrame-laws}
 use borrow.Author.Needs.{needs}
 use Rattle.sender.proofs.Sender.with_frame.Statement.{statement}
 use Rattle.sender.proofs.Sender.with_frame.Tie as tie

@@ -1,6 +1,6 @@
 -- `sender::Senders::ask` meets its contract: each way is a law.
 -- Assumes nothing.
-use Rattle.sender.proofs.Laws.{lent-laws, code-small, ask-no-port, ask-refused, ask-accepted}
+use Rattle.sender.proofs.SenderLaws.{lent-laws, code-small, ask-no-port, ask-refused, ask-accepted}
 use borrow.Author.Needs.{needs}
 use Rattle.sender.proofs.Senders.ask.Statement.{statement}
 use Rattle.sender.proofs.Senders.ask.Tie as tie

@@ -4,7 +4,7 @@ use borrow.Author.Tests.{not-true, not-false}
 use Rattle.inplace.specs.Lists.{selectorAt}
 use Rattle.onestep.specs.Watched.{watchAt}
 use Rattle.unitcard.specs.Lent.{lentAt}
-use Rattle.unitcard.proofs.Laws.{start-neither, start-refused, start-fresh}
+use Rattle.unitcard.proofs.UnitcardLaws.{start-neither, start-refused, start-fresh}
 use borrow.Author.Needs.{needs}
 use Rattle.unitcard.proofs.exports.nurrispane_unit_fresh_in.Statement.{statement}
 use Rattle.unitcard.proofs.exports.nurrispane_unit_fresh_in.Tie as tie

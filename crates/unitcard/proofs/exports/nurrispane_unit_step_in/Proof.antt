@@ -4,7 +4,7 @@ use Rattle.inplace.specs.Lists.{selectorAt}
 use Rattle.onestep.specs.Watched.{watchAt}
 use Rattle.unitcard.specs.Lent.{lentAt}
 use Rattle.card.specs.Lent.{eventOf}
-use Rattle.unitcard.proofs.Laws.{step-neither, step-taken}
+use Rattle.unitcard.proofs.UnitcardLaws.{step-neither, step-taken}
 use borrow.Author.Needs.{needs}
 use Rattle.unitcard.proofs.exports.nurrispane_unit_step_in.Statement.{statement}
 use Rattle.unitcard.proofs.exports.nurrispane_unit_step_in.Tie as tie

@@ -1,7 +1,7 @@
 -- `verdict::tell::advance` meets its contract: what is left of the spans leads to what all of them lead to.
 -- Assumes nothing.
 use mathlib.Core.Path.{refl}
-use Rattle.verdict.proofs.Laws.{Going, going-laws}
+use Rattle.verdict.proofs.ToldLaws.{Going, going-laws}
 use borrow.Author.Needs.{needs}
 use Rattle.verdict.proofs.tell.advance.Statement.{statement}
 use Rattle.verdict.proofs.tell.advance.Tie as tie

@@ -1,7 +1,7 @@
 -- `verdict::tell::advance_all` meets its contract: what is left of the spans leads to what all of them lead to.
 -- Assumes nothing.
 use mathlib.Core.Path.{refl}
-use Rattle.verdict.proofs.Laws.{GoingAll, going-all-laws}
+use Rattle.verdict.proofs.ToldLaws.{GoingAll, going-all-laws}
 use borrow.Author.Needs.{needs}
 use Rattle.verdict.proofs.tell.advance_all.Statement.{statement}
 use Rattle.verdict.proofs.tell.advance_all.Tie as tie

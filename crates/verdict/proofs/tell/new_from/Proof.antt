@@ -1,7 +1,7 @@
 -- `verdict::tell::new_from` meets its contract: each way is a law.
 -- Assumes nothing.
 
-use Rattle.verdict.proofs.Laws.{told-laws}
+use Rattle.verdict.proofs.ToldLaws.{told-laws}
 use borrow.Author.Needs.{needs}
 use Rattle.verdict.proofs.tell.new_from.Statement.{statement}
 use Rattle.verdict.proofs.tell.new_from.Tie as tie

@@ -3,7 +3,7 @@
 
 use mathlib.Core.Logic.{⊎-elim}
 use mathlib.Core.Path.{_∙_}
-use Rattle.verdict.proofs.Laws.{told-laws}
+use Rattle.verdict.proofs.ToldLaws.{told-laws}
 use borrow.Author.Needs.{needs}
 use Rattle.verdict.proofs.tell.push.Statement.{statement}
 use Rattle.verdict.proofs.tell.push.Tie as tie

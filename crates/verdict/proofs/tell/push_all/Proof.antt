@@ -1,6 +1,6 @@
 -- `verdict::tell::push_all` meets its contract: each way is a law.
 -- Assumes nothing.
-use Rattle.verdict.proofs.Laws.{span-laws}
+use Rattle.verdict.proofs.ToldLaws.{span-laws}
 use borrow.Author.Needs.{needs}
 use Rattle.verdict.proofs.tell.push_all.Statement.{statement}
 use Rattle.verdict.proofs.tell.push_all.Tie as tie

@@ -3,7 +3,7 @@
 use Prim.Native.Nat.{_-_, _≤_}
 use mathlib.Core.Path.{refl}
 use Rattle.verdict.specs.Told.{portsTold}
-use Rattle.verdict.proofs.Laws.{Ports, ports-laws}
+use Rattle.verdict.proofs.ToldLaws.{Ports, ports-laws}
 use borrow.Author.Needs.{needs}
 use Rattle.verdict.proofs.tell.push_codes.Statement.{statement}
 use Rattle.verdict.proofs.tell.push_codes.Tie as tie

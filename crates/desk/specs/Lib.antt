@@ -1,3 +1,0 @@
--- `Heartbeats`: what is written for lines, by the questions and events before. `Desk`: the same as the code does it.
-pub mod Heartbeats
-pub mod Desk

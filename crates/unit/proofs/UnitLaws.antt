@@ -1,0 +1,142 @@
+-- The definitions of `specs/`, a law for each way through the function that meets it. Assumes nothing.
+use Prim.Native.Nat.{ℕ, _≤_, _<_}
+use mathlib.Core.Bool.{Bool, true, false, _||_}
+use mathlib.Core.List.{[]}
+use mathlib.Core.Path.{_≡_, refl, _∙_}
+use lib.Dec.{ltb}
+use borrow.Author.Tests.{eq-eqb, ne-eqb, lt-leb, le-leb}
+use Rattle.numbers.specs.declared.Answer.{Answer}
+use Rattle.numbers.specs.declared.Event.{Event}
+use Rattle.numbers.specs.declared.profile.Limits.{Limits}
+use Rattle.numbers.specs.declared.profile.Profile.{Profile}
+use Rattle.numbers.specs.declared.quality.Quality.{Quality}
+use Rattle.numbers.specs.Kind.{kindWord}
+use Rattle.numbers.specs.Profile.{limitsOf, placeOf, startNumber}
+use Rattle.numbers.specs.Quality.{quality}
+use Rattle.numbers.specs.Refusal.{argumentOutOfRange, frameLength}
+use Rattle.numbers.specs.Rows.{firstThatApplies}
+use Rattle.frame.specs.declared.FrameRead.{FrameRead}
+use Rattle.frame.specs.declared.FrameRead.the-variants as R
+use Rattle.frame.specs.Read.{rightLength, frameNumber, readCode}
+use Rattle.choice.specs.declared.Rank.{Rank}
+use Rattle.choice.specs.Rank.{rankOf}
+use Rattle.selector.specs.declared.Selector.{Selector}
+use Rattle.selector.specs.Answer.{noInput, locked}
+use Rattle.events.specs.declared.Stepped.{Stepped}
+use Rattle.events.specs.Given.{tickAt}
+use Rattle.events.specs.Step.{stepRead}
+use Rattle.unit.specs.declared.Half.{Half}
+use Rattle.unit.specs.declared.Half.the-variants as H
+use Rattle.unit.specs.Unit.{unitStartNumber, goesToBoth, isTo, goesTo}
+use Rattle.unit.specs.Kept.{halfStep, squelchedBy, sourceBy}
+
+-- ---- unitStartNumber
+
+module _ (profile : Profile) (minimum : Quality) (limits : Limits) where
+  pub unitStartNumber-none : minimum .0 < 1 → argumentOutOfRange ≡ unitStartNumber profile minimum
+  unfolding unitStartNumber
+  unitStartNumber-none none = rw (lt-leb 1 (minimum .0) none)
+
+  pub unitStartNumber-above : limits ≡ limitsOf profile → 1 ≤ minimum .0 → limits .floor < minimum .0
+      → argumentOutOfRange ≡ unitStartNumber profile minimum
+  unfolding unitStartNumber
+  unitStartNumber-above is some above = rw (← is, le-leb 1 (minimum .0) some, lt-leb (minimum .0) (limits .floor) above)
+
+  pub unitStartNumber-within : (number : ℕ) → limits ≡ limitsOf profile → 1 ≤ minimum .0 → minimum .0 ≤ limits .floor
+      → number ≡ startNumber profile → number ≡ unitStartNumber profile minimum
+  unfolding unitStartNumber
+  unitStartNumber-within number is some within starts =
+      starts ∙ rw (← is, le-leb 1 (minimum .0) some, le-leb (minimum .0) (limits .floor) within)
+
+pub ruleset unitStartNumber-laws = (unitStartNumber-none, unitStartNumber-above, unitStartNumber-within)
+
+-- ---- goesToBoth
+
+or-none : (test : Bool) → test ≡ (test || false || false)
+or-none true = refl
+or-none false = refl
+
+pub goesToBoth-word : (limits : Limits) (kind : ℕ) → kind ≡ kindWord → limits .words ≡ goesToBoth limits kind
+unfolding goesToBoth
+goesToBoth-word limits kind word = rw word (or-none (limits .words))
+
+-- ---- isTo, goesTo
+
+module _ (to half : Half) where
+  pub isTo-equipment : to ≡ H.Equipment → half ≡ H.Equipment → true ≡ isTo to half
+  unfolding isTo
+  isTo-equipment t h = rw (t, h)
+
+  pub isTo-not-station : to ≡ H.Equipment → half ≡ H.Station → false ≡ isTo to half
+  unfolding isTo
+  isTo-not-station t h = rw (t, h)
+
+  pub isTo-not-equipment : to ≡ H.Station → half ≡ H.Equipment → false ≡ isTo to half
+  unfolding isTo
+  isTo-not-equipment t h = rw (t, h)
+
+  pub isTo-station : to ≡ H.Station → half ≡ H.Station → true ≡ isTo to half
+  unfolding isTo
+  isTo-station t h = rw (t, h)
+
+pub ruleset isTo-laws = (isTo-equipment, isTo-not-station, isTo-not-equipment, isTo-station)
+
+module _ (limits : Limits) (kind : ℕ) (to half : Half) (both : Bool) where
+  pub goesTo-both : both ≡ goesToBoth limits kind → both ≡ true → true ≡ goesTo limits kind to half
+  unfolding goesTo
+  goesTo-both b t = rw (← b, t)
+
+  pub goesTo-one : (own : Bool) → both ≡ goesToBoth limits kind → both ≡ false → own ≡ isTo to half
+      → own ≡ goesTo limits kind to half
+  unfolding goesTo
+  goesTo-one own b f o = o ∙ rw (← b, f)
+
+pub ruleset goesTo-laws = (goesTo-both, goesTo-one)
+
+-- ---- halfStep
+
+-- what comes with a tick reads as a frame that is too short
+pub readCode-none : readCode [] ≡ R.Refused frameLength
+unfolding readCode frameNumber firstThatApplies rightLength
+readCode-none = refl
+
+module _ (state : Selector) (goes : Bool) (event : Event) (read : FrameRead) (ticked : Stepped) where
+  pub halfStep-event : (after : Stepped) → ticked ≡ stepRead state (tickAt (event .time) .event) (R.Refused frameLength)
+      → goes ≡ true → after ≡ stepRead (ticked .state) event read
+      → after ≡ halfStep state goes event read
+  unfolding halfStep
+  halfStep-event after t g a = a ∙ rw (t, g, readCode-none)
+
+  pub halfStep-tick : ticked ≡ stepRead state (tickAt (event .time) .event) (R.Refused frameLength) → goes ≡ false
+      → ticked ≡ halfStep state goes event read
+  unfolding halfStep
+  halfStep-tick t g = t ∙ rw (g, readCode-none)
+
+pub ruleset halfStep-laws = (halfStep-event, halfStep-tick)
+
+-- ---- squelchedBy
+
+module _ (answer : Answer) (mode : Bool) (profile : Profile) (minimum : Quality) where
+  pub squelchedBy-unlocked : (answer .clockstate ≡ locked → ⊥) → true ≡ squelchedBy answer mode profile minimum
+  squelchedBy-unlocked n = rw (ne-eqb (answer .clockstate) locked n)
+
+  pub squelchedBy-mode : (place : ℕ) (worst passed : Rank) → answer .clockstate ≡ locked → mode ≡ true
+      → place ≡ placeOf profile → worst ≡ rankOf place minimum → passed ≡ rankOf place (quality (answer .clockquality))
+      → ltb (worst .0) (passed .0) ≡ squelchedBy answer mode profile minimum
+  squelchedBy-mode place worst passed l m p w q = rw (eq-eqb (answer .clockstate) locked l, m, ← p, ← w, ← q)
+
+  pub squelchedBy-off : answer .clockstate ≡ locked → mode ≡ false → false ≡ squelchedBy answer mode profile minimum
+  squelchedBy-off l m = rw (eq-eqb (answer .clockstate) locked l, m)
+
+pub ruleset squelchedBy-laws = (squelchedBy-unlocked, squelchedBy-mode, squelchedBy-off)
+
+-- ---- sourceBy
+
+module _ (squelched : Bool) (answer : Answer) where
+  pub sourceBy-none : squelched ≡ true → noInput ≡ sourceBy squelched answer
+  sourceBy-none s = rw s
+
+  pub sourceBy-selected : squelched ≡ false → answer .selected ≡ sourceBy squelched answer
+  sourceBy-selected s = rw s
+
+pub ruleset sourceBy-laws = (sourceBy-none, sourceBy-selected)

@@ -1,0 +1,128 @@
+-- Laws of the start of a unit, way by way. Assumes nothing.
+use Prim.Native.Nat.{ℕ, _≤_, _<_}
+use mathlib.Core.Bool.{Bool, true, false, not}
+use mathlib.Core.List.{List}
+use mathlib.Core.Path.{_≡_, sym, ap, _∙_}
+use native.Mathlib.Omega.{arith}
+use borrow.Author.Tests.{eq-eqb, ne-eqb, lt-leb, le-leb, not-true, not-false}
+use Rattle.numbers.specs.declared.profile.Profile.{Profile}
+use Rattle.numbers.specs.declared.profile.Profile.the-variants as P
+use Rattle.numbers.specs.declared.quality.Quality.{Quality}
+use Rattle.numbers.specs.Profile.{limitsOf}
+use Rattle.numbers.specs.Quality.{quality}
+use Rattle.numbers.specs.Refusal.{accepted}
+use Rattle.digits.specs.Decimal.{decimalValue}
+use Rattle.text.specs.declared.NumberRead.{NumberRead}
+use Rattle.text.specs.declared.NumberRead.the-variants.{Number, NoNumber}
+use Rattle.text.specs.Text.{readNumber}
+use Rattle.start.specs.declared.StartRead.{StartRead}
+use Rattle.start.specs.declared.StartRead.the-variants as S
+use Rattle.start.specs.Start.{isOptionWord, isDecimal, startIn}
+use Rattle.start.proofs.StartLaws.{number-above, place-is}
+use Rattle.unit.specs.Unit.{unitStartNumber}
+use Rattle.unitstart.specs.declared.UnitStart.{UnitStart}
+use Rattle.unitstart.specs.declared.UnitStart.the-variants.{Started, Refused, NoStart}
+use Rattle.unitstart.specs.Start.{numeral1, unitStartOf, unitStartTwo, unitStartIn, unitStartBy}
+
+-- ---- unitStartOf
+
+module _ (profile : Profile) (minimum : Quality) (number : ℕ) (is : number ≡ unitStartNumber profile minimum) where
+  pub unitStartOf-started : number ≡ accepted → Started profile minimum ≡ unitStartOf profile minimum
+  unfolding unitStartOf
+  unitStartOf-started taken = rw (eq-eqb (unitStartNumber profile minimum) accepted (sym is ∙ taken))
+
+  pub unitStartOf-refused : (number ≡ accepted → ⊥) → Refused ≡ unitStartOf profile minimum
+  unfolding unitStartOf
+  unitStartOf-refused left = rw (ne-eqb (unitStartNumber profile minimum) accepted (λ same. left (is ∙ same)))
+
+pub ruleset unitStartOf-laws = (unitStartOf-started, unitStartOf-refused)
+
+-- no floor is above 255
+floor-below : (profile : Profile) → limitsOf profile .floor ≤ 255
+unfolding limitsOf
+floor-below P.OptionOne = omega arith
+floor-below (P.OptionTwo place marks) = omega arith
+
+-- a minimum above 255 is out of range
+minimum-above : (profile : Profile) (value : ℕ) → 255 < value → Refused ≡ unitStartOf profile (quality value)
+unfolding unitStartOf unitStartNumber
+minimum-above profile value above =
+    rw (
+      le-leb 1 value (omega arith),
+      lt-leb value (limitsOf profile .floor) (omega (arith, floor-below profile)),
+    )
+
+module _ (profile : Profile) (minimum : List ℕ) (decimal : isDecimal minimum ≡ true) where
+  pub with-above : (read : NumberRead) → read ≡ readNumber minimum 255 → read ≡ NoNumber
+      → Refused ≡ unitStartOf profile (quality (decimalValue 0 minimum))
+  with-above read is none =
+      minimum-above profile (decimalValue 0 minimum) (number-above minimum 0 255 decimal read is none)
+
+  pub with-number : (start : UnitStart) (read : NumberRead) (number : ℕ) → read ≡ readNumber minimum 255
+      → read ≡ Number number
+      → start ≡ unitStartOf profile (quality number)
+      → start ≡ unitStartOf profile (quality (decimalValue 0 minimum))
+  with-number start read number reads told is =
+      is ∙
+      ap (λ (value : ℕ). unitStartOf profile (quality value)) (place-is minimum 0 255 decimal read number reads told)
+
+-- ---- unitStartTwo
+
+module _ (start : StartRead) (minimum : Quality) where
+  pub two-started : (place marks : ℕ) (answer : UnitStart) → start ≡ S.Started place marks
+      → answer ≡ unitStartOf (P.OptionTwo place marks) minimum
+      → answer ≡ unitStartTwo start minimum
+  unfolding unitStartTwo
+  two-started place marks answer is same = same ∙ (rw is)
+
+  pub two-refused : start ≡ S.Refused → Refused ≡ unitStartTwo start minimum
+  unfolding unitStartTwo
+  two-refused is = rw is
+
+  pub two-none : start ≡ S.NoStart → NoStart ≡ unitStartTwo start minimum
+  unfolding unitStartTwo
+  two-none is = rw is
+
+pub ruleset unitStartTwo-laws = (two-started, two-refused, two-none)
+
+-- ---- unitStartIn, unitStartBy
+
+module _ (option place marks minimum : List ℕ) (decimal : Bool) (test : decimal ≡ isDecimal minimum) where
+  pub in-minimum : not decimal ≡ true → NoStart ≡ unitStartIn option place marks minimum
+  unfolding unitStartIn
+  in-minimum none = rw (sym test ∙ not-true decimal none)
+
+  pub in-one : (one : Bool) (start : UnitStart) → not decimal ≡ false → one ≡ isOptionWord numeral1 option → one ≡ true
+      → start ≡ unitStartOf P.OptionOne (quality (decimalValue 0 minimum))
+      → start ≡ unitStartIn option place marks minimum
+  unfolding unitStartIn
+  in-one one start holds is taken same = same ∙ (rw (sym test ∙ not-false decimal holds, sym is ∙ taken))
+
+  pub in-two : (one : Bool) (read : StartRead) (start : UnitStart) → not decimal ≡ false
+      → one ≡ isOptionWord numeral1 option
+      → one ≡ false
+      → read ≡ startIn option place marks
+      → start ≡ unitStartTwo read (quality (decimalValue 0 minimum))
+      → start ≡ unitStartIn option place marks minimum
+  unfolding unitStartIn
+  in-two one read start holds is left reads same =
+      same ∙ (rw (sym test ∙ not-false decimal holds, sym is ∙ left, reads))
+
+pub ruleset unitStartIn-laws = (in-minimum, in-one, in-two)
+
+-- the test of the code that holds
+pub minimum-holds : (minimum : List ℕ) (decimal : Bool) → decimal ≡ isDecimal minimum → not decimal ≡ false
+    → isDecimal minimum ≡ true
+minimum-holds minimum decimal is holds = sym is ∙ not-false decimal holds
+
+module _ (count : ℕ) (option place marks minimum : List ℕ) where
+  pub by-other : (count ≡ 5 → ⊥) → NoStart ≡ unitStartBy count option place marks minimum
+  unfolding unitStartBy
+  by-other other = rw (ne-eqb count 5 other)
+
+  pub by-words : (start : UnitStart) → count ≡ 5 → start ≡ unitStartIn option place marks minimum
+      → start ≡ unitStartBy count option place marks minimum
+  unfolding unitStartBy
+  by-words start five is = is ∙ (rw (eq-eqb count 5 five))
+
+pub ruleset unitStartBy-laws = (by-other, by-words)
