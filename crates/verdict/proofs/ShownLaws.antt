@@ -107,15 +107,16 @@ module _ (line : List ℕ) (long : 23 ≤ length line) where
 
   pub answer-made : (a b c d e : ℕ) → OctetIn line 13 a → OctetIn line 15 b → OctetIn line 17 c → OctetIn line 19 d
       → OctetIn line 21 e
-      → record { number = 0; selected = a; state = b; quality = c; switch = d; on = e } ≡ shownAnswer line
+      → record { number = 0; selected = a; clockstate = b; clockquality = c; switchkind = d; switchinput = e }
+      ≡ shownAnswer line
   answer-made a b c d e isA isB isC isD isE = λ j.
       record {
         number = 0;
         selected = (isA .value ∙ sym (octet-at 0)) j;
-        state = (isB .value ∙ sym (octet-at 1)) j;
-        quality = (isC .value ∙ sym (octet-at 2)) j;
-        switch = (isD .value ∙ sym (octet-at 3)) j;
-        on = (isE .value ∙ sym (octet-at 4)) j;
+        clockstate = (isB .value ∙ sym (octet-at 1)) j;
+        clockquality = (isC .value ∙ sym (octet-at 2)) j;
+        switchkind = (isD .value ∙ sym (octet-at 3)) j;
+        switchinput = (isE .value ∙ sym (octet-at 4)) j;
       }
 
 -- ---- what a line says

@@ -43,10 +43,10 @@ shownAnswer line =
     record {
       number = 0;
       selected = shownOctet line 0;
-      state = shownOctet line 1;
-      quality = shownOctet line 2;
-      switch = shownOctet line 3;
-      on = shownOctet line 4;
+      clockstate = shownOctet line 1;
+      clockquality = shownOctet line 2;
+      switchkind = shownOctet line 3;
+      switchinput = shownOctet line 4;
     }
 
 -- so many characters, of which those behind the mark are digits

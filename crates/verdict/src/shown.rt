@@ -64,17 +64,17 @@ fn answer_in(line: &[u8]) -> Answer
     ensures { λ answer. ⌜ answer ≡ shownAnswer (now (line .entry)) ⌝ }
 {
     let selected = octet_in(line, 13);
-    let state = octet_in(line, 15);
-    let quality = octet_in(line, 17);
-    let switch = octet_in(line, 19);
-    let on = octet_in(line, 21);
+    let clockstate = octet_in(line, 15);
+    let clockquality = octet_in(line, 17);
+    let switchkind = octet_in(line, 19);
+    let switchinput = octet_in(line, 21);
     Answer {
         number: 0,
         selected: selected as u8,
-        state: state as u8,
-        quality: quality as u8,
-        switch: switch as u8,
-        on: on as u8,
+        clockstate: clockstate as u8,
+        clockquality: clockquality as u8,
+        switchkind: switchkind as u8,
+        switchinput: switchinput as u8,
     }
 }
 
