@@ -1,5 +1,8 @@
 -- `ToldLaws`: what the lanes are told, a law for each way through. `BenchLaws`: the same of what is carried from line
--- to line. `Quick`: the quick way of a shown line.
+-- to line. `Quick`: the quick way of a shown line. `ShownLaws`: what a shown line says, a law for each way.
+-- `LinesLaws`: the same of what a line is taken for, and the lines one after another.
 pub mod ToldLaws
 pub mod BenchLaws
 pub mod Quick
+pub mod ShownLaws
+pub mod LinesLaws

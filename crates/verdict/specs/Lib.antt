@@ -1,3 +1,6 @@
 -- `Told`: what the lanes are told by the program. `Bench`: what it carries from line to line, and what an event does.
+-- `Shown`: a shown line, and what it says. `Lines`: what a line is taken for, and what lines do one after another.
 pub mod Told
 pub mod Bench
+pub mod Shown
+pub mod Lines
