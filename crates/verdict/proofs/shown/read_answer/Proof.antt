@@ -37,7 +37,9 @@ answer-value-requires c κs = search needs
 returns-3 : tie.Need-returns-3
 returns-3 c =
     let e = c .before .before .before in
-    answer-told _ _ (omega arith) _ (e .before .all-digits .ensures) (not-false _ (e .if2 .left)) _ _ _ (c .before .before .time-in .ensures) (c .before .answer-in .ensures) (c .answer-value .ensures)
+    answer-told _ _ (omega arith) _ (e .before .all-digits .ensures) (not-false _ (e .if2 .left))
+    _ _ _ (c .before .before .time-in .ensures)
+    (c .before .answer-in .ensures) (c .answer-value .ensures)
 
 pub read-answer-spec : {M : Type 1} → statement M
 read-answer-spec =

@@ -37,19 +37,22 @@ octet-in-requires-2 c κs = search needs
 returns-3 : tie.Need-returns-3
 returns-3 c =
     let e = c .before .before .before .before in
-    port-none _ (omega arith) _ (e .before .all-digits .ensures) (not-false _ (e .if2 .left)) _ _ _ (c .before .before .before .time-in .ensures) (c .before .before .octet-in .ensures)
+    port-none _ (omega arith) _ (e .before .all-digits .ensures) (not-false _ (e .if2 .left))
+    _ _ _ (c .before .before .before .time-in .ensures) (c .before .before .octet-in .ensures)
     (c .before .octet-in2 .ensures) (search needs)
 
 returns-4 : tie.Need-returns-4
 returns-4 c =
     let e = c .before .before .before .before .before in
-    port-uncoded _ (omega arith) _ (e .before .all-digits .ensures) (not-false _ (e .if2 .left)) _ _ _ (c .before .before .before .before .time-in .ensures) (c .before .before .before .octet-in .ensures)
+    port-uncoded _ (omega arith) _ (e .before .all-digits .ensures) (not-false _ (e .if2 .left))
+    _ _ _ (c .before .before .before .before .time-in .ensures) (c .before .before .before .octet-in .ensures)
     (c .before .before .octet-in2 .ensures) (search needs)
 
 returns-5 : tie.Need-returns-5
 returns-5 c =
     let e = c .before .before .before .before .before in
-    port-told _ (omega arith) _ (e .before .all-digits .ensures) (not-false _ (e .if2 .left)) _ _ _ (c .before .before .before .before .time-in .ensures) (c .before .before .before .octet-in .ensures)
+    port-told _ (omega arith) _ (e .before .all-digits .ensures) (not-false _ (e .if2 .left))
+    _ _ _ (c .before .before .before .before .time-in .ensures) (c .before .before .before .octet-in .ensures)
     (c .before .before .octet-in2 .ensures) (search needs) (search needs)
 
 pub read-port-spec : {M : Type 1} → statement M
