@@ -33,7 +33,7 @@ use Rattle.quickstep.specs.declared.Own.{Own}
 use Rattle.quickstep.specs.declared.Watch.{Watch}
 use Rattle.quickstep.specs.Own.{isServed, ownTake, ownStep}
 use Rattle.quickstep.specs.Watch.{watchOf, numbered, dueAnew, completed, ownPlace, ownPut, ownAt, takeStep}
-use Rattle.quickstep.proofs.Right.{numbered-answer, Kept, Right, takeStep-right}
+use Rattle.quickstep.proofs.SameAsPlain.{numbered-answer, Kept, Right, takeStep-right}
 use Rattle.lanes.specs.declared.View.{View}
 use Rattle.lanes.specs.Value.{answerValue}
 use Rattle.verdict.specs.declared.lines.Way.{Way}
@@ -141,7 +141,7 @@ module _ (state : Selector) (place : ℕ) (input : Input) (time : ℕ)
         selection = state .selection;
         profile = state .profile;
         mode = state .mode;
-        held = state .held;
+        waslocked = state .waslocked;
       }
 
   abbrev sends : Input → Bool
@@ -158,7 +158,7 @@ module _ (state : Selector) (place : ℕ) (input : Input) (time : ℕ)
   module _ (answers : answerOf 0 after ≡ answerOf 0 state) where
     quality-same : qualityOf after ≡ qualityOf state
     unfolding answerOf
-    quality-same = λ j. record { 0 = ap (λ (answer : Answer). answer .quality) answers j }
+    quality-same = λ j. record { 0 = ap (λ (answer : Answer). answer .clockquality) answers j }
 
     codes-same : outgoingCodes after ≡ outgoingCodes state
     unfolding outgoingCodes signFor
