@@ -9,7 +9,7 @@ import itertools
 import re
 import subprocess
 
-from nurrispane import faults, timeline, words
+from nurrispane import faults, words
 from nurrispane.files import ROOT, Trouble
 
 TRACE = ROOT / "docs" / "TRACE.md"
@@ -158,7 +158,7 @@ def fields(text):
 def moments(program, data):
     """Each moment of a log, the fresh one first."""
     # an extra tick changes nothing, and shows the fresh state
-    first = timeline.tick(0, words.split_log(data)[0]) + b"\n"
+    first = words.tick_line(0, words.option_in(data) or 1)
     run = subprocess.run([str(program), "replay"], input=first + data, capture_output=True)
     numbers = [int(answer[:2], 16) for answer in run.stdout.splitlines()]
     if run.returncode != 0 or len(numbers) != 1 + data.count(b"\n"):

@@ -2,11 +2,11 @@
 
 `front` takes the name of a tool behind ./nurrispane and hands the rest to the module of that name
 in `commands`. The other modules are what these share: `files` (read and written whole, or not at
-all), `programs` (the proved ones), `words` and `answers` (the language of docs/LABORATORY.md),
+all), `programs` (runs the proved ones), `words` and `answers` (the language of docs/LABORATORY.md),
 `perline` (tools that print a line after each), `captures` (capture files), `logs` (a log in hand),
-`inputs` (what is known of each input, and why it isn't selected), `timeline` (what is right and
-known at any time), `answered` (a card's answer lines), `shown` (a table of what a card shows over
-time), `verdicts` (the program's verdict on it), `findings` (what is wrong with a card, and why),
+`proved` (what the proved programs say of a log), `inputs` (what is known of each input, and why it
+isn't selected), `timeline` (what is right and known at any time), `answered` (a card's answer
+lines), `shown` (a table of what a card shows over time), `findings` (what is wrong with a card, and why),
 `lanes` and `pictures` (lanes over time, and pages of them), `progress` (what a terminal is told),
 `faults` (the known faults), `reach` (which of them a log can show at all), `jitter` (how late a
 bench is), `sequences` (the bench's set). For a card on a wire: `wires` (packet sockets), `hooks`

@@ -5,7 +5,7 @@ import bisect
 import collections
 import copy
 
-from nurrispane import hooks, inputs, logs, programs, records, timeline, verdicts, words
+from nurrispane import hooks, logs, programs, proved, records, timeline, words
 
 TICK = words.BY_WORD["tick"].number
 
@@ -23,11 +23,11 @@ class Ticked:
         log = logs.Log("", b"".join(line + b"\n" for line in lines), profile.start)
         course = timeline.Course(log)
         before = [0, *course.times]
-        ticks = [(one.number, timeline.tick_line(one.time, profile.option)) for one in course.found if one.time > before[one.number]]
+        ticks = [(one.number, words.tick_line(one.time, profile.option)) for one in course.found if one.time > before[one.number]]
         ended = timeline.with_ticks(log.lines, ticks)
         self.lines = [line[:-1] for line in ended]
         self.answers = programs.answers("replay", b"".join(ended), profile.start)
-        right = verdicts.Times(ended, b"".join(answer + b"\n" for answer in self.answers))
+        right = proved.Times(ended, b"".join(answer + b"\n" for answer in self.answers))
         self.times = [int(time, 16) for time in right]
 
     def line_at(self, time):
@@ -47,13 +47,13 @@ class Course:
     def ends(self):
         """For each line that was played what would end next of each input just before it, served or not, in ms."""
         own = [number for number, line in enumerate(self.ticked.lines[:-1]) if words.event_of(line).kind != TICK]
-        facts = inputs.after(self.ticked.lines, own, self.profile.start)
+        facts = proved.after(self.ticked.lines, own, self.profile.start)
         return [sorted({end for fact in facts[number] for end in (fact.timer, fact.frame) if end}) for number in own]
 
     def served(self):
         """(ms, input) of each end of an input that is on, by which a due moment was served; what ends from the fresh start is left out."""
         found, before = [], []
-        facts_after = inputs.after(self.ticked.lines, range(1, len(self.ticked.lines) + 1), self.profile.start)
+        facts_after = proved.after(self.ticked.lines, range(1, len(self.ticked.lines) + 1), self.profile.start)
         for number, line in enumerate(self.ticked.lines, 1):
             facts, time = facts_after[number], words.event_of(line).time
             if time > FRESH_ENDS:

@@ -1,126 +1,15 @@
-"""What is known of the sixteen inputs after a line of a log: asked of the proved program `facts` (docs/LABORATORY.md), and put
-into words. Nothing is worked out here but which of the facts is told."""
+"""What is known of the sixteen inputs after a line of a log, by the proved program `facts` (docs/LABORATORY.md), in words. Nothing is
+worked out here but which of the facts is told."""
 
-import collections
 import functools
 import re
 
-from nurrispane import answers, profiles, programs, progress
-from nurrispane.files import Trouble
-from nurrispane.programs import ANSWER
-
-INPUTS = 16
-MARK = b"?"
-# Stands in a malformed line for a mark: the line stays malformed.
-UNMARKED = b"x"
-
-Fact = collections.namedtuple(
-    "Fact", "time mode raw passed eligible timer frame signal kind priority locked floor"
-)
+from nurrispane import answers, profiles
+from nurrispane.proved import ANSWER
 
 # The kinds of input, by number, and what comes in there.
 KINDS = ("line", "Ethernet", "words")
 REPORTS = ("code", "frame", "word")
-
-# ---- asked of the program
-
-
-def marked(lines, numbers):
-    """The log up to the last of these lines, which have their LFs, a mark after each of them."""
-    done = 0
-    for number in numbers:
-        while done < number:
-            end = min(done + programs.PART, number)
-            yield b"".join(lines[done:end]).replace(MARK, UNMARKED)
-            done = end
-        yield MARK
-
-
-class Known:
-    """What is known after a line: its number, the answers since the last one asked for, the state's time, and of each input
-    the rest of its row, which `facts` reads."""
-
-    def __init__(self, number, said, rows):
-        self.number, self.said = number, said
-        time = rows[0].partition(b" ")[0]
-        self.time = int(time)
-        self.rests = [row[len(time) + 1:] for row in rows]
-
-    @property
-    def answer(self):
-        """The answer to the line."""
-        return self.said[-ANSWER:-1]
-
-    @functools.cached_property
-    def facts(self):
-        return [Fact(self.time, *numbers_in(rest)) for rest in self.rests]
-
-
-@functools.lru_cache(maxsize=1 << 16)
-def numbers_in(rest):
-    return tuple(map(int, rest.split()))
-
-
-class Output:
-    """What the program says, taken from the front."""
-
-    def __init__(self, pieces):
-        self.pieces, self.held, self.place = pieces, b"", 0
-
-    def more(self):
-        """Holds more of it, from the place on."""
-        piece = next(self.pieces, None)
-        if piece is None:
-            raise Trouble("the program facts answered in part")
-        self.held, self.place = self.held[self.place:] + piece, 0
-
-    def answers(self, count):
-        """So many answer lines."""
-        told, wanted = [], count * ANSWER
-        while len(self.held) - self.place < wanted:
-            told.append(self.held[self.place:])
-            wanted, self.place = wanted - len(told[-1]), len(self.held)
-            self.more()
-        start, self.place = self.place, self.place + wanted
-        return b"".join([*told, self.held[start:self.place]])
-
-    def rows(self):
-        """The rows of the sixteen inputs."""
-        while True:
-            end = self.place
-            for _ in range(INPUTS):
-                end = self.held.find(b"\n", end) + 1
-                if end == 0:
-                    break
-            if end:
-                rows = self.held[self.place:end - 1].split(b"\n")
-                self.place = end
-                return rows
-            self.more()
-
-    def ended(self):
-        if self.place != len(self.held) or next(self.pieces, None) is not None:
-            raise Trouble("the program facts said more than it was asked")
-
-
-def along(lines, numbers, start=()):
-    """Each of these lines, which have their LFs, by numbers that rise from 0, before any, with what is known after it; the log is gone
-    through once."""
-    output, done = Output(programs.pieces("facts", marked(lines, numbers), start=start)), 0
-    progress.doing("asking what is known of the inputs")
-    for number in numbers:
-        if number % programs.PART == 0:
-            progress.doing("asking what is known of the inputs", number / len(lines))
-        said = output.answers(number - done)
-        done = number
-        yield Known(number, said, output.rows())
-    output.ended()
-
-
-def after(lines, numbers, start=()):
-    """The facts by the numbers of lines without their LFs."""
-    return {known.number: known.facts for known in along([line + b"\n" for line in lines], sorted(set(numbers)), start)}
-
 
 # ---- in words
 
@@ -191,6 +80,13 @@ def why(facts, number, answer, names, brief=False, equal=0):
         passed = profiles.quality(fact.passed, names)
         return reason[0], "%s; has failed, still passes %s: hold-off, %s" % (reason[1], passed, left(fact, fact.timer, brief))
     return reason
+
+
+def told(facts, number, answer, names):
+    """What is known of an input, with why it is selected or is not."""
+    fact = facts[number]
+    raw, passed = (profiles.quality(each, names) for each in (fact.raw, fact.passed))
+    return "input %d: raw %s, passes %s, priority %d: %s" % (number, raw, passed, fact.priority, why(facts, number, answer, names)[1])
 
 
 REPORT = re.compile(rb"(02|03|12)0[12]([0-9a-f]{12})([0-9a-f]{2})([0-9a-f]{4})(?:[0-9a-f]{55}([0-9a-f])[0-9a-f]*)?")

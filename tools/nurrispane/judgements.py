@@ -3,7 +3,7 @@
 import bisect
 import collections
 
-from nurrispane import answers, courses, heartbeats, hooks, inputs, profiles, records, verdicts, wirefindings
+from nurrispane import answers, courses, heartbeats, hooks, profiles, proved, records, wirefindings
 from nurrispane.records import NS_A_MS
 
 # The rounding of two clocks' milliseconds.
@@ -12,6 +12,8 @@ ROUNDING = 1
 LARGEST_STEP = NS_A_MS
 SHORTEST_FRAME = 60
 
+# A code that a port tells from a millisecond on.
+Telling = collections.namedtuple("Telling", "time port code")
 # A stretch of milliseconds, both ends included, in which a port tells a wrong code, and the first of these.
 Wrong = collections.namedtuple("Wrong", "port first last code")
 # `void` says why there is no verdict at all, `unfinished` why it doesn't reach the end, `notes` what else was not judged.
@@ -34,7 +36,7 @@ class Judge:
     def tellings(self, port):
         """What a port shows from when on. What it told before `fresh` was answered stands until it may be late no more."""
         told = [(one.at // NS_A_MS, heartbeats.code_of(one.octets)) for one in self.part.sent[port]]
-        told = [verdicts.Telling(ms, port, code) for ms, code in told if code is not None]
+        told = [Telling(ms, port, code) for ms, code in told if code is not None]
         before, after = [one for one in told if one.time < 0], [one for one in told if one.time >= 0]
         if before and not (after and after[0].time <= self.late):
             return [before[-1]._replace(time=self.late), *after]
@@ -42,10 +44,10 @@ class Judge:
 
     def stretches(self):
         """Where a port tells a wrong code; a change may wait for the ceiling."""
-        question = verdicts.Question("codes", self.late, ROUNDING, self.limit)
-        # what a port tells twice in a millisecond keeps its order
-        shown = sorted(self.shown, key=lambda one: (one.time, one.port))
-        verdict = verdicts.of_ports(self.timed, shown, question, self.profile.option, self.profile.start)
+        question = proved.Question("codes", self.late, ROUNDING, self.limit)
+        lines, times = [line + b"\n" for _, line in self.timed], [b"%012x" % time for time, _ in self.timed]
+        shown = [(one.time, proved.code(one.port, one.code)) for one in self.shown]
+        verdict = proved.verdict(lines, times, shown, question, self.profile)
         wrong = [Wrong(port, each.start, each.end, int(each.value, 16)) for port, found in verdict.stretches.items() for each in found]
         return [left for one in wrong if (left := self.without_waits(one)) and not self.is_held(left)]
 
@@ -94,7 +96,7 @@ class Judge:
         clusters = self.clusters()
         moments = [self.moment(each) for each in clusters]
         places = [self.course.line_at(ms) for ms in moments]
-        facts = inputs.after(self.course.ticked.lines, [place for place in places if place], self.profile.start)
+        facts = proved.after(self.course.ticked.lines, [place for place in places if place], self.profile.start)
         for cluster, ms, place in zip(clusters, moments, places):
             yield self.code_finding(cluster, ms, place, facts.get(place))
 
@@ -145,7 +147,7 @@ class Judge:
         found |= {"flag", "at once", "outgoing"} if changes else set()
         found |= {"ceiling"} if any(heartbeats.waits(self.part, port, 0) for port in self.part.ports) else set()
         judged = [number for number, time in enumerate(ticked.times, 1) if time <= self.limit]
-        for number, facts in inputs.after(ticked.lines, judged, self.profile.start).items():
+        for number, facts in proved.after(ticked.lines, judged, self.profile.start).items():
             answer, line = answers.octets_of(ticked.answers[number - 1]), ticked.lines[number - 1]
             found |= wirefindings.touched(facts, answer, line, self.part.ports, self.profile)
         return found | {"refusals" for one in self.part.played if one.reply == hooks.REFUSED}

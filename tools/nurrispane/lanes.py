@@ -6,8 +6,8 @@ same are one. What is right changes when it does, also between two lines of the 
 import bisect
 import collections
 
-from nurrispane import answers, findings, inputs, profiles, shown, verdicts
-from nurrispane.programs import ANSWER
+from nurrispane import answers, inputs, profiles, proved, shown
+from nurrispane.proved import ANSWER
 
 PLAIN, FAILED, WAITING, WRONG, SWITCHED, NOT_TOLD = "plain", "failed", "waiting", "wrong", "switched", "not-told"
 QUALITIES = {
@@ -56,12 +56,12 @@ def selection(selected):
 def of_course(course, profile):
     """The lanes of what is right: the selection; the inputs that are ever used; the switch and the clock."""
     right, switch, clock, used = Lane("right card"), Lane("switch"), Lane("clock"), set()
-    passed = [Lane("input %d" % number) for number in range(inputs.INPUTS)]
+    passed = [Lane("input %d" % number) for number in range(proved.INPUTS)]
     for moment in course.found:
         time, octets, facts = moment.time, answers.octets_of(moment.answer), moment.facts
         used.update(each for each, fact in enumerate(facts) if fact.priority or each == octets[1])
-        why = [inputs.why(facts, each, octets, profile, brief=True)[1] for each in range(inputs.INPUTS)]
-        chosen = octets[1] if octets[1] < inputs.INPUTS else None
+        why = [inputs.why(facts, each, octets, profile, brief=True)[1] for each in range(proved.INPUTS)]
+        chosen = octets[1] if octets[1] < proved.INPUTS else None
         look = FAILED if chosen is None else look_of(octets[3], profile)
         right.take(time, selection(octets[1]), "" if chosen is None else why[chosen], look)
         for each, fact in enumerate(facts):
@@ -85,16 +85,12 @@ class Facts:
 
     def after(self, number, time):
         """After a line, which left the state at this time."""
-        return self.facts(self.found[bisect.bisect_right(self.keys, (number, time)) - 1], time)
+        return proved.facts_at(time, self.found[bisect.bisect_right(self.keys, (number, time)) - 1].rests)
 
     def at(self, time):
         """At a time, after its last event: the answer and the facts."""
         moment = self.found[bisect.bisect_right(self.times, time) - 1]
-        return moment.answer, self.facts(moment, time)
-
-    @staticmethod
-    def facts(moment, time):
-        return [inputs.Fact(time, *inputs.numbers_in(rest)) for rest in moment.rests]
+        return moment.answer, proved.facts_at(time, moment.rests)
 
 
 # ---- a card by its answers
@@ -119,10 +115,9 @@ def of_answers(course, judged):
 def wrong_answers(course, judged):
     """The wrong stretches of lines; the first ones with the reasons."""
     facts = Facts(course)
-    for place, each in enumerate(findings.stretches(judged.wrong)):
-        time, odd = course.times[each.first - 1], judged.card.odd.get(each.first - 1, each.card)
-        known = facts.after(each.first, time) if place < MOST_LISTED else None
-        said = findings.of_line(judged.log, each.first, each.right, odd, known, judged.received)
+    for place, each in enumerate(judged.stretches()):
+        time = course.times[each.first - 1]
+        said = judged.of_line(each.first, facts.after(each.first, time) if place < MOST_LISTED else None)
         to = "" if each.first == each.last else ", to line %d" % each.last
         end = course.times[each.last] if each.last < len(course.times) else course.end + 1
         yield Wrong(time, end, said.head + to, ["right: " + said.right, "card: " + said.card, *said.reasons])
@@ -147,8 +142,7 @@ def wrong_stretches(course, judged):
     facts = Facts(course)
     for place, each in enumerate(judged.wrong):
         answer, known = facts.at(each.start)
-        number = verdicts.place_of(judged.times, each.start)
-        said = judged.of_stretch(each, number, answer, known if place < MOST_LISTED else None)
+        said = judged.of_stretch(each, answer, known if place < MOST_LISTED else None)
         yield Wrong(each.start, each.end + 1, said.head, ["right: " + said.right, "card: " + said.card, *said.reasons])
 
 

@@ -8,7 +8,7 @@ import sys
 import tempfile
 import threading
 
-from nurrispane import profiles, progress, words
+from nurrispane import profiles, words
 from nurrispane.files import ROOT, Trouble, name_of, read, reason, standard, write, write_out
 
 CHUNK, LARGE_CHUNK = 1 << 16, 1 << 20
@@ -114,20 +114,6 @@ def pieces(name, parts, *arguments, start=()):
             process.kill()
             process.communicate()
     went_on(name, status, said)
-
-
-# An answer line with its LF; so many lines are handed over at a time.
-ANSWER, PART = 13, 10_000
-
-
-def replayed(log):
-    """The right answers to a log in hand, ANSWER bytes for each of its lines."""
-    count = len(log.lines)
-    progress.doing("replaying %s lines" % format(count, ","))
-    told = b"".join(pieces("replay", [log.data], start=log.profile.start))
-    if len(told) != ANSWER * count or told[ANSWER - 1::ANSWER] != b"\n" * count:
-        raise Trouble("the program replay answered %d of %d lines" % (told.count(b"\n"), count))
-    return told
 
 
 def answers(name, data, start=()):

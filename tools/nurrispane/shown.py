@@ -8,7 +8,7 @@ import decimal
 import io
 import re
 
-from nurrispane import answers, profiles, verdicts
+from nurrispane import answers, profiles, proved, words
 from nurrispane.files import Trouble, name_of, read_text
 
 # The columns that are judged, by the letter that the verdict has for each, and what else they may be called.
@@ -17,6 +17,8 @@ LETTERS = "scqw"
 MS, SECONDS, EITHER = "ms", "seconds", "ms or ISO 8601"
 TIMES = {"time": EITHER, "timestamp": EITHER, "ms": MS, "time ms": MS, "s": SECONDS, "seconds": SECONDS, "time s": SECONDS, "time seconds": SECONDS}
 UNITS = {"": 1, "ms": 1, "s": 1_000, "min": 60_000}
+# How much too early a card may show something, in ms, unless it is told otherwise: the rounding of two clocks.
+EARLY = 1
 ISO = re.compile(r"[0-9]{4}-[0-9]{2}-[0-9]{2}[T ].*")
 EPOCH = datetime.datetime(1970, 1, 1, tzinfo=datetime.timezone.utc)
 
@@ -33,7 +35,7 @@ class Shown:
 
     def tellings(self):
         """The rows for the verdict."""
-        return [(row.time, verdicts.answer(*row.octets)) for row in self.rows]
+        return [(row.time, b"%02x%02x%02x%02x%02x" % row.octets) for row in self.rows]
 
 
 def from_zero(rows, said):
@@ -42,7 +44,7 @@ def from_zero(rows, said):
     if early:
         said.append("%d rows are before the log's time 0: the last of them is taken as shown at 0" % early)
         rows = [rows[early - 1]._replace(time=0), *rows[early:]]
-    if rows and rows[-1].time >= verdicts.TIME_LIMIT:
+    if rows and rows[-1].time >= words.TIME_LIMIT:
         raise Trouble("what is shown at %s ms is later than any log" % format(rows[-1].time, ","))
     return rows
 
@@ -88,7 +90,7 @@ def duration(text, option):
 
 def tolerance(options):
     """How late and how early a card may be."""
-    early = verdicts.EARLY if options.early is None else duration(options.early, "--early")
+    early = EARLY if options.early is None else duration(options.early, "--early")
     return duration(options.tolerance, "--tolerance") if options.tolerance is not None else 0, early
 
 
@@ -100,7 +102,7 @@ def question(shown, options, last):
     late = sum(row.time > end for row in shown.rows)
     if late:
         shown.said.append("%d %s behind the end and not judged" % (late, "row is" if late == 1 else "rows are"))
-    return verdicts.Question(shown.form, *tolerance(options), end)
+    return proved.Question(shown.form, *tolerance(options), end)
 
 
 # ---- a table

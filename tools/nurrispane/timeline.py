@@ -3,16 +3,7 @@ ends, as often as the proved facts name a further end. Extra ticks change no lat
 
 import array
 
-from nurrispane import inputs, words
-
-
-def tick(time, lines):
-    """A tick for a log of these lines, of its option; without its LF."""
-    return tick_line(time, words.option_of(lines) or 1)[:-1]
-
-
-def tick_line(time, option):
-    return words.event_line(words.BY_WORD["tick"].number, time, 0, 0, option=option) + b"\n"
+from nurrispane import proved, words
 
 
 def with_ticks(lines, added):
@@ -24,10 +15,10 @@ def with_ticks(lines, added):
     return made + lines[done:]
 
 
-def at_ticks(lines, ticks, option, start):
+def at_ticks(lines, ticks, profile):
     """What is known at ticks in these lines, which have their LFs, each after a line and at a time, which rise."""
-    ticked = with_ticks(lines, [(number, tick_line(time, option)) for number, time in ticks])
-    return inputs.along(ticked, [number + place for place, (number, _) in enumerate(ticks, 1)], start)
+    ticked = with_ticks(lines, [(number, words.tick_line(time, profile.option)) for number, time in ticks])
+    return proved.along(ticked, [number + place for place, (number, _) in enumerate(ticks, 1)], profile.start)
 
 
 class Moment:
@@ -38,17 +29,17 @@ class Moment:
 
     @property
     def facts(self):
-        return [inputs.Fact(self.time, *inputs.numbers_in(rest)) for rest in self.rests]
+        return proved.facts_at(self.time, self.rests)
 
 
 def ends_of(rest):
     """When what runs at an input ends: its timer, and its frame."""
-    return inputs.numbers_in(rest)[4:6]
+    return proved.numbers_in(rest)[4:6]
 
 
 def lasting(rest):
     """What is known of an input but for the end of its frame, which changes with nearly each line."""
-    numbers = inputs.numbers_in(rest)
+    numbers = proved.numbers_in(rest)
     return numbers[:5] + numbers[6:]
 
 
@@ -69,9 +60,9 @@ class Course:
     there."""
 
     def __init__(self, log, end=None):
-        self.option, self.start = log.profile.option, log.profile.start
+        self.profile = log.profile
         # a tick at 0 in front, so that what is known before the first line is of the log's option
-        self.lines = with_ticks(log.lines, [(0, tick_line(0, self.option))])
+        self.lines = with_ticks(log.lines, [(0, words.tick_line(0, log.profile.option))])
         # the state's time after each line of the log
         self.times = array.array("Q")
         self.found, self.gaps = [], {}
@@ -83,11 +74,11 @@ class Course:
     def at_lines(self):
         """Takes what changes at lines, and keeps where something ends between two; gives the last line's time."""
         before, shown, soonest = None, b"", 0
-        for known in inputs.along(self.lines, range(1, len(self.lines) + 1), self.start):
+        for known in proved.along(self.lines, range(1, len(self.lines) + 1), self.profile.start):
             # nothing ends before `soonest`, which is made anew once it has come
             ended = before is not None and soonest < known.time and self.gap_after(before, known.time)
             if soonest <= known.time:
-                soonest = soonest_end(known, range(inputs.INPUTS))
+                soonest = soonest_end(known, range(proved.INPUTS))
             if ended or before is None or known.answer[2:] != shown or known.rests != before.rests:
                 changed = changed_inputs(before, known)
                 soonest = min(soonest, soonest_end(known, changed))
@@ -115,7 +106,7 @@ class Course:
             if not pending:
                 break
             asked.update(pending)
-            for (number, _), known in zip(pending, at_ticks(self.lines, pending, self.option, self.start)):
+            for (number, _), known in zip(pending, at_ticks(self.lines, pending, self.profile)):
                 limit, times = self.gaps[number]
                 times.update(end for rest in known.rests for end in ends_of(rest) if known.time < end < limit)
                 self.found.append(Moment(number - 1, known))

@@ -144,6 +144,11 @@ def event_line(kind, time, input_number, argument, octets=b"", option=1):
     return b"%02x%02x%012x%02x%04x" % (kind, option, time, input_number, argument) + bytes(octets).hex().encode()
 
 
+def tick_line(time, option):
+    """A tick, with its LF."""
+    return event_line(BY_WORD["tick"].number, time, 0, 0, option=option) + b"\n"
+
+
 def line_of_words(said, option):
     """The line for "TIME WORD ..", given as words with their columns, in a log of this option."""
     said = collections.deque(said)

@@ -13,7 +13,7 @@ use Rattle.numbers.specs.declared.Event.{Event}
 use Rattle.numbers.specs.From.{started, _following_, profileOf}
 use Rattle.numbers.specs.declared.profile.Profile.{Profile}
 use Rattle.numbers.specs.Inputs.{lastInput, timeLimit}
-use Rattle.numbers.specs.Profile.{placeOf, lastPlace, startNumber, limitsOf, optionOne, optionTwo, profileIn}
+use Rattle.numbers.specs.Profile.{lastPlace, startNumber, limitsOf, optionOne, optionTwo}
 use Rattle.numbers.specs.Refusal.{accepted, argumentOutOfRange}
 use Rattle.numbers.proofs.Truth.{byBool, both-first, both-second}
 use Rattle.frame.specs.declared.FrameRead.{FrameRead}
@@ -67,15 +67,14 @@ use Rattle.card.proofs.Due.{takeStep-later}
 -- ---- a start
 
 -- the number of a start, of the numbers that C gives
-startNumber-refused : (option place marks : ℕ) → option ≡ optionTwo → lastPlace < place
-    → startNumber (profileIn option place marks) ≡ argumentOutOfRange
-unfolding startNumber placeOf profileIn
-startNumber-refused option place marks two above = rw (eq-eqb option optionTwo two, lt-ltb lastPlace place above)
+startNumber-refused : (option place : ℕ) → option ≡ optionTwo → lastPlace < place
+    → startNumber option place ≡ argumentOutOfRange
+unfolding startNumber
+startNumber-refused option place two above = rw (eq-eqb option optionTwo two, lt-ltb lastPlace place above)
 
-startNumber-starts : (option place marks : ℕ) → (option ≡ optionTwo → place ≤ lastPlace)
-    → startNumber (profileIn option place marks) ≡ accepted
-unfolding startNumber placeOf profileIn
-startNumber-starts option place marks within =
+startNumber-starts : (option place : ℕ) → (option ≡ optionTwo → place ≤ lastPlace) → startNumber option place ≡ accepted
+unfolding startNumber
+startNumber-starts option place within =
     byBool (eqb option optionTwo)
     (λ two. rw (two, le-ltb lastPlace place (within (eqb-true option optionTwo two))))
     (λ other. rw other)
@@ -96,9 +95,9 @@ pub lent-start : (watch : Watch) (option place marks : ℕ) → StartRight watch
 unfolding startLent lentAfter
 lent-start watch option place marks =
     record {
-      refused = λ two above. rw (names-two option two, startNumber-refused option place marks two above);
+      refused = λ two above. rw (names-two option two, startNumber-refused option place two above);
       neither = λ one two. rw (names-neither option one two);
-      starts = λ named within. rw (named, startNumber-starts option place marks within);
+      starts = λ named within. rw (named, startNumber-starts option place within);
     }
 
 -- ---- one call

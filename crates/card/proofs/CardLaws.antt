@@ -45,26 +45,21 @@ module _ (watch : Watch) (option place marks : ℕ) (named : Bool) (is : named �
   start-neither kept other k = k ∙ (rw (← is, other))
 
   module _ (chosen : named ≡ true) (profile : Profile) (p : profile ≡ profileIn option place marks) (number : ℕ)
-      (n : number ≡ startNumber profile) where
+      (n : number ≡ startNumber option place) where
     pub start-fresh : (new : Watch) → number ≡ accepted → new ≡ freshWatch profile
         → new ≡ startLent watch option place marks
     unfolding startLent
     start-fresh new a f =
         f ∙
         ap freshWatch p ∙
-        (rw
-        (← is, chosen, eq-eqb (startNumber (profileIn option place marks)) accepted (sym (n ∙ ap startNumber p) ∙ a)))
+        (rw (← is, chosen, eq-eqb (startNumber option place) accepted (sym n ∙ a)))
 
     pub start-refused : (kept : Watch) → (number ≡ accepted → ⊥) → kept ≡ withNumber watch number
         → kept ≡ startLent watch option place marks
     unfolding startLent
     start-refused kept a k =
-        k ∙ ap (λ (given : ℕ). withNumber watch given) (n ∙ ap startNumber p)
-        ∙ (rw (
-          ← is,
-          chosen,
-          ne-eqb (startNumber (profileIn option place marks)) accepted (λ e. a (n ∙ ap startNumber p ∙ e)),
-        ))
+        k ∙ ap (λ (given : ℕ). withNumber watch given) n
+        ∙ (rw (← is, chosen, ne-eqb (startNumber option place) accepted (λ e. a (n ∙ e))))
 
 -- ---- readFor
 

@@ -7,6 +7,7 @@ use mathlib.Core.Path.{_≡_, refl, sym, ap, subst, _∙_}
 use native.Mathlib.Omega.{arith}
 use lib.Dec.{eqb, ltb}
 use borrow.Author.Tests.{eqb-true, ne-eqb, not-false}
+use Rattle.numbers.specs.declared.profile.Place.{Place}
 use Rattle.numbers.specs.declared.profile.Profile.{Profile}
 use Rattle.numbers.specs.declared.profile.Profile.the-variants as P
 use Rattle.numbers.specs.declared.quality.Quality.{Quality}
@@ -15,7 +16,7 @@ use Rattle.numbers.specs.From.{started, _following_, profileOf}
 use Rattle.numbers.specs.Codes.{Sign, saidBy, codesOf, words, qualityOfCode, qualityOfWord, saidIn}
 use Rattle.numbers.specs.Inputs.{lastInput, frameLife}
 use Rattle.numbers.specs.Kind.{rowOf, kindWord, kindLineCode, kindFrame, takesFrames, isCounted, isFrame}
-use Rattle.numbers.specs.Profile.{limitsOf, placeOf, numberInOne, paperNumber}
+use Rattle.numbers.specs.Profile.{limitsOf, numberOfPlace, placeOf, numberInOne, paperNumber}
 use Rattle.numbers.specs.Quality.{quality, notTold, invalid, failed, prov, isFailed}
 use Rattle.frame.specs.Read.{readCode}
 use Rattle.numbers.specs.Refusal.{accepted, kindUnknown}
@@ -70,7 +71,7 @@ placed-most : (profile : Profile) (told : Quality) → isPlaced (placeOf profile
     → told .0 ≤ lastClockQuality profile
 unfolding isPlaced placeOf lastClockQuality
 placed-most P.OptionOne told placed = absurd (true≢false (sym placed ∙ and-false (eqb (told .0) (prov .0))))
-placed-most (P.OptionTwo place marks) told placed = omega (arith, placed-prov place told placed)
+placed-most (P.OptionTwo place marks) told placed = omega (arith, placed-prov (numberOfPlace place) told placed)
 
 floor-most : (profile : Profile) → limitsOf profile .floor ≤ lastClockQuality profile
 unfolding limitsOf lastClockQuality
@@ -194,7 +195,7 @@ code-ranged (P.OptionTwo place marks) code =
       ),
     )
 
-word-ranged : (place marks word : ℕ) → Ranged (P.OptionTwo place marks) (qualityOfWord word)
+word-ranged : (place : Place) (marks word : ℕ) → Ranged (P.OptionTwo place marks) (qualityOfWord word)
 unfolding qualityOfWord paperNumber lastQuality
 word-ranged place marks word =
     saidBy-ranged (P.OptionTwo place marks) words word (

@@ -52,7 +52,7 @@ unfoldable pub startLent : Watch → ℕ → ℕ → ℕ → Watch
 startLent watch option place marks =
     let profile = profileIn option place marks in
     cond (not (namesOption option)) (withNumber watch argumentOutOfRange)
-    (cond (eqb (startNumber profile) accepted) (freshWatch profile) (withNumber watch (startNumber profile)))
+    (cond (eqb (startNumber option place) accepted) (freshWatch profile) (withNumber watch (startNumber option place)))
 
 -- an event, of the numbers that C gives
 abbrev pub eventOf : ℕ → ℕ → ℕ → ℕ → Event

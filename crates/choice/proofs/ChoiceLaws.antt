@@ -1,12 +1,9 @@
 -- The definitions of `specs/`, a law for each way through the function that meets it. Assumes nothing.
 use Prim.Native.Nat.{ℕ, _+_, _*_, _≤_, _<_}
 use mathlib.Core.Bool.{Bool, true, false, not}
-use mathlib.Core.List.{List}
-use mathlib.Core.Path.{_≡_, refl, sym, _∙_}
+use mathlib.Core.Path.{_≡_, _∙_}
 use native.Mathlib.Omega.{arith}
-use native.Mathlib.Numerals.{add-one}
 use lib.Dec.{eqb, leb, ltb}
-use lib.ListN.{length, getD, List·getD-eq-default}
 use borrow.Author.Tests.{lt-ltb, le-ltb, le-leb, lt-leb, eq-eqb, ne-eqb}
 use Rattle.numbers.specs.declared.InputNumber.{InputNumber}
 use Rattle.numbers.specs.declared.Priority.{Priority}
@@ -15,13 +12,14 @@ use Rattle.numbers.specs.Inputs.{inputCount}
 use Rattle.numbers.specs.Quality.{notTold, prov, isFailed}
 use Rattle.numbers.specs.Truth.{alike}
 use Rattle.choice.specs.declared.Candidate.{Candidate}
+use Rattle.choice.specs.declared.Leader.{Leader}
 use Rattle.choice.specs.declared.Seen.{Seen}
 use Rattle.choice.specs.declared.Selection.{Selection}
 use Rattle.choice.specs.declared.Selection.the-variants.{Nothing, At}
 use Rattle.choice.specs.declared.Rank.{Rank}
 use Rattle.choice.specs.Rank.{isPlaced, rankOf, floorRank}
-use Rattle.choice.specs.Candidate.{nobody, isUsable, isAdmitted, rankedQuality, isEligible, isBetter, isLike, eligibleAmong, betterAmong, isLower, lowerAmong, anyLower}
-use Rattle.choice.specs.Choice.{seeded, offered, scanned, choose}
+use Rattle.choice.specs.Candidate.{isUsable, isAdmitted, rankedQuality, isEligible, isBetter, isLike}
+use Rattle.choice.specs.Leader.{lead, noLeader, seed, bestOf, isPassed, offer}
 
 -- ---- isPlaced, rankOf
 
@@ -168,129 +166,59 @@ module _ (seen other : Seen) where
 
 pub ruleset isLike-laws = (isLike-locked, isLike-floor, isLike-priority, isLike-passed)
 
--- ---- the candidate with a number
+-- ---- seed
 
-pub candidateAt-nobody : (candidates : List Candidate) (number : ℕ)
-    → inputCount ≤ number → length candidates ≡ inputCount → nobody ≡ getD candidates number nobody
-candidateAt-nobody candidates number h l =
-    let k : length candidates ≤ number = omega arith in
-    sym (List·getD-eq-default candidates nobody k)
+pub seed-nothing : (before : Selection) (candidate : Candidate) (answer : Leader) → before ≡ Nothing
+    → answer ≡ noLeader → answer ≡ seed before candidate
+unfolding seed
+seed-nothing before candidate answer b a = rw b a
 
-pub ruleset candidateAt-laws = (candidateAt-nobody)
+module _ (before : Selection) (candidate : Candidate) (earlier : InputNumber) (answer : Leader) where
+  pub seed-outside : before ≡ At earlier → inputCount ≤ earlier .0 → answer ≡ noLeader → answer ≡ seed before candidate
+  unfolding seed
+  seed-outside b h a = rw (b, le-ltb (earlier .0) inputCount h) a
 
--- ---- isLower
+  pub seed-kept : (test : Bool) → before ≡ At earlier → earlier .0 < inputCount → test ≡ isEligible candidate
+      → test ≡ true → answer ≡ lead earlier candidate → answer ≡ seed before candidate
+  unfolding seed
+  seed-kept test b h q t a = rw (b, lt-ltb (earlier .0) inputCount h, ← q, t) a
 
-module _ (found : Bool) (candidate : Candidate) (rank : Rank) (test : Bool) where
-  pub isLower-lower : test ≡ isEligible candidate → test ≡ true → candidate .rank .0 < rank .0
-      → true ≡ isLower found candidate rank
-  unfolding isLower
-  isLower-lower q t h = rw (← q, t, lt-ltb _ _ h)
+  pub seed-dropped : (test : Bool) → before ≡ At earlier → earlier .0 < inputCount → test ≡ isEligible candidate
+      → test ≡ false → answer ≡ noLeader → answer ≡ seed before candidate
+  unfolding seed
+  seed-dropped test b h q t a = rw (b, lt-ltb (earlier .0) inputCount h, ← q, t) a
 
-  pub isLower-higher : test ≡ isEligible candidate → test ≡ true → rank .0 ≤ candidate .rank .0
-      → found ≡ isLower found candidate rank
-  unfolding isLower
-  isLower-higher q t h = rw (← q, t, le-ltb _ _ h)
+pub ruleset seed-laws = (seed-nothing, seed-outside, seed-kept, seed-dropped)
 
-  pub isLower-not : test ≡ isEligible candidate → test ≡ false → found ≡ isLower found candidate rank
-  unfolding isLower
-  isLower-not q t = rw (← q, t)
+-- ---- isPassed, offer
 
-pub ruleset isLower-laws = (isLower-lower, isLower-higher, isLower-not)
+module _ (selection : Selection) (candidate best : Candidate) where
+  pub isPassed-first : selection ≡ Nothing → true ≡ isPassed selection candidate best
+  unfolding isPassed
+  isPassed-first s = rw s
 
--- ---- lowerAmong: the loop of `has_lower`
+  pub isPassed-better : (leading : InputNumber) (other : Candidate) (wins : Bool) → selection ≡ At leading
+      → other ≡ best → wins ≡ isBetter candidate other → wins ≡ isPassed selection candidate best
+  unfolding isPassed
+  isPassed-better leading other wins s o w = w ∙ rw (s, o)
 
-pub lowerAmong-none : (candidates : List Candidate) (rank : Rank) → false ≡ lowerAmong candidates rank 0
-unfolding lowerAmong
-lowerAmong-none candidates rank = refl
+pub ruleset isPassed-laws = (isPassed-first, isPassed-better)
 
-pub lowerAmong-more : (candidates : List Candidate) (rank : Rank) (count : ℕ) (found next : Bool)
-    (candidate : Candidate) → found ≡ lowerAmong candidates rank count → candidate ≡ getD candidates count nobody
-    → next ≡ isLower found candidate rank → next ≡ lowerAmong candidates rank (count + 1)
-unfolding lowerAmong
-lowerAmong-more candidates rank count found next candidate f k n = rw (add-one count) (rw (← k, ← f) n)
+module _ (leader : Leader) (number : InputNumber) (candidate : Candidate) (test : Bool) where
+  pub offer-takes : (wins : Bool) (answer : Leader) → test ≡ isEligible candidate → test ≡ true
+      → wins ≡ isPassed (leader .selection) candidate (bestOf leader) → wins ≡ true
+      → answer ≡ lead number candidate → answer ≡ offer leader number candidate
+  unfolding offer
+  offer-takes wins answer q t w v a = rw (← q, t, ← w, v) a
 
-pub lowerAmong-all : (candidates : List Candidate) (rank : Rank) (count : ℕ) (found : Bool)
-    → found ≡ lowerAmong candidates rank count → count ≤ 16 → 16 ≤ count → found ≡ anyLower candidates rank
-lowerAmong-all candidates rank count found f h k = let z : count ≡ 16 = omega arith in f ∙ (rw z)
+  pub offer-stays : (wins : Bool) → test ≡ isEligible candidate → test ≡ true
+      → wins ≡ isPassed (leader .selection) candidate (bestOf leader) → wins ≡ false
+      → leader ≡ offer leader number candidate
+  unfolding offer
+  offer-stays wins q t w v = rw (← q, t, ← w, v)
 
-pub ruleset lowerAmong-laws = (lowerAmong-none, lowerAmong-more, lowerAmong-all)
+  pub offer-not : test ≡ isEligible candidate → test ≡ false → leader ≡ offer leader number candidate
+  unfolding offer
+  offer-not q t = rw (← q, t)
 
--- ---- seeded
-
-pub seeded-nothing : (eligible : ℕ → Bool) (before : Selection) → before ≡ Nothing → Nothing ≡ seeded eligible before
-unfolding seeded
-seeded-nothing eligible before b = rw b
-
-module _ (candidates : List Candidate) (before : Selection) (earlier : InputNumber) where
-  pub seeded-outside : before ≡ At earlier → inputCount ≤ earlier .0
-      → Nothing ≡ seeded (eligibleAmong candidates) before
-  unfolding seeded
-  seeded-outside b h = rw (b, le-ltb (earlier .0) inputCount h)
-
-  pub seeded-kept : (candidate : Candidate) (test : Bool) → before ≡ At earlier → earlier .0 < inputCount
-      → candidate ≡ getD candidates (earlier .0) nobody → test ≡ isEligible candidate → test ≡ true
-      → At earlier ≡ seeded (eligibleAmong candidates) before
-  unfolding seeded
-  seeded-kept candidate test b h k q t = rw (b, lt-ltb (earlier .0) inputCount h, ← k, ← q, t)
-
-  pub seeded-dropped : (candidate : Candidate) (test : Bool) → before ≡ At earlier → earlier .0 < inputCount
-      → candidate ≡ getD candidates (earlier .0) nobody → test ≡ isEligible candidate → test ≡ false
-      → Nothing ≡ seeded (eligibleAmong candidates) before
-  unfolding seeded
-  seeded-dropped candidate test b h k q t = rw (b, lt-ltb (earlier .0) inputCount h, ← k, ← q, t)
-
-pub ruleset seeded-laws = (seeded-nothing, seeded-outside, seeded-kept, seeded-dropped)
-
--- ---- offered
-
-module _ (candidates : List Candidate) (number : InputNumber) (leader : Selection)
-    (candidate : Candidate) (test : Bool) where
-  pub offered-first : candidate ≡ getD candidates (number .0) nobody → test ≡ isEligible candidate → test ≡ true
-      → leader ≡ Nothing → At number ≡ offered (eligibleAmong candidates) (betterAmong candidates) (number .0) leader
-  unfolding offered
-  offered-first k q t l = rw (l, ← k, ← q, t)
-
-  pub offered-takes : (leading : InputNumber) (best : Candidate) (wins : Bool)
-      → candidate ≡ getD candidates (number .0) nobody → test ≡ isEligible candidate → test ≡ true
-      → leader ≡ At leading → best ≡ getD candidates (leading .0) nobody → wins ≡ isBetter candidate best → wins ≡ true
-      → At number ≡ offered (eligibleAmong candidates) (betterAmong candidates) (number .0) leader
-  unfolding offered
-  offered-takes leading best wins k q t l b w v = rw (l, ← k, ← b, ← q, t, ← w, v)
-
-  pub offered-stays : (leading : InputNumber) (best : Candidate) (wins : Bool)
-      → candidate ≡ getD candidates (number .0) nobody → test ≡ isEligible candidate → test ≡ true
-      → leader ≡ At leading → best ≡ getD candidates (leading .0) nobody → wins ≡ isBetter candidate best → wins ≡ false
-      → At leading ≡ offered (eligibleAmong candidates) (betterAmong candidates) (number .0) leader
-  unfolding offered
-  offered-stays leading best wins k q t l b w v = rw (l, ← k, ← b, ← q, t, ← w, v)
-
-  pub offered-not : candidate ≡ getD candidates (number .0) nobody → test ≡ isEligible candidate → test ≡ false
-      → leader ≡ offered (eligibleAmong candidates) (betterAmong candidates) (number .0) leader
-  unfolding offered
-  offered-not k q t = passed leader
-    where
-      passed : (now : Selection) → now ≡ offered (eligibleAmong candidates) (betterAmong candidates) (number .0) now
-      passed Nothing = rw (← k, ← q, t)
-      passed (At leading) = rw (← k, ← q, t)
-
-pub ruleset offered-laws = (offered-first, offered-takes, offered-stays, offered-not)
-
--- ---- scanned: the loop of `choose`
-
-module _ (eligible : ℕ → Bool) (better : ℕ → ℕ → Bool) where
-  pub scanned-none : (leader : Selection) → leader ≡ scanned eligible better 0 leader
-  unfolding scanned
-  scanned-none leader = refl
-
-  pub scanned-more : (first leader next : Selection) (count : ℕ) → leader ≡ scanned eligible better count first
-      → next ≡ offered eligible better count leader → next ≡ scanned eligible better (count + 1) first
-  unfolding scanned
-  scanned-more first leader next count s o = rw (add-one count) (rw (← s) o)
-
-  pub scanned-all : (before first leader : Selection) (count : ℕ) → first ≡ seeded eligible before
-      → leader ≡ scanned eligible better count first → count ≤ inputCount → inputCount ≤ count
-      → leader ≡ choose eligible better before
-  unfolding choose
-  scanned-all before first leader count f s h k = let z : count ≡ inputCount = omega arith in rw (← f, ← z) s
-
-pub ruleset scanned-laws = (scanned-none, scanned-more, scanned-all)
+pub ruleset offer-laws = (offer-takes, offer-stays, offer-not)

@@ -10,11 +10,10 @@ use numbers::quality::PROV;
 use numbers::quality::Quality;
 use numbers::quality::is_failed;
 ghost use mathlib.Core.Path.{_≡_};
-ghost use lib.ListN.{getD};
 ghost use Rattle.numbers.specs.Truth.{alike};
 ghost use Rattle.choice.specs.Rank.{isPlaced, rankOf, floorRank};
-ghost use Rattle.choice.specs.Candidate.{nobody, isUsable, isAdmitted, rankedQuality, candidateOf, isEligible, isBetter, isLike, eligibleAmong, betterAmong, isLower, anyLower};
-ghost use Rattle.choice.specs.Choice.{seeded, offered, choose};
+ghost use Rattle.choice.specs.Candidate.{isUsable, isAdmitted, rankedQuality, candidateOf, isEligible, isBetter, isLike};
+ghost use Rattle.choice.specs.Leader.{lead, noLeader, seed, bestOf, isPassed, offer};
 
 // What a choice looks at of an input, the floor as it was set, 0 for none: with the profile and the
 // mode nothing else makes a candidate.
@@ -51,6 +50,14 @@ pub const NOBODY: Candidate = Candidate {
 pub enum Selection {
     Nothing,
     At(InputNumber),
+}
+
+// The one that leads while the inputs are offered, one by one, with its rank and its priority,
+// which later ones are compared with; 0 both where nothing leads.
+pub struct Leader {
+    pub selection: Selection,
+    pub rank: Rank,
+    pub priority: Priority,
 }
 
 // A number doubled, with room for it.
@@ -195,96 +202,93 @@ fn are_alike(one: bool, other: bool) -> bool
     !other
 }
 
-// The candidate with a number; none, which is not eligible, where there is no such input.
-pub fn candidate_at(candidates: [Candidate; 16], number: InputNumber) -> Candidate
-    ensures { λ answer. ⌜ answer ≡ getD candidates (number .0) nobody ⌝ }
+// A candidate leads.
+fn lead(number: InputNumber, candidate: Candidate) -> Leader
+    ensures { λ answer. ⌜ answer ≡ lead number candidate ⌝ }
 {
-    if number.0 < INPUT_COUNT {
-        let at = number.0 as usize;
-        return candidates[at];
+    let selection = Selection::At(number);
+    let rank = candidate.rank;
+    let priority = candidate.priority;
+    Leader {
+        selection,
+        rank,
+        priority,
     }
-    NOBODY
 }
 
-// Whether an eligible input ranks lower than `rank`.
-pub fn has_lower(candidates: [Candidate; 16], rank: Rank) -> bool
-    ensures { λ answer. ⌜ answer ≡ anyLower candidates rank ⌝ }
+// Nothing leads.
+fn no_leader() -> Leader
+    ensures { λ answer. ⌜ answer ≡ noLeader ⌝ }
 {
-    let mut found = false;
-    let mut at: usize = 0;
-    while at < 16 {
-        let candidate = candidates[at];
-        found = is_lower(found, candidate, rank);
-        at += 1;
+    let selection = Selection::Nothing;
+    Leader {
+        selection,
+        rank: Rank(0),
+        priority: Priority(0),
     }
-    found
 }
 
-// Whether one was found before, or this one is eligible and lower.
-fn is_lower(found: bool, candidate: Candidate, rank: Rank) -> bool
-    ensures { λ answer. ⌜ answer ≡ isLower found candidate rank ⌝ }
-{
-    if candidate.is_eligible() {
-        if candidate.rank.0 < rank.0 {
-            return true;
-        }
-        return found;
-    }
-    found
-}
-
-// The input selected at the choice just before leads at first, if it is eligible.
-fn seeded(candidates: [Candidate; 16], before: Selection) -> Selection
-    ensures { λ answer. ⌜ answer ≡ seeded (eligibleAmong candidates) before ⌝ }
+// The input selected at the choice just before leads at first, if it is eligible; `candidate` is
+// what the choice sees of it.
+pub fn seed(before: Selection, candidate: Candidate) -> Leader
+    ensures { λ answer. ⌜ answer ≡ seed before candidate ⌝ }
 {
     match before {
-        Selection::Nothing => Selection::Nothing,
+        Selection::Nothing => no_leader(),
         Selection::At(number) => {
             if number.0 < INPUT_COUNT {
-                let candidate = candidate_at(candidates, number);
                 if candidate.is_eligible() {
-                    return Selection::At(number);
+                    return lead(number, candidate);
                 }
-                return Selection::Nothing;
+                return no_leader();
             }
-            Selection::Nothing
+            no_leader()
         }
     }
 }
 
-// The one that leads once an input has been offered: a strictly better one takes over.
-fn offered(candidates: [Candidate; 16], number: InputNumber, leader: Selection) -> Selection
-    ensures { λ answer. ⌜
-        answer ≡ offered (eligibleAmong candidates) (betterAmong candidates) (number .0) leader ⌝ }
-{
-    let candidate = candidate_at(candidates, number);
-    if candidate.is_eligible() {
-        match leader {
-            Selection::Nothing => Selection::At(number),
-            Selection::At(leading) => {
-                let best = candidate_at(candidates, leading);
-                if candidate.is_better(best) {
-                    return Selection::At(number);
-                }
-                leader
+impl Leader {
+    // What later ones are compared with: a candidate of the leader's rank and priority.
+    fn best(self) -> Candidate
+        ensures { λ answer. ⌜ answer ≡ bestOf self ⌝ }
+    {
+        let rank = self.rank;
+        let priority = self.priority;
+        Candidate {
+            quality: NOT_TOLD,
+            rank,
+            priority,
+            admitted: true,
+            usable: true,
+        }
+    }
+
+    // Whether a candidate passes the one that leads: nothing does, or it is strictly better.
+    fn is_passed(self, candidate: Candidate) -> bool
+        ensures { λ answer. ⌜ answer ≡ isPassed (self .selection) candidate (bestOf self) ⌝ }
+    {
+        let selection = self.selection;
+        match selection {
+            Selection::Nothing => true,
+            Selection::At(_) => {
+                let best = self.best();
+                candidate.is_better(best)
             }
         }
-    } else {
-        leader
     }
-}
 
-// The choice: the best of the eligible inputs; of full equals the one selected just before,
-// otherwise the lowest number.
-pub fn choose(candidates: [Candidate; 16], before: Selection) -> Selection
-    ensures { λ answer. ⌜
-        answer ≡ choose (eligibleAmong candidates) (betterAmong candidates) before ⌝ }
-{
-    let mut leader = seeded(candidates, before);
-    let mut number: u8 = 0;
-    while number < INPUT_COUNT {
-        leader = offered(candidates, InputNumber(number), leader);
-        number += 1;
+    // The one that leads once an input has been offered: a strictly better one takes over. The
+    // choice is the one that leads after all sixteen: the best of the eligible inputs; of full
+    // equals the one selected just before, otherwise the lowest number.
+    pub fn offer(self, number: InputNumber, candidate: Candidate) -> Leader
+        ensures { λ answer. ⌜ answer ≡ offer self number candidate ⌝ }
+    {
+        if candidate.is_eligible() {
+            if self.is_passed(candidate) {
+                return lead(number, candidate);
+            }
+            return self;
+        }
+        self
     }
-    leader
 }

@@ -4,9 +4,9 @@ use mathlib.Core.Bool.{Bool, true, false, not}
 use mathlib.Core.List.{List, [], _∷_, map}
 use mathlib.Core.Path.{_≡_, refl, sym, _∙_, ap}
 use native.Mathlib.Omega.{arith}
-use lib.Dec.{eqb}
-use lib.ListN.{length, getD, set}
-use borrow.Author.Tests.{eq-eqb, ne-eqb, lt-ltb, le-ltb, le-leb, lt-leb}
+use lib.Dec.{eqb, ltb}
+use lib.ListN.{length, getD, set, List·getD-eq-default}
+use borrow.Author.Tests.{eq-eqb, ne-eqb, eqb-false, lt-ltb, le-ltb, le-leb, lt-leb, ltb-true, ltb-false, not-true, not-false}
 use Rattle.numbers.specs.declared.Event.{Event}
 use Rattle.numbers.specs.declared.kind.InputKind.{InputKind}
 use Rattle.numbers.specs.declared.InputNumber.{InputNumber}
@@ -18,7 +18,7 @@ use Rattle.numbers.specs.Recorded.{Recorded, saidEvent}
 use Rattle.numbers.specs.Codes.{qualityOfCode, qualityOfWord, saidIn}
 use Rattle.numbers.specs.Profile.{limitsOf}
 use Rattle.numbers.specs.Quality.{notTold}
-use Rattle.numbers.specs.Inputs.{timeLimit}
+use Rattle.numbers.specs.Inputs.{inputCount, timeLimit}
 use Rattle.numbers.specs.Kind.{rowOf, isInputOut, isArgumentOut, flag, inputKindOf, kindArgument, takesCodes, takesFrames, takesWords, kindSignal, kindFrame, kindLineCode, kindPriority, kindLockout, kindHoldoff, kindWait, kindFixedQuality, kindClearWait, kindForced, kindManual, kindClearSwitch, kindQualityMode, kindSending, kindInputKind, kindFloor, kindWord}
 use Rattle.numbers.specs.Refusal.{accepted, kindUnknown, timeTooLarge, timeBeforeState, inputOutOfRange, argumentOutOfRange, wrongInputKind, forcedBarred, manualForcedStands, manualNotEligible, manualLowerQuality}
 use Rattle.frame.specs.declared.FrameRead.{FrameRead}
@@ -27,19 +27,25 @@ use Rattle.frame.specs.Read.{numberOfRead}
 use Rattle.input.specs.declared.Input.{Input}
 use Rattle.input.specs.Record.{freshInput, inputAtMoment, afterEvent, heardAfter, settingsAfter}
 use Rattle.choice.specs.declared.Candidate.{Candidate}
+use Rattle.choice.specs.declared.Leader.{Leader}
+use Rattle.choice.specs.declared.Rank.{Rank}
+use Rattle.choice.specs.declared.Selection.{Selection}
 use Rattle.choice.specs.Candidate.{nobody, isEligible, anyLower}
+use Rattle.choice.specs.Leader.{chosenAmong}
+use Rattle.choice.proofs.Leading.{choice-lowest}
 use Rattle.switch.specs.declared.Switch.{Switch}
 use Rattle.switch.specs.declared.Switch.the-variants as W
 use Rattle.switch.specs.Choices.{commanded}
 use Rattle.selector.specs.declared.Selector.{Selector}
-use Rattle.selector.specs.State.{candidatesOf, decided}
+use Rattle.selector.specs.State.{candidateFor, seenAll, decided}
+use Rattle.selector.proofs.Scanning.{map-length}
 use Rattle.due.specs.declared.Served.{Served}
 use Rattle.due.specs.Served.{mostServed, served, ticked}
 use Rattle.due.proofs.ServesEachDue.{served-most}
 use Rattle.numbers.specs.Rows.{firstThatApplies}
-use Rattle.numbers.proofs.Truth.{byBool}
+use Rattle.numbers.proofs.Truth.{byBool, contra, or-first, or-second}
 use Rattle.numbers.proofs.Rows.{first-own}
-use Rattle.events.specs.Refusals.{isWrongKind, frameRefusal, earlyRefusal, isForcedSwitch, lateRefusal}
+use Rattle.events.specs.Refusals.{isWrongKind, frameRefusal, earlyRefusal, isForcedSwitch, isJudgedLate, ScannedOn, lateRefusal}
 use Rattle.events.specs.declared.Stepped.{Stepped}
 use Rattle.events.specs.Step.{kindAt, lowByte, isHeldInByte, heldArgument, inputAfter, inputsAfter, modeAfter, recordedArgument, readEvent, atItsMoment, stepped, earlyNumber, lateNumber, stepTicked, stepRead}
 
@@ -173,20 +179,38 @@ module _ (switch : Switch) where
 
 pub ruleset isForcedSwitch-laws = (isForcedSwitch-nothing, isForcedSwitch-forced, isForcedSwitch-manual)
 
+-- ---- isJudgedLate
+
+module _ (kind : ℕ) where
+  pub isJudgedLate-forced : kind ≡ kindForced → true ≡ isJudgedLate kind
+  unfolding isJudgedLate
+  isJudgedLate-forced e = rw e
+
+  pub isJudgedLate-manual : kind ≡ kindManual → true ≡ isJudgedLate kind
+  unfolding isJudgedLate
+  isJudgedLate-manual e = rw e
+
+  pub isJudgedLate-other : (kind ≡ kindForced → ⊥) → (kind ≡ kindManual → ⊥) → false ≡ isJudgedLate kind
+  unfolding isJudgedLate
+  isJudgedLate-other n m = rw (ne-eqb _ _ n, ne-eqb _ _ m)
+
+pub ruleset isJudgedLate-laws = (isJudgedLate-forced, isJudgedLate-manual, isJudgedLate-other)
+
 -- ---- lateRefusal
 
-module _ (candidates : List Candidate) (switch : Switch) (kind on : ℕ) where
-  pub lateRefusal-forced : (candidate : Candidate) → kind ≡ kindForced → candidate ≡ getD candidates on nobody
-      → candidate .admitted ≡ true → accepted ≡ lateRefusal candidates switch kind on
-  unfolding lateRefusal firstThatApplies
-  lateRefusal-forced candidate e c a =
-      let k : getD candidates on nobody .admitted ≡ true = sym (ap (λ (x : Candidate). x .admitted) c) ∙ a in rw (e, k)
+module _ (candidates : List Candidate) (switch : Switch) (kind on : ℕ) (own : Candidate) (best : Rank)
+    (scanned : ScannedOn candidates on own best) where
+  seen-admitted : (test : Bool) → own .admitted ≡ test → getD candidates on nobody .admitted ≡ test
+  seen-admitted test a = sym (ap (λ (x : Candidate). x .admitted) (scanned .seen)) ∙ a
 
-  pub lateRefusal-barred : (candidate : Candidate) → kind ≡ kindForced → candidate ≡ getD candidates on nobody
-      → candidate .admitted ≡ false → forcedBarred ≡ lateRefusal candidates switch kind on
+  pub lateRefusal-forced : kind ≡ kindForced → own .admitted ≡ true → accepted ≡ lateRefusal candidates switch kind on
   unfolding lateRefusal firstThatApplies
-  lateRefusal-barred candidate e c a =
-      let k : getD candidates on nobody .admitted ≡ false = sym (ap (λ (x : Candidate). x .admitted) c) ∙ a in rw (e, k)
+  lateRefusal-forced e a = rw (e, seen-admitted true a)
+
+  pub lateRefusal-barred : kind ≡ kindForced → own .admitted ≡ false
+      → forcedBarred ≡ lateRefusal candidates switch kind on
+  unfolding lateRefusal firstThatApplies
+  lateRefusal-barred e a = rw (e, seen-admitted false a)
 
   pub lateRefusal-stands : (stands : Bool) → (kind ≡ kindForced → ⊥) → kind ≡ kindManual
       → stands ≡ isForcedSwitch switch
@@ -194,36 +218,29 @@ module _ (candidates : List Candidate) (switch : Switch) (kind on : ℕ) where
   unfolding lateRefusal firstThatApplies
   lateRefusal-stands stands n e s t = rw (e, ← s, t)
 
-  pub lateRefusal-ineligible : (stands : Bool) (candidate : Candidate) (able : Bool) → (kind ≡ kindForced → ⊥)
-      → kind ≡ kindManual
-      → stands ≡ isForcedSwitch switch → stands ≡ false → candidate ≡ getD candidates on nobody
-      → able ≡ isEligible candidate
-      → able ≡ false → manualNotEligible ≡ lateRefusal candidates switch kind on
-  unfolding lateRefusal firstThatApplies
-  lateRefusal-ineligible stands candidate able n e s t c a f = rw (e, ← s, t, ← c, ← a, f)
+  module _ (stands able : Bool) (e : kind ≡ kindManual) (s : stands ≡ isForcedSwitch switch) (t : stands ≡ false)
+      (a : able ≡ isEligible own) where
+    pub lateRefusal-ineligible : (kind ≡ kindForced → ⊥) → able ≡ false
+        → manualNotEligible ≡ lateRefusal candidates switch kind on
+    unfolding lateRefusal firstThatApplies
+    lateRefusal-ineligible n f = rw (e, ← s, t, ← scanned .seen, ← a, f)
 
-  pub lateRefusal-lower : (stands : Bool) (candidate : Candidate) (able lower : Bool) → (kind ≡ kindForced → ⊥)
-      → kind ≡ kindManual
-      → stands ≡ isForcedSwitch switch → stands ≡ false → candidate ≡ getD candidates on nobody
-      → able ≡ isEligible candidate
-      → able ≡ true → lower ≡ anyLower candidates (candidate .rank) → lower ≡ true
-      → manualLowerQuality ≡ lateRefusal candidates switch kind on
-  unfolding lateRefusal firstThatApplies
-  lateRefusal-lower stands candidate able lower n e s t c a f l o = rw (e, ← s, t, ← c, ← a, f, ← l, o)
+    pub lateRefusal-lower : (kind ≡ kindForced → ⊥) → able ≡ true → best .0 < own .rank .0
+        → manualLowerQuality ≡ lateRefusal candidates switch kind on
+    unfolding lateRefusal firstThatApplies
+    lateRefusal-lower n f h =
+        rw (e, ← s, t, ← scanned .seen, ← a, f, ← scanned .lowest (sym a ∙ f), lt-ltb (best .0) (own .rank .0) h)
 
-  pub lateRefusal-manual : (stands : Bool) (candidate : Candidate) (able lower : Bool) → (kind ≡ kindForced → ⊥)
-      → kind ≡ kindManual
-      → stands ≡ isForcedSwitch switch → stands ≡ false → candidate ≡ getD candidates on nobody
-      → able ≡ isEligible candidate
-      → able ≡ true → lower ≡ anyLower candidates (candidate .rank) → lower ≡ false
-      → accepted ≡ lateRefusal candidates switch kind on
-  unfolding lateRefusal firstThatApplies
-  lateRefusal-manual stands candidate able lower n e s t c a f l o = rw (e, ← s, t, ← c, ← a, f, ← l, o)
+    pub lateRefusal-manual : (kind ≡ kindForced → ⊥) → able ≡ true → own .rank .0 ≤ best .0
+        → accepted ≡ lateRefusal candidates switch kind on
+    unfolding lateRefusal firstThatApplies
+    lateRefusal-manual n f h =
+        rw (e, ← s, t, ← scanned .seen, ← a, f, ← scanned .lowest (sym a ∙ f), le-ltb (best .0) (own .rank .0) h)
 
-  pub lateRefusal-other : (kind ≡ kindForced → ⊥) → (kind ≡ kindManual → ⊥)
-      → accepted ≡ lateRefusal candidates switch kind on
-  unfolding lateRefusal firstThatApplies
-  lateRefusal-other n m = rw (ne-eqb _ _ n, ne-eqb _ _ m)
+pub lateRefusal-other : (candidates : List Candidate) (switch : Switch) (kind on : ℕ)
+    → (kind ≡ kindForced → ⊥) → (kind ≡ kindManual → ⊥) → accepted ≡ lateRefusal candidates switch kind on
+unfolding lateRefusal firstThatApplies
+lateRefusal-other candidates switch kind on n m = rw (ne-eqb _ _ n, ne-eqb _ _ m)
 
 pub ruleset lateRefusal-laws = (
   lateRefusal-forced,
@@ -234,6 +251,73 @@ pub ruleset lateRefusal-laws = (
   lateRefusal-manual,
   lateRefusal-other,
 )
+
+nobody-not : isEligible nobody ≡ false
+unfolding isEligible
+nobody-not = refl
+
+-- what a scan finds: the choice has the lowest rank of the eligible ones
+pub scanned-on : (candidates : List Candidate) (before : Selection) (on : ℕ) (own : Candidate) (leader : Leader)
+    → own ≡ getD candidates on nobody → leader ≡ chosenAmong candidates before → length candidates ≡ 16
+    → ScannedOn candidates on own (leader .rank)
+scanned-on candidates before on own leader seen l sixteen =
+    record { seen = seen; lowest = λ eligible. lowest (sym (ap isEligible seen) ∙ eligible) }
+  where
+    other : Candidate
+    other = getD candidates on nobody
+
+    chosen : Leader
+    chosen = chosenAmong candidates before
+
+    inside : isEligible other ≡ true → on < inputCount
+    inside eligible =
+        byBool (ltb on inputCount)
+        (λ x. ltb-true on inputCount x)
+        (λ x. let past : length candidates ≤ on = omega (arith, sixteen, ltb-false on inputCount x) in
+        contra eligible (ap isEligible (List·getD-eq-default candidates nobody past) ∙ nobody-not))
+
+    among : isEligible other ≡ true → ltb (chosen .rank .0) (other .rank .0) ≡ anyLower candidates (other .rank)
+    among eligible =
+        let alike = choice-lowest candidates before on (inside eligible) eligible in
+        byBool (ltb (chosen .rank .0) (other .rank .0))
+        (λ x. x ∙ sym (not-false _ (sym alike ∙ lt-leb _ _ (ltb-true (chosen .rank .0) (other .rank .0) x))))
+        (λ x. x ∙ sym (not-true _ (sym alike ∙ le-leb _ _ (ltb-false (chosen .rank .0) (other .rank .0) x))))
+
+    lowest : isEligible other ≡ true → ltb (leader .rank .0) (own .rank .0) ≡ anyLower candidates (own .rank)
+    lowest eligible =
+        ap (λ (x : Leader). ltb (x .rank .0) (own .rank .0)) l
+        ∙ ap (λ (x : Candidate). ltb (chosen .rank .0) (x .rank .0)) seen
+        ∙ among eligible ∙ ap (λ (x : Candidate). anyLower candidates (x .rank)) (sym seen)
+
+-- ---- lateNumber
+
+module _ (state : Selector) (event : Event) where
+  pub late-judged : (switch : Switch) (own : Candidate) (leader : Leader) (late : ℕ) (before : Selection)
+      → switch ≡ state .switch
+      → own ≡ getD (seenAll state) (event .input) nobody
+      → leader ≡ chosenAmong (seenAll state) before
+      → length (state .inputs) ≡ 16
+      → ((candidates : List Candidate) (on : ℕ) → ScannedOn candidates on own (leader .rank)
+      → late ≡ lateRefusal candidates switch (event .kind) on)
+      → late ≡ lateNumber state event
+  late-judged switch own leader late before s o l k r =
+      r (seenAll state) (event .input)
+      (scanned-on (seenAll state) before (event .input) own leader o l
+      (map-length (candidateFor (state .profile) (state .mode)) (state .inputs) ∙ k))
+      ∙ ap (λ (x : Switch). lateRefusal (seenAll state) x (event .kind) (event .input)) s
+
+  pub late-never : (judged : Bool) → judged ≡ isJudgedLate (event .kind) → judged ≡ false
+      → accepted ≡ lateNumber state event
+  unfolding isJudgedLate
+  late-never judged j no-such =
+      let never : isJudgedLate (event .kind) ≡ false = sym j ∙ no-such in
+      lateRefusal-other (seenAll state) (state .switch) (event .kind) (event .input)
+      (eqb-false (event .kind) kindForced
+      (or-first (eqb (event .kind) kindForced) (eqb (event .kind) kindManual) never))
+      (eqb-false (event .kind) kindManual
+      (or-second (eqb (event .kind) kindForced) (eqb (event .kind) kindManual) never))
+
+pub ruleset lateNumber-laws = (late-judged, late-never)
 
 -- ---- modeAfter, commanded, recordedArgument
 
@@ -507,21 +591,17 @@ atItsMoment-calls state event mode switch inputs answer m s i a = a ∙ rw (i, s
 
 -- ---- stepTicked
 
-module _ (state : Selector) (count : ℕ) (event : Event) (read : FrameRead) (candidates : List Candidate)
-    (late : ℕ) where
-  pub stepTicked-late : candidates ≡ candidatesOf (state .profile) (state .inputs) (state .mode)
-      → late ≡ lateRefusal candidates (state .switch) (event .kind) (event .input) → (late ≡ accepted → ⊥)
+module _ (state : Selector) (count : ℕ) (event : Event) (read : FrameRead) (late : ℕ) where
+  pub stepTicked-late : late ≡ lateNumber state event → (late ≡ accepted → ⊥)
       → stepped late count state ≡ stepTicked state count event read
-  stepTicked-late c l n = rw (← c, ← l, ne-eqb _ _ n)
+  stepTicked-late l n = rw (← l, ne-eqb _ _ n)
 
-  pub stepTicked-accepted : (after : Selector) (recorded : Event)
-      → candidates ≡ candidatesOf (state .profile) (state .inputs) (state .mode)
-      → late ≡ lateRefusal candidates (state .switch) (event .kind) (event .input) → late ≡ accepted
+  pub stepTicked-accepted : (after : Selector) (recorded : Event) → late ≡ lateNumber state event → late ≡ accepted
       → recorded ≡ readEvent event read
       → after ≡ atItsMoment state (saidEvent (state .profile) recorded)
       → stepped accepted count after ≡ stepTicked state count event read
-  stepTicked-accepted after recorded c l n r a =
-      rw (← c, ← l, n, a) (ap (λ (event : Event). stepped accepted count
+  stepTicked-accepted after recorded l n r a =
+      rw (← l, n, a) (ap (λ (event : Event). stepped accepted count
       (atItsMoment state (saidEvent (state .profile) event))) r)
 
 pub ruleset stepTicked-laws = (stepTicked-late, stepTicked-accepted)

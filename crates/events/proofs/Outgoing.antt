@@ -9,11 +9,12 @@ use lib.Dec.{eqb}
 use lib.ListN.{getD}
 use borrow.Author.Tests.{eqb-true, eqb-false}
 use Rattle.numbers.specs.declared.quality.Quality.{Quality}
+use Rattle.numbers.specs.declared.profile.Place.{Place}
 use Rattle.numbers.specs.declared.profile.Profile.{Profile}
 use Rattle.numbers.specs.declared.profile.Profile.the-variants as P
 use Rattle.numbers.specs.From.{profileOf}
 use Rattle.numbers.specs.Inputs.{inputCount}
-use Rattle.numbers.specs.Profile.{limitsOf, placeOf, lastPlace, marksOf, halved, isMarked, toldBy}
+use Rattle.numbers.specs.Profile.{limitsOf, numberOfPlace, placeOf, lastPlace, marksOf, halved, isMarked, toldBy}
 use Rattle.numbers.specs.Quality.{quality, stu, tnc, st3e, st3, st4, prov}
 use Rattle.numbers.specs.Codes.{saidBy, signOf, qualityOfCode, codeOfQuality, qualityOfWord, wordOfQuality, wordStu, wordDus}
 use Rattle.numbers.proofs.Truth.{byBool, both-first}
@@ -65,7 +66,7 @@ code-back-one number h k =
     (λ h. absurd (omega arith))
     k
 
-code-back-two : (place marks number : ℕ) → 1 ≤ number → number ≤ 9 → (number ≡ 8 → ⊥)
+code-back-two : (place : Place) (marks number : ℕ) → 1 ≤ number → number ≤ 9 → (number ≡ 8 → ⊥)
     → qualityOfCode (P.OptionTwo place marks) (codeOfQuality (P.OptionTwo place marks) (quality number)) ≡ quality number
 unfolding qualityOfCode codeOfQuality saidBy signOf
 code-back-two place marks number h k other =
@@ -103,8 +104,9 @@ within-telling P.OptionOne floor passed most within =
     (λ e. let h = within .numbered (rw e) in (h .0, omega (arith, h .1, most)))
     (λ e. let h = within .numbered (rw e) in (h .0, omega (arith, h .1, most)))
 within-telling (P.OptionTwo place marks) floor passed most within =
-    byBool (isPlaced place passed)
-    (λ p. let e : passed .0 ≡ 9 = eqb-true _ _ (both-first (eqb (passed .0) (prov .0)) (not (eqb place 0)) p) in
+    byBool (isPlaced (numberOfPlace place) passed)
+    (λ p.
+    let e : passed .0 ≡ 9 = eqb-true _ _ (both-first (eqb (passed .0) (prov .0)) (not (eqb (numberOfPlace place) 0)) p) in
     (omega arith, omega arith))
     (λ p. let h = within .numbered p in (h .0, omega (arith, h .1, most)))
 

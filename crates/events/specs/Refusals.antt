@@ -1,8 +1,9 @@
 -- Document 01, "Numbers of refusal": the rows that an event can meet, in the table's order. Cited by `src/lib.rt`.
 -- Assumes nothing.
 use Prim.Native.Nat.{ℕ}
-use mathlib.Core.Bool.{Bool, true, false, not, _&&_, cond}
+use mathlib.Core.Bool.{Bool, true, false, not, _&&_, _||_, cond}
 use mathlib.Core.List.{List, [], _∷_, _++_}
+use mathlib.Core.Path.{_≡_}
 use lib.Dec.{eqb, leb, ltb}
 use lib.ListN.{getD}
 use Rattle.numbers.specs.declared.Event.{Event}
@@ -15,7 +16,8 @@ use Rattle.numbers.specs.Rows.{Refusal, refusal, firstThatApplies}
 use Rattle.frame.specs.declared.FrameRead.{FrameRead}
 use Rattle.frame.specs.Read.{frameRows, numberOfRead}
 use Rattle.choice.specs.declared.Candidate.{Candidate}
-use Rattle.choice.specs.Candidate.{nobody, eligibleAmong, anyLower}
+use Rattle.choice.specs.declared.Rank.{Rank}
+use Rattle.choice.specs.Candidate.{nobody, isEligible, eligibleAmong, anyLower}
 use Rattle.switch.specs.declared.Switch.{Switch}
 use Rattle.switch.specs.declared.Switch.the-variants as W
 use Rattle.switch.specs.OneChoice.{forcedMayStand}
@@ -62,6 +64,15 @@ unfoldable pub isForcedSwitch : Switch → Bool
 isForcedSwitch W.Nothing = false
 isForcedSwitch (W.Forced on) = true
 isForcedSwitch (W.Manual on) = false
+
+-- "14 to 17 are judged after the tick": a forced or a manual switch
+unfoldable pub isJudgedLate : ℕ → Bool
+isJudgedLate kind = eqb kind kindForced || eqb kind kindManual
+
+-- what one scan of candidates finds: what a choice sees of an input, and the rank below which no eligible one has any
+pub record ScannedOn (candidates : List Candidate) (on : ℕ) (own : Candidate) (best : Rank) : Type 0 where
+  pub seen : own ≡ getD candidates on nobody
+  pub lowest : isEligible own ≡ true → ltb (best .0) (own .rank .0) ≡ anyLower candidates (own .rank)
 
 -- rows 14 to 17, for the inputs and the switch after the tick
 abbrev pub lateRows : List Candidate → Switch → ℕ → ℕ → List Refusal

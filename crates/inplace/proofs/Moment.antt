@@ -1,22 +1,28 @@
 -- One moment in place, call by call. Assumes nothing.
+use Prim.{tt}
 use Prim.Native.Nat.{ℕ}
 use mathlib.Core.Bool.{Bool, true, false}
 use mathlib.Core.List.{List, map}
 use mathlib.Core.Path.{_≡_, refl, sym, ap, _∙_}
-use lib.ListN.{set, replicate}
+use lib.ListN.{length, getD, set, replicate}
 use Rattle.input.specs.declared.Input.{Input}
 use Rattle.numbers.specs.declared.profile.Profile.{Profile}
 use Rattle.input.specs.Record.{freshInput, inputBroughtTo}
 use Rattle.choice.specs.declared.Candidate.{Candidate}
+use Rattle.choice.specs.declared.Leader.{Leader}
 use Rattle.choice.specs.declared.Selection.{Selection}
 use Rattle.choice.specs.declared.Selection.the-variants as S
+use Rattle.choice.specs.Candidate.{nobody}
+use Rattle.choice.specs.Leader.{chosenAmong}
 use Rattle.switch.specs.declared.AfterChoice.{AfterChoice}
 use Rattle.switch.specs.declared.Switch.{Switch}
 use Rattle.switch.specs.declared.Switch.the-variants as W
 use Rattle.switch.specs.OneChoice.{decide}
+use Rattle.switch.specs.OneScan.{decideBy, SeenOn}
 use Rattle.selector.specs.declared.Selector.{Selector}
 use Rattle.selector.specs.Clock.{selectedNumber, switchNumber, switchInput}
-use Rattle.selector.specs.State.{candidatesOf, freshSelector, withChoice, decided, tickedOnce}
+use Rattle.selector.proofs.Scanning.{decided-one}
+use Rattle.selector.specs.State.{seenAll, freshSelector, withChoice, decided, tickedOnce}
 use Rattle.inplace.specs.Lists.{switchOf, selectionOf, isSelected, selectorAt, withInputs, withTime, withProfile, withCommand, heldSwitch, heldChoice}
 use Rattle.inplace.proofs.Named.{On, switchOf-on, choice-again}
 
@@ -25,23 +31,41 @@ pub switch-on : (times small words : List ℕ) → On (selectorAt times small wo
 unfolding selectorAt
 switch-on times small words = switchOf-on _ _
 
+-- what a choice sees of a switch's input
+switch-seen : (candidates : List Candidate) (switch : Switch) (own : Candidate)
+    → own ≡ getD candidates (switchInput switch) nobody → SeenOn candidates switch own
+unfolding switchInput
+switch-seen candidates W.Nothing own o = tt
+switch-seen candidates (W.Forced on) own o = λ inside. o
+switch-seen candidates (W.Manual on) own o = λ inside. o
+
 -- a choice made of what a state on an input has, and held
-pub chosen : (state after : Selector) (choice : AfterChoice) (candidates : List Candidate) (switch : Switch)
-    (selection : Selection) (waslocked : Bool)
+pub chosen : (state after : Selector) (choice : AfterChoice) (switch : Switch) (selection : Selection) (waslocked : Bool)
+    (number : ℕ) (own : Candidate) (leader : Leader)
     → On (state .switch)
+    → length (state .inputs) ≡ 16
     → after ≡ withChoice state (heldChoice choice)
-    → choice ≡ decide candidates switch selection waslocked
-    → candidates ≡ candidatesOf (state .profile) (state .inputs) (state .mode)
+    → choice ≡ decideBy switch own leader waslocked
+    → leader ≡ chosenAmong (seenAll state) selection
+    → own ≡ getD (seenAll state) number nobody
+    → number ≡ switchInput switch
     → switch ≡ state .switch → selection ≡ state .selection → waslocked ≡ state .waslocked
     → after ≡ decided state
 unfolding decided
-chosen state after choice candidates switch selection waslocked on stored c d s l h =
+chosen state after choice switch selection waslocked number own leader on sixteen stored c l o n s e h =
     stored ∙
     ap (withChoice state)
     (ap heldChoice
-    (c ∙ (λ j. decide (d j) (s j) (l j) (h j))) ∙
-    choice-again (candidatesOf (state .profile) (state .inputs) (state .mode)) (state .switch) (state .selection)
-    (state .waslocked) on)
+    (made ∙ (λ j. decide (seenAll state) (s j) (e j) (h j))) ∙
+    choice-again (seenAll state) (state .switch) (state .selection) (state .waslocked) on)
+  where
+    made : choice ≡ decide (seenAll state) switch selection waslocked
+    made =
+        decided-one (state .profile) (state .mode) (state .inputs) switch selection waslocked own leader choice
+        (switch-seen (seenAll state) switch own (o ∙ ap (λ x. getD (seenAll state) x nobody) n))
+        l
+        c
+        sixteen
 
 -- inputs brought to a time, the time stored, a choice made
 pub moment : (state brought timed after : Selector) (time : ℕ) (mode : Bool)

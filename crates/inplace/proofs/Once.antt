@@ -10,10 +10,12 @@ use lib.ListN.{getD, set, length, length-set}
 use lib.Seq.{getD-set-same, getD-set-other}
 use borrow.Author.Tests.{eqb-true, eqb-false, ltb-true, eq-eqb, ne-eqb}
 use Rattle.numbers.proofs.Truth.{byBool, both-first, both-second}
+use Rattle.numbers.proofs.Places.{place-read}
 use Rattle.numbers.specs.declared.InputNumber.{InputNumber}
+use Rattle.numbers.specs.declared.profile.Place.{Place}
 use Rattle.numbers.specs.declared.profile.Profile.{Profile}
 use Rattle.numbers.specs.declared.profile.Profile.the-variants as P
-use Rattle.numbers.specs.Profile.{profileIn, optionOf, placeOf, marksOf}
+use Rattle.numbers.specs.Profile.{profileWith, profileIn, optionOf, placeOf, marksOf}
 use Rattle.choice.specs.declared.Selection.{Selection}
 use Rattle.choice.specs.declared.Selection.the-variants as S
 use Rattle.switch.specs.declared.AfterChoice.{AfterChoice}
@@ -151,9 +153,9 @@ command-stored small mode switch kind on wide k o times words =
 
 -- a profile of its numbers
 pub profileIn-back : (profile : Profile) → profileIn (optionOf profile) (placeOf profile) (marksOf profile) ≡ profile
-unfolding profileIn optionOf placeOf marksOf
+unfolding profileIn profileWith optionOf placeOf marksOf
 profileIn-back P.OptionOne = refl
-profileIn-back (P.OptionTwo place marks) = refl
+profileIn-back (P.OptionTwo place marks) = ap (λ (read : Place). P.OptionTwo read marks) (place-read place)
 
 pub profile-stored : (small words : List ℕ) (profile : Profile) (option place marks : ℕ) → length small ≡ 232
     → length words ≡ 33

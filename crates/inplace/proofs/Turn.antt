@@ -8,6 +8,7 @@ use native.Mathlib.Nat.{add-zero}
 use lib.Dec.{eqb}
 use lib.ListN.{getD, set, length, replicate}
 use Rattle.numbers.specs.declared.Answer.{Answer}
+use Rattle.numbers.specs.declared.InputNumber.{InputNumber}
 use Rattle.numbers.specs.declared.profile.Profile.{Profile}
 use Rattle.numbers.specs.declared.quality.Quality.{Quality}
 use Rattle.numbers.specs.Profile.{halved, marksOf, toldBy}
@@ -17,8 +18,16 @@ use Rattle.run.specs.declared.Run.{Run}
 use Rattle.input.specs.declared.Input.{Input}
 use Rattle.input.specs.Record.{freshInput, withRun, inputBroughtTo, inputAtMoment}
 use Rattle.choice.specs.declared.Candidate.{Candidate}
+use Rattle.choice.specs.declared.Leader.{Leader}
+use Rattle.choice.specs.declared.Selection.{Selection}
+use Rattle.choice.specs.declared.Selection.the-variants as S
+use Rattle.choice.specs.Candidate.{nobody, eligibleAmong}
+use Rattle.choice.specs.Choice.{seeded}
+use Rattle.choice.specs.Leader.{seed, offer, chosenAmong, SeenAt}
+use Rattle.choice.proofs.Leading.{leader-seeded, scan-none}
 use Rattle.selector.specs.declared.Selector.{Selector}
-use Rattle.selector.specs.State.{candidateFor, candidatesOf}
+use Rattle.selector.specs.State.{candidateFor, candidatesOf, seenAll}
+use Rattle.selector.proofs.Scanning.{leadsAfter, seen-one, candidateIn-outside, leader-more, leader-done}
 use Rattle.selector.specs.Answer.{answerOf, qualityOf, selectedNumber, signFor, ports}
 use Rattle.selector.proofs.Filled.{filled, filled-turn, filled-turn-in-place, filled-done}
 use Rattle.selector.proofs.SelectorLaws.{getD-past, signFor-turn}
@@ -155,6 +164,29 @@ module _ (times small words : List ℕ) (at : ℕ) (input : Input) (seen : input
       l
       h
 
+  -- and is offered to a choice
+  pub leader-turn : (profile : Profile) (mode : Bool) (before : Selection) (leader next : Leader) (candidate : Candidate)
+      → leader ≡ leadsAfter (candidatesOf profile (selectorAt times small words .inputs) mode) at before
+      → candidate ≡ candidateFor profile mode input → next ≡ offer leader (record { 0 = at }) candidate
+      → next ≡ leadsAfter (candidatesOf profile (selectorAt times small words .inputs) mode) (at + 1) before
+  leader-turn profile mode before leader next candidate l c o =
+      leader-more profile mode (selectorAt times small words .inputs) freshInput before leader next at candidate l
+      (c ∙ ap (candidateFor profile mode) (seen-at freshInput))
+      o
+      h
+      (inputs-length times small words)
+
+  -- and is seen by a choice
+  pub candidate-inside : (profile : Profile) (mode : Bool) (candidate : Candidate)
+      → profile ≡ selectorAt times small words .profile → mode ≡ selectorAt times small words .mode
+      → candidate ≡ candidateFor profile mode input → candidate ≡ getD (seenAll (selectorAt times small words)) at nobody
+  candidate-inside profile mode candidate p m c =
+      seen-one (selectorAt times small words .profile) (selectorAt times small words .mode)
+      (selectorAt times small words .inputs) freshInput at candidate
+      (c ∙ (λ j. candidateFor (p j) (m j) (seen-at freshInput j)))
+      h
+      (inputs-length times small words)
+
   -- and tells a port its code or its word
   pub sign-turn : (rule : Bool → Bool → Bool → ℕ → ℕ) (mode : Bool) (selected marks sign first rest : ℕ)
       (into now : List ℕ) (chosen told : ℕ)
@@ -191,16 +223,39 @@ pub seen-done : (times small words : List ℕ) {B : Type 0} (g : Input → B) (a
 seen-done times small words g at into now e l h k =
     filled-done g 16 at (selectorAt times small words .inputs) into now e (inputs-length times small words) l h k
 
-pub candidates-done : (times small words : List ℕ) (profile : Profile) (mode : Bool) (at : ℕ)
-    (into now : List Candidate)
-    → now ≡ filled (candidateFor profile mode) at (selectorAt times small words .inputs) into → length into ≡ 16
+-- no such input is seen by a choice
+pub candidate-outside : (times small words : List ℕ) (number : ℕ) → 16 ≤ number
+    → nobody ≡ getD (seenAll (selectorAt times small words)) number nobody
+candidate-outside times small words number h =
+    candidateIn-outside (selectorAt times small words .profile) (selectorAt times small words .mode)
+    (selectorAt times small words .inputs) number h (inputs-length times small words)
+
+-- the choice before its loop, and after it
+pub leader-begin : (times small words : List ℕ) (profile : Profile) (mode : Bool) (before : Selection) (number : ℕ)
+    (seen : Candidate) (leader : Leader)
+    → profile ≡ selectorAt times small words .profile → mode ≡ selectorAt times small words .mode
+    → number ≡ selectedNumber before → seen ≡ getD (seenAll (selectorAt times small words)) number nobody
+    → leader ≡ seed before seen
+    → leader ≡ leadsAfter (candidatesOf profile (selectorAt times small words .inputs) mode) 0 before
+unfolding selectedNumber
+leader-begin times small words profile mode before number seen leader p m n s l =
+    scan-none all leader (seeded (eligibleAmong all) before) (l ∙ leader-seeded all before seen sees)
+    ∙ (λ j. leadsAfter (candidatesOf (sym p j) (selectorAt times small words .inputs) (sym m j)) 0 before)
+  where
+    all : List Candidate
+    all = seenAll (selectorAt times small words)
+
+    sees : (earlier : InputNumber) → before ≡ S.At earlier → SeenAt all earlier seen
+    sees earlier is inside = s ∙ ap (λ x. getD all x nobody) (n ∙ ap selectedNumber is)
+
+pub leader-end : (times small words : List ℕ) (profile : Profile) (mode : Bool) (before : Selection) (leader : Leader)
+    (at : ℕ)
+    → leader ≡ leadsAfter (candidatesOf profile (selectorAt times small words .inputs) mode) at before
     → profile ≡ selectorAt times small words .profile → mode ≡ selectorAt times small words .mode → at ≤ 16 → 16 ≤ at
-    → now
-    ≡ candidatesOf (selectorAt times small words .profile) (selectorAt times small words .inputs)
-    (selectorAt times small words .mode)
-candidates-done times small words profile mode at into now e l p m h k =
-    seen-done times small words (candidateFor profile mode) at into now e l h k ∙
-    (λ j. candidatesOf (p j) (selectorAt times small words .inputs) (m j))
+    → leader ≡ chosenAmong (seenAll (selectorAt times small words)) before
+leader-end times small words profile mode before leader at l p m h k =
+    leader-done (candidatesOf profile (selectorAt times small words .inputs) mode) before leader at l h k
+    ∙ (λ j. chosenAmong (candidatesOf (p j) (selectorAt times small words .inputs) (m j)) before)
 
 pub due-done : (times small words : List ℕ) (mode : Bool) (time at due : ℕ)
     → due ≡ nextAmong (selectorAt times small words .inputs) mode time at

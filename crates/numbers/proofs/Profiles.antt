@@ -2,15 +2,17 @@
 -- nothing.
 use Prim.Native.Nat.{ℕ, _≤_, _<_}
 use mathlib.Core.Bool.{Bool, true, false}
-use mathlib.Core.Path.{_≡_}
+use mathlib.Core.Path.{_≡_, _∙_}
 use borrow.Author.Tests.{eq-eqb, ne-eqb, lt-ltb, le-ltb}
 use Rattle.numbers.specs.declared.quality.Quality.{Quality}
 use Rattle.numbers.specs.declared.profile.Limits.{Limits}
+use Rattle.numbers.specs.declared.profile.Place.{Place}
+use Rattle.numbers.specs.declared.profile.Place.the-variants as L
 use Rattle.numbers.specs.declared.profile.Profile.{Profile}
 use Rattle.numbers.specs.declared.profile.Profile.the-variants as P
 use Rattle.numbers.specs.Refusal.{accepted, argumentOutOfRange}
 use Rattle.numbers.specs.Quality.{tnc, st3e, st3, invalid, failed}
-use Rattle.numbers.specs.Profile.{optionOne, optionTwo, profileIn, optionOf, limitsOf, placeOf, lastPlace, startNumber, marksOf, floorIn, toldBy, numberInOne, paperNumber}
+use Rattle.numbers.specs.Profile.{optionOne, optionTwo, placeIn, numberOfPlace, profileWith, profileIn, optionOf, limitsOf, placeOf, lastPlace, startNumber, marksOf, floorIn, toldBy, numberInOne, paperNumber}
 use Rattle.numbers.specs.declared.kind.InputKind.{InputKind}
 use Rattle.numbers.specs.declared.kind.InputKind.the-variants as N
 use Rattle.numbers.specs.Kind.{inputKindOf, kindArgument}
@@ -18,23 +20,31 @@ use Rattle.numbers.specs.Codes.{codesOne, codesTwo, codeDnu, saidBy, sig
 
 -- ---- a profile by its option's number, and back
 
-module _ (option place marks : ℕ) where
-  pub profileIn-two : option ≡ optionTwo → P.OptionTwo place marks ≡ profileIn option place marks
-  unfolding profileIn
-  profileIn-two two = rw (eq-eqb option optionTwo two)
+module _ (option : ℕ) (place : Place) (marks : ℕ) where
+  pub profileWith-two : option ≡ optionTwo → P.OptionTwo place marks ≡ profileWith option place marks
+  unfolding profileWith
+  profileWith-two two = rw (eq-eqb option optionTwo two)
 
-  pub profileIn-one : (option ≡ optionTwo → ⊥) → P.OptionOne ≡ profileIn option place marks
-  unfolding profileIn
-  profileIn-one other = rw (ne-eqb option optionTwo other)
+  pub profileWith-one : (option ≡ optionTwo → ⊥) → P.OptionOne ≡ profileWith option place marks
+  unfolding profileWith
+  profileWith-one other = rw (ne-eqb option optionTwo other)
 
-pub ruleset profileIn-laws = (profileIn-two, profileIn-one)
+pub ruleset profileWith-laws = (profileWith-two, profileWith-one)
+
+pub profileIn-with : (option number marks : ℕ) (place : Place) (profile : Profile) → place ≡ placeIn number
+    → profile ≡ profileWith option place marks
+    → profile ≡ profileIn option number marks
+unfolding profileIn
+profileIn-with option number marks place profile said is = is ∙ (rw said)
+
+pub ruleset profileIn-laws = (profileIn-with)
 
 module _ (profile : Profile) where
   pub optionOf-one : profile ≡ P.OptionOne → optionOne ≡ optionOf profile
   unfolding optionOf
   optionOf-one p = rw p
 
-  pub optionOf-two : (place marks : ℕ) → profile ≡ P.OptionTwo place marks → optionTwo ≡ optionOf profile
+  pub optionOf-two : (place : Place) (marks : ℕ) → profile ≡ P.OptionTwo place marks → optionTwo ≡ optionOf profile
   unfolding optionOf
   optionOf-two place marks p = rw p
 
@@ -47,7 +57,7 @@ module _ (profile : Profile) (code : ℕ) (said : Quality) where
   unfolding qualityOfCode
   qualityOfCode-one p s = rw (p, s)
 
-  pub qualityOfCode-two : (place marks : ℕ) → profile ≡ P.OptionTwo place marks → said ≡ saidBy codesTwo code
+  pub qualityOfCode-two : (place : Place) (marks : ℕ) → profile ≡ P.OptionTwo place marks → said ≡ saidBy codesTwo code
       → said ≡ qualityOfCode profile code
   unfolding qualityOfCode
   qualityOfCode-two place marks p s = rw (p, s)
@@ -60,7 +70,7 @@ module _ (profile : Profile) (told : Quality) (code : ℕ) where
   unfolding codeOfQuality
   codeOfQuality-one p s = rw (p, s)
 
-  pub codeOfQuality-two : (place marks : ℕ) → profile ≡ P.OptionTwo place marks → code ≡ signOf codesTwo codeDnu told
+  pub codeOfQuality-two : (place : Place) (marks : ℕ) → profile ≡ P.OptionTwo place marks → code ≡ signOf codesTwo codeDnu told
       → code ≡ codeOfQuality profile told
   unfolding codeOfQuality
   codeOfQuality-two place marks p s = rw (p, s)
@@ -72,10 +82,11 @@ module _ (profile : Profile) where
   unfolding placeOf
   placeOf-one p = rw p
 
-  module _ (place marks : ℕ) where
-    pub placeOf-two : profile ≡ P.OptionTwo place marks → place ≡ placeOf profile
+  module _ (place : Place) (marks : ℕ) where
+    pub placeOf-two : (number : ℕ) → profile ≡ P.OptionTwo place marks → number ≡ numberOfPlace place
+        → number ≡ placeOf profile
     unfolding placeOf
-    placeOf-two p = rw p
+    placeOf-two number p n = rw (p, n)
 
     pub marksOf-two : profile ≡ P.OptionTwo place marks → marks ≡ marksOf profile
     unfolding marksOf
@@ -151,7 +162,7 @@ module _ (profile : Profile) (told : Quality) where
   unfolding paperNumber
   paperNumber-one number p n = rw (p, n)
 
-  pub paperNumber-two : (place marks : ℕ) → profile ≡ P.OptionTwo place marks → told .0 ≡ paperNumber profile told
+  pub paperNumber-two : (place : Place) (marks : ℕ) → profile ≡ P.OptionTwo place marks → told .0 ≡ paperNumber profile told
   unfolding paperNumber
   paperNumber-two place marks p = rw p
 
@@ -159,16 +170,20 @@ pub ruleset paperNumber-laws = (paperNumber-one, paperNumber-two)
 
 -- ---- startNumber
 
-module _ (profile : Profile) (place : ℕ) where
-  pub startNumber-refused : place ≡ placeOf profile → lastPlace < place → argumentOutOfRange ≡ startNumber profile
+module _ (option place : ℕ) where
+  pub startNumber-one : (option ≡ optionTwo → ⊥) → accepted ≡ startNumber option place
   unfolding startNumber
-  startNumber-refused p h = rw (← p, lt-ltb lastPlace place h)
+  startNumber-one other = rw (ne-eqb option optionTwo other)
 
-  pub startNumber-starts : place ≡ placeOf profile → place ≤ lastPlace → accepted ≡ startNumber profile
+  pub startNumber-refused : option ≡ optionTwo → lastPlace < place → argumentOutOfRange ≡ startNumber option place
   unfolding startNumber
-  startNumber-starts p h = rw (← p, le-ltb lastPlace place h)
+  startNumber-refused two above = rw (eq-eqb option optionTwo two, lt-ltb lastPlace place above)
 
-pub ruleset startNumber-laws = (startNumber-refused, startNumber-starts)
+  pub startNumber-starts : option ≡ optionTwo → place ≤ lastPlace → accepted ≡ startNumber option place
+  unfolding startNumber
+  startNumber-starts two within = rw (eq-eqb option optionTwo two, le-ltb lastPlace place within)
+
+pub ruleset startNumber-laws = (startNumber-one, startNumber-refused, startNumber-starts)
 
 -- ---- inputKindOf
 

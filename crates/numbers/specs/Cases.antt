@@ -4,6 +4,7 @@ use mathlib.Core.Bool.{true}
 use mathlib.Core.List.{List, [], _∷_, map}
 use mathlib.Core.Path.{_≡_}
 use Rattle.numbers.specs.declared.quality.Quality.{Quality}
+use Rattle.numbers.specs.declared.profile.Place.{Place}
 use Rattle.numbers.specs.declared.profile.Profile.the-variants as P
 use Rattle.numbers.specs.Quality.{prc, ssuA, ssuB, sec, dnu, prs, stu, st2, tnc, st3e, st3, sic, st4, prov, dus, invalid}
 use Rattle.numbers.specs.Profile.{toldBy, paperNumber}
@@ -32,7 +33,7 @@ pub record CodeTable : Type 0 where
   pub back : map (λ (told : Quality). qualityOfCode P.OptionOne (codeOfQuality P.OptionOne told)) toldOne ≡ toldOne
 
 -- option II's, for any place and marks: 0000 as STU; all that have a code read back, and ST4 reads as DUS
-pub record CodeTableTwo (place marks : ℕ) : Type 0 where
+pub record CodeTableTwo (place : Place) (marks : ℕ) : Type 0 where
   pub read : map (λ (code : ℕ). qualityOfCode (P.OptionTwo place marks) code) codes ≡
       stu ∷ prs ∷ invalid ∷ invalid ∷ tnc ∷ invalid ∷ invalid ∷ st2 ∷
       invalid ∷ invalid ∷ st3 ∷ invalid ∷ sic ∷ st3e ∷ prov ∷ dus ∷ []

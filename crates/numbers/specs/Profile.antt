@@ -1,10 +1,13 @@
 -- Document 02, L10: "A profile chosen once, at the fresh start". What the two options differ in, a row each.
 -- Cited by `src/lib.rt`. Assumes nothing.
-use Prim.Native.Nat.{ℕ, zero, suc, _/_, _%_}
+use Prim.Native.Nat.{ℕ, zero, suc, _/_, _%_, _≤_, _<_}
 use mathlib.Core.Bool.{Bool, true, false, _&&_, _||_, cond}
+use mathlib.Core.Path.{_≡_}
 use lib.Dec.{eqb, ltb}
 use Rattle.numbers.specs.declared.quality.Quality.{Quality}
 use Rattle.numbers.specs.declared.profile.Limits.{Limits}
+use Rattle.numbers.specs.declared.profile.Place.{Place}
+use Rattle.numbers.specs.declared.profile.Place.the-variants.{Unplaced, Below1, Below2, Below3, Below4, Below5, Below6, Below7, Below8}
 use Rattle.numbers.specs.declared.profile.Profile.{Profile}
 use Rattle.numbers.specs.declared.profile.Profile.the-variants as P
 use Rattle.numbers.specs.Refusal.{accepted, argumentOutOfRange}
@@ -18,10 +21,43 @@ optionOne = 1
 abbrev pub optionTwo : ℕ
 optionTwo = 2
 
+-- "the place of PROV (0 none": and L11's "PROV unplaced"
+abbrev pub unplaced : Place
+unplaced = Unplaced
+
+-- "just below one of 1 to 8": the place of each of these numbers; any other says none
+unfoldable pub placeIn : ℕ → Place
+placeIn number =
+    cond (eqb number 1) Below1
+    (cond (eqb number 2) Below2
+    (cond (eqb number 3) Below3
+    (cond (eqb number 4) Below4
+    (cond (eqb number 5) Below5
+    (cond (eqb number 6) Below6
+    (cond (eqb number 7) Below7
+    (cond (eqb number 8) Below8
+    Unplaced)))))))
+
+-- the number of a place
+unfoldable pub numberOfPlace : Place → ℕ
+numberOfPlace Unplaced = 0
+numberOfPlace Below1 = 1
+numberOfPlace Below2 = 2
+numberOfPlace Below3 = 3
+numberOfPlace Below4 = 4
+numberOfPlace Below5 = 5
+numberOfPlace Below6 = 6
+numberOfPlace Below7 = 7
+numberOfPlace Below8 = 8
+
 -- the profile of an option's number: "Those marks and the place of PROV .. are given with the profile"; any number
 -- but 2 is option I
+unfoldable pub profileWith : ℕ → Place → ℕ → Profile
+profileWith option place marks = cond (eqb option optionTwo) (P.OptionTwo place marks) P.OptionOne
+
+-- the same, of a place's number
 unfoldable pub profileIn : ℕ → ℕ → ℕ → Profile
-profileIn option place marks = cond (eqb option optionTwo) (P.OptionTwo place marks) P.OptionOne
+profileIn option place marks = profileWith option (placeIn place) marks
 
 -- the number of a profile's option
 unfoldable pub optionOf : Profile → ℕ
@@ -36,19 +72,26 @@ limitsOf P.OptionOne = record { fixed = 5; floor = 4; input = 1; words = false; 
 -- "fixed quality runs 1 to 10", "Floors run 1 to 8, fresh value 6", "argument 2 of event kind 10", "tell 6"
 limitsOf (P.OptionTwo place marks) = record { fixed = 10; floor = 8; input = 2; words = true; freerunning = st3 }
 
--- "the place of PROV (0 none, 1 to 8 ..)"; option I has none
+-- "the place of PROV (0 none, 1 to 8 ..)", by its number; option I has none
 unfoldable pub placeOf : Profile → ℕ
 placeOf P.OptionOne = 0
-placeOf (P.OptionTwo place marks) = place
+placeOf (P.OptionTwo place marks) = numberOfPlace place
 
 -- the last place
 abbrev pub lastPlace : ℕ
 lastPlace = 8
 
--- "(0 none, 1 to 8; otherwise refusal 6 and no start)": the number that a start of a profile is answered with; of
--- option I it is 0
-unfoldable pub startNumber : Profile → ℕ
-startNumber profile = cond (ltb lastPlace (placeOf profile)) argumentOutOfRange accepted
+-- "(0 none, 1 to 8; otherwise refusal 6 and no start)": the number that a start with an option's number and a place's
+-- is answered with; of option I it is 0
+unfoldable pub startNumber : ℕ → ℕ → ℕ
+startNumber option place = cond (eqb option optionTwo && ltb lastPlace place) argumentOutOfRange accepted
+
+-- "1 to 8": no profile has another place, and each of these numbers is read as its own place
+pub record PlacesRight : Type 0 where
+  pub within : (profile : Profile) → placeOf profile ≤ lastPlace
+  pub read : (place : Place) → placeIn (numberOfPlace place) ≡ place
+  pub kept : (number : ℕ) → number ≤ lastPlace → numberOfPlace (placeIn number) ≡ number
+  pub none : (number : ℕ) → lastPlace < number → placeIn number ≡ unplaced
 
 -- the ports "marked first generation", bit i for port i; option I has none
 unfoldable pub marksOf : Profile → ℕ

@@ -10,7 +10,7 @@ use crate::quality::TNC;
 use crate::refusal::ACCEPTED;
 use crate::refusal::ARGUMENT_OUT_OF_RANGE;
 ghost use mathlib.Core.Path.{_≡_};
-ghost use Rattle.numbers.specs.Profile.{profileIn, optionOf, limitsOf, placeOf, startNumber, marksOf, floorIn, toldBy, numberInOne, paperNumber};
+ghost use Rattle.numbers.specs.Profile.{placeIn, numberOfPlace, profileWith, profileIn, optionOf, limitsOf, placeOf, startNumber, marksOf, floorIn, toldBy, numberInOne, paperNumber};
 
 // The options, as a line's byte and C number them.
 pub const OPTION_ONE: u8 = 1;
@@ -20,11 +20,24 @@ pub const OPTION_TWO: u8 = 2;
 // The last place of PROV.
 const LAST_PLACE: u8 = 8;
 
+// The place of PROV: none, or just below a quality of 1 to 8. There is no other.
+pub enum Place {
+    Unplaced,
+    Below1,
+    Below2,
+    Below3,
+    Below4,
+    Below5,
+    Below6,
+    Below7,
+    Below8,
+}
+
 // What is chosen once, at the fresh start; option II with the place of PROV and the marks of the
 // first-generation ports.
 pub enum Profile {
     OptionOne,
-    OptionTwo(u8, u16),
+    OptionTwo(Place, u16),
 }
 
 // What the options differ in: the last fixed quality, floor and kind of input, whether words come,
@@ -59,15 +72,57 @@ pub fn limits_of(profile: Profile) -> Limits
     }
 }
 
+// The place that a number says. A number above 8 says none, as 0 does: a start asks `start_number`
+// first, and numbers that nobody has asked about leave PROV unplaced.
+pub fn place_in(number: u8) -> Place
+    ensures { λ answer. ⌜ answer ≡ placeIn number ⌝ }
+{
+    match number {
+        1 => Place::Below1,
+        2 => Place::Below2,
+        3 => Place::Below3,
+        4 => Place::Below4,
+        5 => Place::Below5,
+        6 => Place::Below6,
+        7 => Place::Below7,
+        8 => Place::Below8,
+        _ => Place::Unplaced,
+    }
+}
+
+// The number of a place, 0 for none.
+pub fn number_of_place(place: Place) -> u8
+    ensures { λ answer. ⌜ answer ≡ numberOfPlace place ⌝ }
+{
+    match place {
+        Place::Unplaced => 0,
+        Place::Below1 => 1,
+        Place::Below2 => 2,
+        Place::Below3 => 3,
+        Place::Below4 => 4,
+        Place::Below5 => 5,
+        Place::Below6 => 6,
+        Place::Below7 => 7,
+        Place::Below8 => 8,
+    }
+}
+
 // The profile of an option's number: 2 with the place and the marks; any other number is option I,
 // and neither is looked at.
-pub fn profile_in(option: u8, place: u8, marks: u16) -> Profile
-    ensures { λ answer. ⌜ answer ≡ profileIn option place marks ⌝ }
+pub fn profile_with(option: u8, place: Place, marks: u16) -> Profile
+    ensures { λ answer. ⌜ answer ≡ profileWith option place marks ⌝ }
 {
     if option == OPTION_TWO {
         return Profile::OptionTwo(place, marks);
     }
     Profile::OptionOne
+}
+
+// The same, of a place's number.
+pub fn profile_in(option: u8, place: u8, marks: u16) -> Profile
+    ensures { λ answer. ⌜ answer ≡ profileIn option place marks ⌝ }
+{
+    profile_with(option, place_in(place), marks)
 }
 
 // The number of a profile's option.
@@ -80,22 +135,25 @@ pub fn option_of(profile: Profile) -> u8
     }
 }
 
-// The place of PROV, 0 for none.
+// The number of a profile's place of PROV, 0 for none.
 pub fn place_of(profile: Profile) -> u8
     ensures { λ answer. ⌜ answer ≡ placeOf profile ⌝ }
 {
     match profile {
         Profile::OptionOne => 0,
-        Profile::OptionTwo(place, _) => place,
+        Profile::OptionTwo(place, _) => number_of_place(place),
     }
 }
 
-// The number that a start of a profile is answered with: 6 where the place of PROV is above 8, and
-// then there is none.
-pub fn start_number(profile: Profile) -> u8
-    ensures { λ answer. ⌜ answer ≡ startNumber profile ⌝ }
+// The number that a start with an option's number and a place's is answered with: 6 where option II
+// is given a place above 8, and then there is none.
+pub fn start_number(option: u8, place: u8) -> u8
+    ensures { λ answer. ⌜ answer ≡ startNumber option place ⌝ }
 {
-    if LAST_PLACE < place_of(profile) {
+    if option != OPTION_TWO {
+        return ACCEPTED;
+    }
+    if LAST_PLACE < place {
         return ARGUMENT_OUT_OF_RANGE;
     }
     ACCEPTED

@@ -1,39 +1,34 @@
 -- A step in place, a law for each way through it. Assumes nothing.
 use Prim.Native.Nat.{ℕ, _<_}
-use mathlib.Core.Bool.{Bool, true, false}
+use mathlib.Core.Bool.{Bool, false}
 use mathlib.Core.List.{List, map}
 use mathlib.Core.Path.{_≡_, refl, sym, ap, _∙_, subst}
-use lib.Dec.{eqb}
 use lib.ListN.{getD, set}
-use borrow.Author.Tests.{ne-eqb, eq-eqb, eqb-true, eqb-false}
 use Rattle.numbers.specs.declared.Event.{Event}
 use Rattle.numbers.specs.declared.kind.InputKind.{InputKind}
 use Rattle.numbers.specs.declared.profile.Profile.{Profile}
 use Rattle.numbers.specs.Inputs.{inputCount}
-use Rattle.numbers.specs.Kind.{kindForced, kindManual, kindQualityMode}
+use Rattle.numbers.specs.Kind.{kindQualityMode}
 use Rattle.numbers.specs.Profile.{limitsOf}
 use Rattle.numbers.specs.Recorded.{saidEvent}
 use Rattle.numbers.specs.Refusal.{accepted}
-use Rattle.numbers.proofs.Truth.{or-first, or-second}
 use Rattle.frame.specs.declared.FrameRead.{FrameRead}
 use Rattle.input.specs.declared.Input.{Input}
 use Rattle.input.specs.Record.{freshInput, inputAtMoment}
-use Rattle.choice.specs.declared.Candidate.{Candidate}
 use Rattle.switch.specs.declared.Switch.{Switch}
 use Rattle.switch.specs.Choices.{commanded}
 use Rattle.selector.specs.declared.Selector.{Selector}
-use Rattle.selector.specs.State.{candidatesOf, decided}
+use Rattle.selector.specs.State.{decided}
 use Rattle.due.specs.declared.Served.{Served}
 use Rattle.due.specs.Served.{servedOf, served}
 use Rattle.inplace.specs.Lists.{withInputs, withInput, withCommand, heldSwitch}
 use Rattle.inplace.proofs.Named.{On, switchOf-back, commanded-on}
 use Rattle.events.specs.declared.Stepped.{Stepped}
 use Rattle.events.specs.Given.{readEvent}
-use Rattle.events.specs.Refusals.{earlyRefusal, lateRefusal}
+use Rattle.events.specs.Refusals.{earlyRefusal}
 use Rattle.events.specs.Step.{inputAfter, inputsAfter, modeAfter, atItsMoment, kindAt, stepped, earlyNumber, lateNumber, stepTicked, stepRead}
-use Rattle.events.proofs.EventLaws.{inputsAfter-mode, inputsAfter-own, lateRefusal-other, atItsMoment-calls, stepTicked-late, stepTicked-accepted, stepRead-early, stepRead-late}
+use Rattle.events.proofs.EventLaws.{inputsAfter-mode, inputsAfter-own, atItsMoment-calls, stepTicked-late, stepTicked-accepted, stepRead-early, stepRead-late}
 use Rattle.events.proofs.Refused.{accepted-input}
-use Rattle.onestep.specs.Late.{isJudgedLate}
 
 -- ---- all inputs after an event
 
@@ -87,43 +82,6 @@ own-moment state inputs command after event profile earlier mode before switch o
     refl
     (a ∙ ap decided made)
 
--- ---- late refusals
-
-module _ (kind : ℕ) where
-  pub isJudgedLate-forced : kind ≡ kindForced → true ≡ isJudgedLate kind
-  unfolding isJudgedLate
-  isJudgedLate-forced e = rw e
-
-  pub isJudgedLate-manual : kind ≡ kindManual → true ≡ isJudgedLate kind
-  unfolding isJudgedLate
-  isJudgedLate-manual e = rw e
-
-  pub isJudgedLate-other : (kind ≡ kindForced → ⊥) → (kind ≡ kindManual → ⊥) → false ≡ isJudgedLate kind
-  unfolding isJudgedLate
-  isJudgedLate-other n m = rw (ne-eqb _ _ n, ne-eqb _ _ m)
-
-pub ruleset isJudgedLate-laws = (isJudgedLate-forced, isJudgedLate-manual, isJudgedLate-other)
-
-module _ (state : Selector) (event : Event) where
-  pub late-judged : (candidates : List Candidate) (switch : Switch) (late : ℕ)
-      → candidates ≡ candidatesOf (state .profile) (state .inputs) (state .mode)
-      → switch ≡ state .switch
-      → late ≡ lateRefusal candidates switch (event .kind) (event .input)
-      → late ≡ lateNumber state event
-  late-judged candidates switch late c s l = l ∙ (λ j. lateRefusal (c j) (s j) (event .kind) (event .input))
-
-  pub late-never : (judged : Bool) → judged ≡ isJudgedLate (event .kind) → judged ≡ false
-      → accepted ≡ lateNumber state event
-  unfolding isJudgedLate
-  late-never judged j no-such =
-      let never : isJudgedLate (event .kind) ≡ false = sym j ∙ no-such in
-      lateRefusal-other (candidatesOf (state .profile) (state .inputs) (state .mode)) (state .switch) (event .kind)
-      (event .input)
-      (eqb-false (event .kind) kindForced
-      (or-first (eqb (event .kind) kindForced) (eqb (event .kind) kindManual) never))
-      (eqb-false (event .kind) kindManual
-      (or-second (eqb (event .kind) kindForced) (eqb (event .kind) kindManual) never))
-
 -- ---- an event on a state that has been ticked
 
 module _ (state after : Selector) (count : ℕ) (event : Event) (read : FrameRead) (late : ℕ)
@@ -131,15 +89,13 @@ module _ (state after : Selector) (count : ℕ) (event : Event) (read : FrameRea
   pub ticked-late : (late ≡ accepted → ⊥) → after ≡ state → stepped late count after ≡ stepTicked state count event read
   ticked-late n a =
       ap (stepped late count) a ∙
-      stepTicked-late state count event read (candidatesOf (state .profile) (state .inputs) (state .mode)) late refl l n
+      stepTicked-late state count event read late l n
 
   pub ticked-accepted : (recorded : Event) → late ≡ accepted → recorded ≡ readEvent event read
       → after ≡ atItsMoment state (saidEvent (state .profile) recorded)
       → stepped accepted count after ≡ stepTicked state count event read
   ticked-accepted recorded n r a =
-      stepTicked-accepted state count event read (candidatesOf (state .profile) (state .inputs) (state .mode)) late
-      after
-      recorded refl l n r a
+      stepTicked-accepted state count event read late after recorded l n r a
 
 -- the event as it is recorded is on the same input
 pub recorded-input : (event recorded : Event) (read : FrameRead) → recorded ≡ readEvent event read

@@ -5,9 +5,11 @@
 // Any numbers in the arrays are answered for. No public function has a `requires`.
 pub mod watch;
 
+use choice::Selection;
 use events::commanded;
 use events::early_refusal;
 use events::input_after;
+use events::is_judged_late;
 use events::late_refusal;
 use events::mode_after;
 use events::recorded_event;
@@ -16,9 +18,10 @@ use frame::read_code;
 use inplace::SMALL;
 use inplace::TIMES;
 use inplace::WORDS;
-use inplace::candidates_at;
+use inplace::candidate_at;
 use inplace::input_at;
 use inplace::inputs_at_moment;
+use inplace::leader_at;
 use inplace::make_choice;
 use inplace::mode_at;
 use inplace::profile_at;
@@ -29,8 +32,6 @@ use inplace::switch_at;
 use inplace::time_at;
 use numbers::Event;
 use numbers::InputNumber;
-use numbers::kind::KIND_FORCED;
-use numbers::kind::KIND_MANUAL;
 use numbers::kind::KIND_QUALITY_MODE;
 use numbers::profile::Profile;
 use numbers::refusal::ACCEPTED;
@@ -42,7 +43,6 @@ ghost use Rattle.numbers.specs.Recorded.{saidEvent};
 ghost use Rattle.numbers.specs.Refusal.{accepted};
 ghost use Rattle.inplace.specs.Lists.{selectorAt, withInputs};
 ghost use Rattle.events.specs.Step.{inputsAfter, atItsMoment, stepped, earlyNumber, lateNumber, stepTicked, stepRead, step};
-ghost use Rattle.onestep.specs.Late.{isJudgedLate};
 
 // An event that is refused before its tick has no due moment served.
 const NONE_SERVED: u8 = 0;
@@ -102,17 +102,6 @@ fn at_its_moment(
     make_choice(times, small, words);
 }
 
-// Whether an event of a kind can be refused after its tick.
-fn is_judged_late(kind: u8) -> bool
-    ensures { λ answer. ⌜ answer ≡ isJudgedLate kind ⌝ }
-{
-    match kind {
-        KIND_FORCED => true,
-        KIND_MANUAL => true,
-        _ => false,
-    }
-}
-
 // Refusals 14 to 17 of an event on a state that has been ticked to its time; 0 where none applies.
 fn late_at(times: &[u64; TIMES], small: &[u8; SMALL], words: &[u16; WORDS], event: Event) -> u8
     ensures { λ answer. ⌜ answer ≡
@@ -120,9 +109,11 @@ fn late_at(times: &[u64; TIMES], small: &[u8; SMALL], words: &[u16; WORDS], even
         event ⌝ }
 {
     if is_judged_late(event.kind) {
-        let candidates = candidates_at(times, small, words);
+        let own = candidate_at(times, small, words, InputNumber(event.input));
+        let leader = leader_at(times, small, words, Selection::Nothing);
+        let best = leader.rank;
         let switch = switch_at(small);
-        return late_refusal(candidates, switch, event.kind, InputNumber(event.input));
+        return late_refusal(own, best, switch, event.kind);
     }
     ACCEPTED
 }

@@ -7,8 +7,6 @@ use lib.Dec.{eqb, leb, ltb}
 use lib.ListN.{length, getD, take, drop}
 use Rattle.digits.specs.Decimal.{decimalValue}
 use Rattle.digits.specs.Digits.{allDigits, space, allNumerals}
-use Rattle.questions.specs.declared.NumberRead.{NumberRead}
-use Rattle.questions.specs.declared.NumberRead.the-variants as N
 use Rattle.questions.specs.declared.PartRead.{PartRead}
 use Rattle.questions.specs.declared.PartRead.the-variants as P
 use Rattle.questions.specs.declared.QuestionRead.{QuestionRead}
@@ -85,10 +83,6 @@ readQuestion line =
 -- where the part from a place ends
 abbrev pub partEnd : List ℕ → ℕ → ℕ
 partEnd text start = start + partLength (drop start text)
-
--- a number, if a text is one
-unfoldable pub numberIn : List ℕ → NumberRead
-numberIn text = cond (isNumber text) (N.Number (numberSaid text)) N.Nothing
 
 -- the number from a place that a space ends, and the place after the space
 unfoldable pub readPart : List ℕ → ℕ → PartRead

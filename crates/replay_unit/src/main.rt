@@ -20,7 +20,9 @@ fn main() {
         say_unit_start(start);
         return;
     };
-    let ended = serve(answerer::of_unit(profile, minimum));
+    let started = answerer::of_unit(profile, minimum);
+    let first = started.answerer;
+    let ended = serve(first);
     let ending = ended.ending;
     calls::say(ending);
 }

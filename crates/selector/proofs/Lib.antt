@@ -2,4 +2,5 @@
 -- code's definitions, way by way.
 pub mod Filled
 pub mod Ports
+pub mod Scanning
 pub mod SelectorLaws

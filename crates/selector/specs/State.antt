@@ -1,9 +1,10 @@
 -- Document 01, "The sixteen inputs" and "Choosing": the state, and what a choice and a tick make of it. Cited by
 -- `src/lib.rt`. Assumes nothing.
-use Prim.Native.Nat.{ℕ}
+use Prim.Native.Nat.{ℕ, _%_, _<_}
 use mathlib.Core.Bool.{Bool, true, false}
 use mathlib.Core.List.{List, map}
-use lib.ListN.{replicate}
+use mathlib.Core.Path.{_≡_}
+use lib.ListN.{length, replicate}
 use Rattle.numbers.specs.Inputs.{inputCount}
 use Rattle.numbers.specs.declared.profile.Profile.{Profile}
 use Rattle.numbers.specs.Profile.{limitsOf, placeOf, floorIn}
@@ -52,6 +53,16 @@ candidateFor profile mode input =
 -- what a choice looks at of all inputs
 abbrev pub candidatesOf : Profile → List Input → Bool → List Candidate
 candidatesOf profile inputs mode = map (candidateFor profile mode) inputs
+
+-- what a choice looks at of all inputs of a state
+abbrev pub seenAll : Selector → List Candidate
+seenAll state = candidatesOf (state .profile) (state .inputs) (state .mode)
+
+-- where an input stands among the sixteen; where there is no such input, its number taken round
+pub record InPlace (inputs : List Input) (number place : ℕ) : Type 0 where
+  pub own : place ≡ number % inputCount
+  pub inside : place < length inputs
+  pub sixteen : length inputs ≡ inputCount
 
 -- the state with what a choice leaves
 abbrev pub withChoice : Selector → AfterChoice → Selector

@@ -3,10 +3,12 @@
 //
 // No public function has a `requires`: a state with any numbers in it is answered for.
 use choice::Candidate;
+use choice::Leader;
 use choice::NOBODY;
 use choice::Seen;
 use choice::Selection;
 use choice::candidate_of;
+use choice::seed;
 use input::Input;
 use numbers::Answer;
 use numbers::INPUT_COUNT;
@@ -31,7 +33,9 @@ ghost use mathlib.Core.Bool.{false, cond};
 ghost use mathlib.Core.List.{map};
 ghost use lib.ListN.{getD};
 ghost use Rattle.input.specs.Record.{freshInput, inputAtMoment, inputBroughtTo};
-ghost use Rattle.selector.specs.State.{seenOf, candidateFor, candidatesOf, freshSelector, decided, tickedOnce};
+ghost use Rattle.choice.specs.Candidate.{nobody};
+ghost use Rattle.choice.specs.Leader.{chosenAmong};
+ghost use Rattle.selector.specs.State.{seenOf, candidateFor, candidatesOf, seenAll, InPlace, freshSelector, decided, tickedOnce};
 ghost use Rattle.selector.specs.Answer.{selectedNumber, switchNumber, switchInput, clockState, clockQuality, outgoingCode, outgoingWord, selectedCandidate, signFor, ports, qualityOf, answerOf, outgoingCodes, outgoingWords};
 
 // Stands for no input in an answer.
@@ -103,19 +107,29 @@ pub fn candidate_for(profile: Profile, input: Input, mode: bool) -> Candidate
     candidate_of(place, floor, passed, priority, seen.locked, mode)
 }
 
-// What a choice looks at of all inputs.
-pub fn candidates_of(profile: Profile, inputs: [Input; 16], mode: bool) -> [Candidate; 16]
-    ensures { λ answer. ⌜ answer ≡ candidatesOf profile inputs mode ⌝ }
+// Where an input stands among the sixteen; where there is no such input, its number taken round.
+// The inputs are not looked at: they tell a proof that they are sixteen.
+fn place_in(inputs: [Input; 16], number: u8) -> usize
+    ensures { λ place. ⌜ InPlace inputs number place ⌝ }
 {
-    let mut candidates = [NOBODY; 16];
-    let mut at: usize = 0;
-    while at < 16 {
+    (number % INPUT_COUNT) as usize
+}
+
+// What a choice sees of the input with a number; none where there is no such input.
+pub fn candidate_in(
+    profile: Profile,
+    inputs: [Input; 16],
+    mode: bool,
+    number: InputNumber,
+) -> Candidate
+    ensures { λ answer. ⌜ answer ≡ getD (candidatesOf profile inputs mode) (number .0) nobody ⌝ }
+{
+    if number.0 < INPUT_COUNT {
+        let at = number.0 as usize;
         let input = inputs[at];
-        let candidate = candidate_for(profile, input, mode);
-        candidates[at] = candidate;
-        at += 1;
+        return candidate_for(profile, input, mode);
     }
-    candidates
+    NOBODY
 }
 
 // All inputs brought to a time.
@@ -168,16 +182,40 @@ impl Selector {
         }
     }
 
+    // The choice, as where no switch stands: the one that leads once all inputs have been offered.
+    pub fn leader(self) -> Leader
+        ensures { λ answer. ⌜ answer ≡ chosenAmong (seenAll self) (self .selection) ⌝ }
+    {
+        let profile = self.profile;
+        let mode = self.mode;
+        let before = self.selection;
+        let inputs = self.inputs;
+        let place = place_in(inputs, selected_number(before));
+        let earlier = self.inputs[place];
+        let seen = candidate_for(profile, earlier, mode);
+        let mut leader = seed(before, seen);
+        let mut number: u8 = 0;
+        while number < INPUT_COUNT {
+            let input = self.inputs[number as usize];
+            let candidate = candidate_for(profile, input, mode);
+            leader = leader.offer(InputNumber(number), candidate);
+            number += 1;
+        }
+        leader
+    }
+
     // The switch judged and the choice made.
     pub fn decided(self) -> Selector
         ensures { λ answer. ⌜ answer ≡ decided self ⌝ }
     {
         let inputs = self.inputs;
         let profile = self.profile;
-        let candidates = candidates_of(profile, inputs, self.mode);
         let before = self.switch;
-        let earlier = self.selection;
-        let choice = decide(candidates, before, earlier, self.waslocked);
+        let place = place_in(inputs, switch_input(before));
+        let input = self.inputs[place];
+        let own = candidate_for(profile, input, self.mode);
+        let leader = self.leader();
+        let choice = decide(before, own, leader, self.waslocked);
         let switch = choice.switch;
         let selection = choice.selection;
         Selector {

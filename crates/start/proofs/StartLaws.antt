@@ -9,9 +9,9 @@ use borrow.Author.Tests.{eqb-true, eq-eqb, ne-eqb, le-leb, lt-leb, lt-ltb, leb-f
 use lib.Dec.{eqb, leb, ltb}
 use lib.ListN.{length, getD, drop, drop-of-length-le}
 use lib.Seq.{drop-cons}
-use Rattle.numbers.specs.declared.profile.Profile.the-variants as P
+use Rattle.numbers.specs.declared.profile.Place.{Place}
 use Rattle.numbers.specs.Refusal.{accepted}
-use Rattle.numbers.specs.Profile.{placeOf, lastPlace, startNumber}
+use Rattle.numbers.specs.Profile.{optionTwo, unplaced, placeIn, lastPlace, startNumber}
 use Rattle.numbers.proofs.Truth.{byBool}
 use Rattle.digits.specs.Digits.{numeral0, numeral9, isBetween, isNumeral, allDigits, digitValue, allNumerals}
 use Rattle.digits.specs.Decimal.{decimalValue}
@@ -102,20 +102,21 @@ four-value (w ∷ x ∷ y ∷ z ∷ v ∷ rest) upper lower four one other = abs
 
 -- ---- startOf
 
-module _ (place marks number : ℕ) (is : number ≡ startNumber (P.OptionTwo place marks)) where
-  pub startOf-started : number ≡ accepted → Started place marks ≡ startOf place marks
+module _ (place marks number : ℕ) (is : number ≡ startNumber optionTwo place) where
+  pub startOf-started : (said : Place) → number ≡ accepted → said ≡ placeIn place
+      → Started said marks ≡ startOf place marks
   unfolding startOf
-  startOf-started taken = rw (eq-eqb (startNumber (P.OptionTwo place marks)) accepted (sym is ∙ taken))
+  startOf-started said taken s = rw (eq-eqb (startNumber optionTwo place) accepted (sym is ∙ taken), s)
 
   pub startOf-refused : (number ≡ accepted → ⊥) → Refused ≡ startOf place marks
   unfolding startOf
-  startOf-refused left = rw (ne-eqb (startNumber (P.OptionTwo place marks)) accepted (λ same. left (is ∙ same)))
+  startOf-refused left = rw (ne-eqb (startNumber optionTwo place) accepted (λ same. left (is ∙ same)))
 
 pub ruleset startOf-laws = (startOf-started, startOf-refused)
 
 -- a place above 255 is above 8
 startOf-above : (place marks : ℕ) → lastPlace < place → Refused ≡ startOf place marks
-unfolding startOf startNumber placeOf
+unfolding startOf startNumber
 startOf-above place marks above = rw (lt-ltb lastPlace place above)
 
 number-none : (value : ℕ) → Number value ≡ NoNumber → ⊥
@@ -216,7 +217,7 @@ marks-hold marks four-digits is holds = marks-size marks (sym is ∙ not-false f
 -- ---- startBy
 
 module _ (count : ℕ) (option place marks : List ℕ) where
-  pub startBy-nothing : count ≡ 0 → Started 0 0 ≡ startBy count option place marks
+  pub startBy-nothing : count ≡ 0 → Started unplaced 0 ≡ startBy count option place marks
   unfolding startBy
   startBy-nothing none = rw (eq-eqb count 0 none)
 

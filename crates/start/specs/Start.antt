@@ -6,9 +6,8 @@ use mathlib.Core.List.{List, [], _∷_}
 use mathlib.Core.Path.{_≡_}
 use lib.Dec.{eqb, ltb}
 use lib.ListN.{length, getD}
-use Rattle.numbers.specs.declared.profile.Profile.the-variants as P
 use Rattle.numbers.specs.Refusal.{accepted}
-use Rattle.numbers.specs.Profile.{startNumber}
+use Rattle.numbers.specs.Profile.{optionTwo, unplaced, placeIn, startNumber}
 use Rattle.digits.specs.Digits.{allDigits, digitValue, allNumerals}
 use Rattle.digits.specs.Decimal.{decimalValue}
 use Rattle.start.specs.declared.StartRead.{StartRead}
@@ -37,7 +36,7 @@ digitsValue passed (digit ∷ rest) = digitsValue (passed * 16 + digitValue digi
 
 -- a start with a place and marks: "A place above 8 prints `06` and nothing else."
 unfoldable pub startOf : ℕ → ℕ → StartRead
-startOf place marks = cond (eqb (startNumber (P.OptionTwo place marks)) accepted) (Started place marks) Refused
+startOf place marks = cond (eqb (startNumber optionTwo place) accepted) (Started (placeIn place) marks) Refused
 
 -- "`2 PLACE MARKS`": three words; a place may be a number of any size
 unfoldable pub startIn : List ℕ → List ℕ → List ℕ → StartRead
@@ -50,7 +49,7 @@ startIn option place marks =
 -- three are given
 unfoldable pub startBy : ℕ → List ℕ → List ℕ → List ℕ → StartRead
 startBy count option place marks =
-    cond (eqb count 0) (Started 0 0)
+    cond (eqb count 0) (Started unplaced 0)
     (cond (eqb count 3) (startIn option place marks)
     NoStart)
 

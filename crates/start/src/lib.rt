@@ -8,7 +8,9 @@
 use calls::Ending;
 use calls::Stream;
 use calls::write_alone;
-use numbers::profile::Profile;
+use numbers::profile::OPTION_TWO;
+use numbers::profile::Place;
+use numbers::profile::place_in;
 use numbers::profile::start_number;
 use numbers::refusal::ACCEPTED;
 use text::NumberRead;
@@ -38,7 +40,7 @@ const LONGEST_WORD: usize = 65_536;
 // What START says: the place of PROV and the marks; that the start is refused; or that it is no
 // START.
 pub enum StartRead {
-    Started(u8, u16),
+    Started(Place, u16),
     Refused,
     NoStart,
 }
@@ -98,9 +100,8 @@ fn marks_in(word: &[u8]) -> u16
 fn start_of(place: u8, marks: u16) -> StartRead
     ensures { λ read. ⌜ read ≡ startOf place marks ⌝ }
 {
-    let profile = Profile::OptionTwo(place, marks);
-    if start_number(profile) == ACCEPTED {
-        return StartRead::Started(place, marks);
+    if start_number(OPTION_TWO, place) == ACCEPTED {
+        return StartRead::Started(place_in(place), marks);
     }
     StartRead::Refused
 }
@@ -140,7 +141,7 @@ pub fn start_by(count: usize, option: &[u8], place: &[u8], marks: &[u8]) -> Star
         read ≡ startBy count (now (option .entry)) (now (place .entry)) (now (marks .entry)) ⌝ }
 {
     if count == 0 {
-        return StartRead::Started(0, 0);
+        return StartRead::Started(Place::Unplaced, 0);
     }
     if count != WORDS {
         return StartRead::NoStart;

@@ -3,7 +3,7 @@ use Prim.Native.Nat.{ℕ, _≤_, _<_}
 use mathlib.Core.Bool.{Bool, true, false, _||_}
 use mathlib.Core.List.{[]}
 use mathlib.Core.Path.{_≡_, refl, _∙_}
-use lib.Dec.{ltb}
+use lib.Dec.{leb, ltb}
 use borrow.Author.Tests.{eq-eqb, ne-eqb, lt-leb, le-leb}
 use Rattle.numbers.specs.declared.Answer.{Answer}
 use Rattle.numbers.specs.declared.Event.{Event}
@@ -11,9 +11,9 @@ use Rattle.numbers.specs.declared.profile.Limits.{Limits}
 use Rattle.numbers.specs.declared.profile.Profile.{Profile}
 use Rattle.numbers.specs.declared.quality.Quality.{Quality}
 use Rattle.numbers.specs.Kind.{kindWord}
-use Rattle.numbers.specs.Profile.{limitsOf, placeOf, startNumber}
-use Rattle.numbers.specs.Quality.{quality}
-use Rattle.numbers.specs.Refusal.{argumentOutOfRange, frameLength}
+use Rattle.numbers.specs.Profile.{limitsOf, placeOf, profileIn, startNumber}
+use Rattle.numbers.specs.Quality.{quality, prc}
+use Rattle.numbers.specs.Refusal.{accepted, argumentOutOfRange, frameLength}
 use Rattle.numbers.specs.Rows.{firstThatApplies}
 use Rattle.frame.specs.declared.FrameRead.{FrameRead}
 use Rattle.frame.specs.declared.FrameRead.the-variants as R
@@ -21,34 +21,57 @@ use Rattle.frame.specs.Read.{rightLength, frameNumber, readCode}
 use Rattle.choice.specs.declared.Rank.{Rank}
 use Rattle.choice.specs.Rank.{rankOf}
 use Rattle.selector.specs.declared.Selector.{Selector}
+use Rattle.selector.specs.State.{freshSelector}
 use Rattle.selector.specs.Answer.{noInput, locked}
 use Rattle.events.specs.declared.Stepped.{Stepped}
 use Rattle.events.specs.Given.{tickAt}
 use Rattle.events.specs.Step.{stepRead}
 use Rattle.unit.specs.declared.Half.{Half}
 use Rattle.unit.specs.declared.Half.the-variants as H
-use Rattle.unit.specs.Unit.{unitStartNumber, goesToBoth, isTo, goesTo}
-use Rattle.unit.specs.Kept.{halfStep, squelchedBy, sourceBy}
+use Rattle.unit.specs.declared.UnitStarted.{UnitStarted}
+use Rattle.unit.specs.Unit.{isMinimum, unitStartNumber, goesToBoth, isTo, goesTo}
+use Rattle.unit.specs.Kept.{startedUnit, halfStep, squelchedBy, sourceBy}
 
--- ---- unitStartNumber
+-- ---- isMinimum, unitStartNumber, startedUnit
 
 module _ (profile : Profile) (minimum : Quality) (limits : Limits) where
-  pub unitStartNumber-none : minimum .0 < 1 → argumentOutOfRange ≡ unitStartNumber profile minimum
-  unfolding unitStartNumber
-  unitStartNumber-none none = rw (lt-leb 1 (minimum .0) none)
+  pub isMinimum-none : minimum .0 < 1 → false ≡ isMinimum profile minimum
+  isMinimum-none none = rw (lt-leb 1 (minimum .0) none)
 
-  pub unitStartNumber-above : limits ≡ limitsOf profile → 1 ≤ minimum .0 → limits .floor < minimum .0
-      → argumentOutOfRange ≡ unitStartNumber profile minimum
-  unfolding unitStartNumber
-  unitStartNumber-above is some above = rw (← is, le-leb 1 (minimum .0) some, lt-leb (minimum .0) (limits .floor) above)
+  pub isMinimum-some : limits ≡ limitsOf profile → 1 ≤ minimum .0
+      → leb (minimum .0) (limits .floor) ≡ isMinimum profile minimum
+  isMinimum-some is some = rw (← is, le-leb 1 (minimum .0) some)
 
-  pub unitStartNumber-within : (number : ℕ) → limits ≡ limitsOf profile → 1 ≤ minimum .0 → minimum .0 ≤ limits .floor
-      → number ≡ startNumber profile → number ≡ unitStartNumber profile minimum
-  unfolding unitStartNumber
-  unitStartNumber-within number is some within starts =
-      starts ∙ rw (← is, le-leb 1 (minimum .0) some, le-leb (minimum .0) (limits .floor) within)
+pub ruleset isMinimum-laws = (isMinimum-none, isMinimum-some)
 
-pub ruleset unitStartNumber-laws = (unitStartNumber-none, unitStartNumber-above, unitStartNumber-within)
+module _ (option place : ℕ) (minimum : Quality) (profile : Profile) (p : profile ≡ profileIn option place 0)
+    (within : Bool) (w : within ≡ isMinimum profile minimum) where
+  pub unitStartNumber-within : (number : ℕ) → within ≡ true → number ≡ startNumber option place
+      → number ≡ unitStartNumber option place minimum
+  unfolding unitStartNumber
+  unitStartNumber-within number in-range n = n ∙ (rw (← p, ← w, in-range))
+
+  pub unitStartNumber-out : within ≡ false → argumentOutOfRange ≡ unitStartNumber option place minimum
+  unfolding unitStartNumber
+  unitStartNumber-out out = rw (← p, ← w, out)
+
+pub ruleset unitStartNumber-laws = (unitStartNumber-within, unitStartNumber-out)
+
+module _ (profile : Profile) (minimum : Quality) (within : Bool) (w : within ≡ isMinimum profile minimum)
+    (equipment station : Selector) (e : equipment ≡ freshSelector profile) (s : station ≡ freshSelector profile) where
+  abbrev started : ℕ → Quality → UnitStarted
+  started number least =
+      record { number = number; unit = record { equipment = equipment; station = station; minimum = least } }
+
+  pub startedUnit-starts : within ≡ true → started accepted minimum ≡ startedUnit profile minimum
+  unfolding startedUnit
+  startedUnit-starts in-range = rw (← w, in-range, e, s)
+
+  pub startedUnit-refused : within ≡ false → started argumentOutOfRange prc ≡ startedUnit profile minimum
+  unfolding startedUnit
+  startedUnit-refused out = rw (← w, out, e, s)
+
+pub ruleset startedUnit-laws = (startedUnit-starts, startedUnit-refused)
 
 -- ---- goesToBoth
 

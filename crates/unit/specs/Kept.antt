@@ -9,8 +9,8 @@ use Rattle.numbers.specs.declared.Event.{Event}
 use Rattle.numbers.specs.declared.profile.Profile.{Profile}
 use Rattle.numbers.specs.declared.quality.Quality.{Quality}
 use Rattle.numbers.specs.Profile.{limitsOf, placeOf}
-use Rattle.numbers.specs.Quality.{quality}
-use Rattle.numbers.specs.Refusal.{accepted}
+use Rattle.numbers.specs.Quality.{quality, prc}
+use Rattle.numbers.specs.Refusal.{accepted, argumentOutOfRange}
 use Rattle.frame.specs.declared.FrameRead.{FrameRead}
 use Rattle.frame.specs.Read.{readCode}
 use Rattle.choice.specs.Rank.{rankOf}
@@ -23,13 +23,22 @@ use Rattle.events.specs.Step.{stepRead}
 use Rattle.unit.specs.declared.Half.{Half}
 use Rattle.unit.specs.declared.Half.the-variants as H
 use Rattle.unit.specs.declared.Unit.{Unit}
+use Rattle.unit.specs.declared.UnitStarted.{UnitStarted}
 use Rattle.unit.specs.declared.UnitStepped.{UnitStepped}
-use Rattle.unit.specs.Unit.{goesTo}
+use Rattle.unit.specs.Unit.{isMinimum, goesTo}
 
 -- "It holds two selectors of one profile", and the minimum
 abbrev pub freshUnit : Profile → Quality → Unit
 freshUnit profile minimum =
     record { equipment = freshSelector profile; station = freshSelector profile; minimum = minimum }
+
+-- a start of a profile with a minimum: "otherwise 6 and no start"; what stands beside 6 has the best quality for its
+-- minimum, which is in either option's range
+unfoldable pub startedUnit : Profile → Quality → UnitStarted
+startedUnit profile minimum =
+    cond (isMinimum profile minimum)
+    (record { number = accepted; unit = freshUnit profile minimum })
+    (record { number = argumentOutOfRange; unit = freshUnit profile prc })
 
 -- one selector's own step: the tick, and then the event where it goes there
 unfoldable pub halfStep : Selector → Bool → Event → FrameRead → Stepped

@@ -13,7 +13,7 @@ use Rattle.numbers.specs.declared.quality.Quality.{Quality}
 use Rattle.numbers.specs.From.{From, started, _following_, profileOf}
 use Rattle.numbers.specs.Inputs.{timeLimit}
 use Rattle.numbers.specs.Kind.{kindSignal, kindFrame, kindLineCode, kindWord, kindInputKind, kindTick}
-use Rattle.numbers.specs.Profile.{limitsOf, placeOf, startNumber}
+use Rattle.numbers.specs.Profile.{limitsOf, placeOf, profileIn, startNumber}
 use Rattle.numbers.specs.Rows.{refusal, firstThatApplies}
 use Rattle.numbers.specs.Refusal.{accepted, timeTooLarge, timeBeforeState, argumentOutOfRange}
 use Rattle.input.specs.Recorded.{modeOn}
@@ -32,9 +32,11 @@ use Rattle.unit.specs.declared.Half.the-variants as H
 abbrev pub isMinimum : Profile → Quality → Bool
 isMinimum profile minimum = leb 1 (minimum .0) && leb (minimum .0) (limitsOf profile .floor)
 
--- "otherwise 6 and no start": the number that a start is answered with; the place of PROV has its own range
-unfoldable pub unitStartNumber : Profile → Quality → ℕ
-unitStartNumber profile minimum = cond (not (isMinimum profile minimum)) argumentOutOfRange (startNumber profile)
+-- "otherwise 6 and no start": the number that a start with an option's number, a place's and a minimum is answered
+-- with; the place of PROV has its own range
+unfoldable pub unitStartNumber : ℕ → ℕ → Quality → ℕ
+unitStartNumber option place minimum =
+    cond (isMinimum (profileIn option place 0) minimum) (startNumber option place) argumentOutOfRange
 
 -- ---- which selector an event goes to
 

@@ -20,7 +20,9 @@ use numbers::profile::Limits;
 use numbers::profile::Profile;
 use numbers::profile::limits_of;
 use numbers::profile::place_of;
+use numbers::profile::profile_in;
 use numbers::profile::start_number;
+use numbers::quality::PRC;
 use numbers::quality::Quality;
 use numbers::refusal::ACCEPTED;
 use numbers::refusal::ARGUMENT_OUT_OF_RANGE;
@@ -29,8 +31,8 @@ use selector::LOCKED;
 use selector::NO_INPUT;
 use selector::Selector;
 ghost use mathlib.Core.Path.{_≡_};
-ghost use Rattle.unit.specs.Unit.{unitStartNumber, goesToBoth, isTo, goesTo};
-ghost use Rattle.unit.specs.Kept.{freshUnit, halfStep, stepUnitRead, stepUnit, squelchedBy, sourceBy, isSquelched, sourceOf};
+ghost use Rattle.unit.specs.Unit.{isMinimum, unitStartNumber, goesToBoth, isTo, goesTo};
+ghost use Rattle.unit.specs.Kept.{freshUnit, startedUnit, halfStep, stepUnitRead, stepUnit, squelchedBy, sourceBy, isSquelched, sourceOf};
 
 // The two selectors of a unit, by what they are for.
 pub enum Half {
@@ -53,19 +55,33 @@ pub struct UnitStepped {
     pub unit: Unit,
 }
 
-// The number that a start of a unit is answered with: 6 where the minimum or the place of PROV is
-// out of range, and then there is none.
-pub fn unit_start_number(profile: Profile, minimum: Quality) -> u8
-    ensures { λ answer. ⌜ answer ≡ unitStartNumber profile minimum ⌝ }
+// A start of a unit: the number that it is answered with, and the unit. Beside 6 no unit has
+// started, and what stands there carries the best quality alone.
+pub struct UnitStarted {
+    pub number: u8,
+    pub unit: Unit,
+}
+
+// Whether a unit of a profile starts with a minimum: 1 to 4, option II 1 to 8.
+pub fn is_minimum(profile: Profile, minimum: Quality) -> bool
+    ensures { λ answer. ⌜ answer ≡ isMinimum profile minimum ⌝ }
 {
     let limits = limits_of(profile);
     if minimum.0 < 1 {
-        return ARGUMENT_OUT_OF_RANGE;
+        return false;
     }
-    if limits.floor < minimum.0 as u16 {
-        return ARGUMENT_OUT_OF_RANGE;
+    minimum.0 as u16 <= limits.floor
+}
+
+// The number that a start with an option's number, a place's and a minimum is answered with: 6
+// where the minimum or the place of PROV is out of range, and then there is none.
+pub fn unit_start_number(option: u8, place: u8, minimum: Quality) -> u8
+    ensures { λ answer. ⌜ answer ≡ unitStartNumber option place minimum ⌝ }
+{
+    if is_minimum(profile_in(option, place, 0), minimum) {
+        return start_number(option, place);
     }
-    start_number(profile)
+    ARGUMENT_OUT_OF_RANGE
 }
 
 // Whether events of a kind go to both selectors; any other is a command. A word is a report where
@@ -159,16 +175,30 @@ pub fn source_by(squelched: bool, answer: Answer) -> u8
 }
 
 impl Unit {
-    // Two fresh selectors of a profile, and the minimum.
-    pub fn fresh(profile: Profile, minimum: Quality) -> Unit
-        ensures { λ answer. ⌜ answer ≡ freshUnit profile minimum ⌝ }
+    // A start of a profile with a minimum: two fresh selectors, and the minimum. One that is out of
+    // range is refused with 6.
+    pub fn fresh(profile: Profile, minimum: Quality) -> UnitStarted
+        ensures { λ started. ⌜ started ≡ startedUnit profile minimum ⌝ }
     {
         let equipment = Selector::fresh(profile);
         let station = Selector::fresh(profile);
-        Unit {
-            equipment,
-            station,
-            minimum,
+        if is_minimum(profile, minimum) {
+            return UnitStarted {
+                number: ACCEPTED,
+                unit: Unit {
+                    equipment,
+                    station,
+                    minimum,
+                },
+            };
+        }
+        UnitStarted {
+            number: ARGUMENT_OUT_OF_RANGE,
+            unit: Unit {
+                equipment,
+                station,
+                minimum: PRC,
+            },
         }
     }
 

@@ -2,12 +2,12 @@
 -- `half-right`, `one-time`, `refusals-leave`, `output-right` and `independence`; of the selector `demand-2-answers` and
 -- `next-right`; of the card that what holds a state after events is sound. Assumes nothing.
 use Prim.Native.Nat.{ℕ, _<_}
-use mathlib.Core.Bool.{Bool, true, false, not, cond}
+use mathlib.Core.Bool.{Bool, true, false, cond, _&&_}
 use mathlib.Core.List.{List, [], _∷_}
 use mathlib.Core.Logic.{_≢_}
 use mathlib.Core.Path.{_≡_, refl, sym, _∙_, ap, subst}
 use native.Mathlib.Omega.{arith}
-use lib.Dec.{ltb}
+use lib.Dec.{eqb, ltb}
 use lib.ListN.{getD}
 use borrow.Author.Tests.{eq-eqb, ne-eqb, lt-ltb}
 use Rattle.numbers.specs.declared.Event.{Event}
@@ -15,7 +15,7 @@ use Rattle.numbers.specs.declared.profile.Profile.{Profile}
 use Rattle.numbers.specs.declared.quality.Quality.{Quality}
 use Rattle.numbers.specs.From.{started, _following_}
 use Rattle.numbers.specs.Kind.{flag}
-use Rattle.numbers.specs.Profile.{limitsOf, lastPlace, placeOf, startNumber, profileIn}
+use Rattle.numbers.specs.Profile.{limitsOf, lastPlace, optionTwo, startNumber, profileIn}
 use Rattle.numbers.specs.Quality.{quality}
 use Rattle.numbers.specs.Refusal.{accepted, argumentOutOfRange}
 use Rattle.numbers.proofs.Truth.{byBool}
@@ -72,18 +72,18 @@ halfIn-to H.Station = refl
 -- ---- a start
 
 -- a start is refused with 6, or not at all
-refused-number : (out above : Bool)
-    → cond out argumentOutOfRange (cond above argumentOutOfRange accepted) ≢ accepted
-    → cond out argumentOutOfRange (cond above argumentOutOfRange accepted) ≡ argumentOutOfRange
-refused-number true above refused = refl
-refused-number false true refused = refl
-refused-number false false refused = absurd (refused refl)
+refused-number : (within above : Bool)
+    → cond within (cond above argumentOutOfRange accepted) argumentOutOfRange ≢ accepted
+    → cond within (cond above argumentOutOfRange accepted) argumentOutOfRange ≡ argumentOutOfRange
+refused-number false above refused = refl
+refused-number true true refused = refl
+refused-number true false refused = absurd (refused refl)
 
-unitStart-refused : (profile : Profile) (minimum : Quality) → unitStartNumber profile minimum ≢ accepted
-    → unitStartNumber profile minimum ≡ argumentOutOfRange
+unitStart-refused : (option place : ℕ) (minimum : Quality) → unitStartNumber option place minimum ≢ accepted
+    → unitStartNumber option place minimum ≡ argumentOutOfRange
 unfolding unitStartNumber startNumber
-unitStart-refused profile minimum =
-    refused-number (not (isMinimum profile minimum)) (ltb lastPlace (placeOf profile))
+unitStart-refused option place minimum =
+    refused-number (isMinimum (profileIn option place 0) minimum) (eqb option optionTwo && ltb lastPlace place)
 
 -- A minimum, a place or an option that is out of range starts nothing, and any other start is where calls in a row begin.
 pub unit-start-right : (lent : LentUnit) (option place marks minimum : ℕ)
@@ -94,12 +94,12 @@ unit-start-right lent option place marks minimum =
       refused = λ refused.
           byBool (namesOption option)
           (λ named.
-          rw (named, ne-eqb (unitStartNumber (profileIn option place marks) (quality minimum)) accepted refused)
-          (ap (withNumbers lent) (unitStart-refused (profileIn option place marks) (quality minimum) refused)))
+          rw (named, ne-eqb (unitStartNumber option place (quality minimum)) accepted refused)
+          (ap (withNumbers lent) (unitStart-refused option place (quality minimum) refused)))
           (λ other. rw other);
       neither = λ one two. rw (names-neither option one two);
       starts = λ named starts.
-          rw (named, eq-eqb (unitStartNumber (profileIn option place marks) (quality minimum)) accepted starts);
+          rw (named, eq-eqb (unitStartNumber option place (quality minimum)) accepted starts);
     }
 
 -- ---- calls in a row

@@ -124,20 +124,16 @@ module _ (one two : Watch) (sent : List ℕ) (option place marks minimum : ℕ) 
   start-neither not-named a o = (λ j. held (a j) (o j) sent) ∙ (rw (← is, not-named))
 
   module _ (chosen : named ≡ true) (profile : Profile) (p : profile ≡ profileIn option place marks) (number : ℕ)
-      (n : number ≡ unitStartNumber profile (quality minimum)) where
-    number-is : number ≡ unitStartNumber (profileIn option place marks) (quality minimum)
-    number-is = n ∙ ap (λ (start : Profile). unitStartNumber start (quality minimum)) p
-
+      (n : number ≡ unitStartNumber option place (quality minimum)) where
     pub start-refused : (number ≡ accepted → ⊥) → after ≡ withNumber one number → other ≡ withNumber two number
         → held after other sent ≡ started-from
     unfolding startLentUnit
     start-refused not-taken a o =
-        (λ j. held (a j) (o j) sent) ∙ ap (withNumbers (held one two sent)) number-is ∙
+        (λ j. held (a j) (o j) sent) ∙ ap (withNumbers (held one two sent)) n ∙
         (rw (
           ← is,
           chosen,
-          ne-eqb (unitStartNumber (profileIn option place marks) (quality minimum)) accepted
-              (λ e. not-taken (number-is ∙ e)),
+          ne-eqb (unitStartNumber option place (quality minimum)) accepted (λ e. not-taken (n ∙ e)),
         ))
 
     pub start-fresh : (new : List ℕ) → number ≡ accepted → after ≡ halfHeld accepted (freshSelector profile)
@@ -152,7 +148,7 @@ module _ (one two : Watch) (sent : List ℕ) (option place marks minimum : ℕ) 
         (rw (
           ← is,
           chosen,
-          eq-eqb (unitStartNumber (profileIn option place marks) (quality minimum)) accepted (sym number-is ∙ taken),
+          eq-eqb (unitStartNumber option place (quality minimum)) accepted (sym n ∙ taken),
         ))
 
 -- ---- stepLentUnit

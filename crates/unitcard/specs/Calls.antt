@@ -53,13 +53,13 @@ halfLatestBy half (addressed following earlier) = ownNumber half addressed earli
 -- a start in C's hands: where calls in a row begin
 pub record UnitStartRight (lent : LentUnit) (option place marks minimum : ℕ) : Type 0 where
   -- "otherwise 6 and no start": the unit is as it was, but for the numbers
-  pub refused : unitStartNumber (profileIn option place marks) (quality minimum) ≢ accepted
+  pub refused : unitStartNumber option place (quality minimum) ≢ accepted
       → startLentUnit lent option place marks minimum ≡ withNumbers lent argumentOutOfRange
   -- nor does a number that is no option's start one
   pub neither : option ≢ optionOne → option ≢ optionTwo
       → startLentUnit lent option place marks minimum ≡ withNumbers lent argumentOutOfRange
   -- any other start leaves a fresh unit of its profile and minimum, whatever the unit held
-  pub starts : namesOption option ≡ true → unitStartNumber (profileIn option place marks) (quality minimum) ≡ accepted
+  pub starts : namesOption option ≡ true → unitStartNumber option place (quality minimum) ≡ accepted
       → startLentUnit lent option place marks minimum ≡
       unitLentAfter (quality minimum) (started (profileIn option place marks))
 

@@ -120,7 +120,7 @@ lentAt times small words due told stationTimes stationSmall stationWords station
 unfoldable pub startLentUnit : LentUnit → ℕ → ℕ → ℕ → ℕ → LentUnit
 startLentUnit lent option place marks minimum =
     let profile = profileIn option place marks in
-    let number = unitStartNumber profile (quality minimum) in
+    let number = unitStartNumber option place (quality minimum) in
     cond (not (namesOption option)) (withNumbers lent argumentOutOfRange)
     (cond (eqb number accepted) (unitHeld accepted accepted (freshUnit profile (quality minimum)))
     (withNumbers lent number))

@@ -91,7 +91,7 @@ pub extern "C" fn nurrispane_unit_fresh_in(
         return;
     }
     let profile = profile_in(option, place, marks);
-    let number = unit_start_number(profile, Quality(minimum));
+    let number = unit_start_number(option, place, Quality(minimum));
     if number == ACCEPTED {
         start_half(times, small, words, due, told, profile);
         start_half(

@@ -2,15 +2,17 @@
 use Prim.Native.Nat.{ℕ, _≤_, _<_}
 use mathlib.Core.Bool.{Bool, true, false, not}
 use mathlib.Core.List.{List}
-use mathlib.Core.Path.{_≡_, sym, ap, _∙_}
+use mathlib.Core.Path.{_≡_, refl, sym, ap, _∙_}
 use native.Mathlib.Omega.{arith}
+use lib.Dec.{eqb}
 use borrow.Author.Tests.{eq-eqb, ne-eqb, lt-leb, le-leb, not-true, not-false}
+use Rattle.numbers.specs.declared.profile.Place.{Place}
 use Rattle.numbers.specs.declared.profile.Profile.{Profile}
 use Rattle.numbers.specs.declared.profile.Profile.the-variants as P
 use Rattle.numbers.specs.declared.quality.Quality.{Quality}
 use Rattle.numbers.specs.Profile.{limitsOf}
 use Rattle.numbers.specs.Quality.{quality}
-use Rattle.numbers.specs.Refusal.{accepted}
+use Rattle.numbers.proofs.Truth.{byBool}
 use Rattle.digits.specs.Decimal.{decimalValue}
 use Rattle.text.specs.declared.NumberRead.{NumberRead}
 use Rattle.text.specs.declared.NumberRead.the-variants.{Number, NoNumber}
@@ -19,21 +21,21 @@ use Rattle.start.specs.declared.StartRead.{StartRead}
 use Rattle.start.specs.declared.StartRead.the-variants as S
 use Rattle.start.specs.Start.{isOptionWord, isDecimal, startIn}
 use Rattle.start.proofs.StartLaws.{number-above, place-is}
-use Rattle.unit.specs.Unit.{unitStartNumber}
+use Rattle.unit.specs.Unit.{isMinimum}
 use Rattle.unitstart.specs.declared.UnitStart.{UnitStart}
 use Rattle.unitstart.specs.declared.UnitStart.the-variants.{Started, Refused, NoStart}
-use Rattle.unitstart.specs.Start.{numeral1, unitStartOf, unitStartTwo, unitStartIn, unitStartBy}
+use Rattle.unitstart.specs.Start.{numeral1, unitStartOf, unitStartTwo, unitStartIn, unitStartBy, WordsStart}
 
 -- ---- unitStartOf
 
-module _ (profile : Profile) (minimum : Quality) (number : ℕ) (is : number ≡ unitStartNumber profile minimum) where
-  pub unitStartOf-started : number ≡ accepted → Started profile minimum ≡ unitStartOf profile minimum
+module _ (profile : Profile) (minimum : Quality) (within : Bool) (is : within ≡ isMinimum profile minimum) where
+  pub unitStartOf-started : within ≡ true → Started profile minimum ≡ unitStartOf profile minimum
   unfolding unitStartOf
-  unitStartOf-started taken = rw (eq-eqb (unitStartNumber profile minimum) accepted (sym is ∙ taken))
+  unitStartOf-started taken = rw (← is, taken)
 
-  pub unitStartOf-refused : (number ≡ accepted → ⊥) → Refused ≡ unitStartOf profile minimum
+  pub unitStartOf-refused : within ≡ false → Refused ≡ unitStartOf profile minimum
   unfolding unitStartOf
-  unitStartOf-refused left = rw (ne-eqb (unitStartNumber profile minimum) accepted (λ same. left (is ∙ same)))
+  unitStartOf-refused left = rw (← is, left)
 
 pub ruleset unitStartOf-laws = (unitStartOf-started, unitStartOf-refused)
 
@@ -45,7 +47,7 @@ floor-below (P.OptionTwo place marks) = omega arith
 
 -- a minimum above 255 is out of range
 minimum-above : (profile : Profile) (value : ℕ) → 255 < value → Refused ≡ unitStartOf profile (quality value)
-unfolding unitStartOf unitStartNumber
+unfolding unitStartOf
 minimum-above profile value above =
     rw (
       le-leb 1 value (omega arith),
@@ -69,7 +71,7 @@ module _ (profile : Profile) (minimum : List ℕ) (decimal : isDecimal minimum �
 -- ---- unitStartTwo
 
 module _ (start : StartRead) (minimum : Quality) where
-  pub two-started : (place marks : ℕ) (answer : UnitStart) → start ≡ S.Started place marks
+  pub two-started : (place : Place) (marks : ℕ) (answer : UnitStart) → start ≡ S.Started place marks
       → answer ≡ unitStartOf (P.OptionTwo place marks) minimum
       → answer ≡ unitStartTwo start minimum
   unfolding unitStartTwo
@@ -126,3 +128,41 @@ module _ (count : ℕ) (option place marks minimum : List ℕ) where
   by-words start five is = is ∙ (rw (eq-eqb count 5 five))
 
 pub ruleset unitStartBy-laws = (by-other, by-words)
+
+-- ---- what words start
+
+-- a start has a minimum in range
+abbrev inRange : UnitStart → Bool
+inRange (Started profile least) = isMinimum profile least
+inRange Refused = true
+inRange NoStart = true
+
+of-ranged : (profile : Profile) (minimum : Quality) → inRange (unitStartOf profile minimum) ≡ true
+unfolding unitStartOf
+of-ranged profile minimum = byBool (isMinimum profile minimum) (λ taken. rw (taken, taken)) (λ left. rw left)
+
+two-ranged : (start : StartRead) (minimum : Quality) → inRange (unitStartTwo start minimum) ≡ true
+unfolding unitStartTwo
+two-ranged (S.Started place marks) minimum = of-ranged (P.OptionTwo place marks) minimum
+two-ranged S.Refused minimum = refl
+two-ranged S.NoStart minimum = refl
+
+module _ (count : ℕ) (option place marks minimum : List ℕ) where
+  in-ranged : inRange (unitStartIn option place marks minimum) ≡ true
+  unfolding unitStartIn
+  in-ranged =
+      let least = quality (decimalValue 0 minimum) in
+      byBool (isDecimal minimum)
+      (λ decimal.
+      byBool (isOptionWord numeral1 option)
+      (λ one. rw (decimal, one) (of-ranged P.OptionOne least))
+      (λ two. rw (decimal, two) (two-ranged (startIn option place marks) least)))
+      (λ none. rw none)
+
+  by-ranged : inRange (unitStartBy count option place marks minimum) ≡ true
+  unfolding unitStartBy
+  by-ranged = byBool (eqb count 5) (λ five. rw five in-ranged) (λ other. rw other)
+
+  -- L13: the unit refuses no start that its words have been read as.
+  pub words-start : WordsStart count option place marks minimum
+  words-start = record { taken = λ profile least is. sym (ap inRange is) ∙ by-ranged }

@@ -1,7 +1,7 @@
 -- OPTION PLACE MARKS MINIMUM: document 02, L13, and the paper of its readings, "Programs". `startIn` of crate `start`
 -- has `2 PLACE MARKS`. Cited by `src/lib.rt`. Assumes nothing.
 use Prim.Native.Nat.{ℕ}
-use mathlib.Core.Bool.{cond}
+use mathlib.Core.Bool.{true, cond}
 use mathlib.Core.List.{List}
 use mathlib.Core.Path.{_≡_}
 use lib.Dec.{eqb}
@@ -9,12 +9,11 @@ use Rattle.numbers.specs.declared.profile.Profile.{Profile}
 use Rattle.numbers.specs.declared.profile.Profile.the-variants as P
 use Rattle.numbers.specs.declared.quality.Quality.{Quality}
 use Rattle.numbers.specs.Quality.{quality}
-use Rattle.numbers.specs.Refusal.{accepted}
 use Rattle.digits.specs.Decimal.{decimalValue}
 use Rattle.start.specs.declared.StartRead.{StartRead}
 use Rattle.start.specs.declared.StartRead.the-variants as S
 use Rattle.start.specs.Start.{isOptionWord, isDecimal, startIn}
-use Rattle.unit.specs.Unit.{unitStartNumber}
+use Rattle.unit.specs.Unit.{isMinimum}
 use Rattle.unitstart.specs.declared.UnitStart.{UnitStart}
 use Rattle.unitstart.specs.declared.UnitStart.the-variants.{Started, Refused, NoStart}
 
@@ -24,7 +23,7 @@ numeral1 = 49
 
 -- a start of a profile with a minimum: "A refused start prints `06` and nothing else."
 unfoldable pub unitStartOf : Profile → Quality → UnitStart
-unitStartOf profile minimum = cond (eqb (unitStartNumber profile minimum) accepted) (Started profile minimum) Refused
+unitStartOf profile minimum = cond (isMinimum profile minimum) (Started profile minimum) Refused
 
 -- a start of option II, by what START's words `2 PLACE MARKS` say
 unfoldable pub unitStartTwo : StartRead → Quality → UnitStart
@@ -54,3 +53,8 @@ pub record UnitStartReadRight (start : UnitStart) : Type 0 where
   pub marks : List ℕ
   pub minimum : List ℕ
   pub is : start ≡ unitStartBy count option place marks minimum
+
+-- what words start is started: the minimum is one that a unit of the profile takes
+pub record WordsStart (count : ℕ) (option place marks minimum : List ℕ) : Type 0 where
+  pub taken : (profile : Profile) (least : Quality)
+      → unitStartBy count option place marks minimum ≡ Started profile least → isMinimum profile least ≡ true

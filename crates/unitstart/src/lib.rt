@@ -7,13 +7,12 @@
 // a `requires`: a word may have any length and any content.
 use numbers::profile::Profile;
 use numbers::quality::Quality;
-use numbers::refusal::ACCEPTED;
 use start::StartRead;
 use start::is_decimal;
 use start::is_option_word;
 use start::start_in;
 use text::NumberRead;
-use unit::unit_start_number;
+use unit::is_minimum;
 ghost use mathlib.Core.Bool.{true};
 ghost use mathlib.Core.Path.{_≡_};
 ghost use Rattle.numbers.specs.Quality.{quality};
@@ -45,7 +44,7 @@ pub enum UnitStart {
 fn start_of(profile: Profile, minimum: Quality) -> UnitStart
     ensures { λ start. ⌜ start ≡ unitStartOf profile minimum ⌝ }
 {
-    if unit_start_number(profile, minimum) == ACCEPTED {
+    if is_minimum(profile, minimum) {
         return UnitStart::Started(profile, minimum);
     }
     UnitStart::Refused

@@ -19,7 +19,7 @@ use Rattle.lanes.specs.Value.{placeCount, placeOf, valueOf, Placed}
 use Rattle.lanes.specs.Span.{spanOf, nextSpan}
 use Rattle.spans.specs.Spans.{spansFrom}
 use Rattle.verdict.specs.declared.tell.Question.{Question}
-use Rattle.verdict.specs.Told.{Told, AllTold, laneOf, roomOf, lastAt, placedAt, newFrom, pushed, shownIn, sinceSpan, spansSince, overSpans, laneTold, spansTold, lanesOf, placesOf, portsTold, answerTold, allTold, spanTold, spansToldAll}
+use Rattle.verdict.specs.Told.{Told, AllTold, laneOf, roomOf, lastAt, placedAt, newFrom, pushed, shownIn, sinceSpan, spansSince, overSpans, laneTold, spansTold, knownTo, withShown, shownTold, lanesOf, placesOf, portsTold, answerTold, allTold, spanTold, spansToldAll}
 
 module _ (room : List ℕ) (place : ℕ) where
   pub lastAt-place : place < placeCount → getD room place 0 ≡ lastAt room place
@@ -230,6 +230,49 @@ module _ (question : Question) (until : ℕ) (state : Selector) (since : ℕ) (f
     going-on-all next n h =
         over-next (allTold question) until state since first is _ left span _ going some next _ n told-all h
 
+-- ---- a value is shown
+
+module _ (question : Question) (number : ℕ) (lane : Lane) (room : List ℕ) (state : Selector)
+    (due since right border time value : ℕ) (known : Lane) (kept : List ℕ) where
+  told-by : (told : Told) → told ≡ knownTo question number lane room state due since right border
+      → known ≡ laneOf told
+      → kept ≡ roomOf told
+      → withShown question number time value (record { lane = known; room = kept }) ≡
+      shownTold question number lane room state due since right border time value
+  unfolding shownTold
+  told-by told is l r =
+      (λ j. withShown question number time value (record { lane = l j; room = r j })) ∙
+      ap (withShown question number time value) is
+
+  module _ (before : border < due) (l : known ≡ laneOf (pushed question number lane room since border right))
+      (r : kept ≡ roomOf (pushed question number lane room since border right)) where
+    quick : pushed question number lane room since border right ≡
+        knownTo question number lane room state due since right border
+    unfolding knownTo
+    quick = rw (lt-ltb border due before)
+
+    pub quick-lane : (answer : Lane) → answer ≡ shownIn question number known kept time value .lane
+        → answer ≡ laneOf (shownTold question number lane room state due since right border time value)
+    quick-lane answer a = a ∙ ap laneOf (told-by _ quick l r)
+
+    pub quick-room : kept ≡ roomOf (shownTold question number lane room state due since right border time value)
+    quick-room = ap roomOf (told-by _ quick l r)
+
+  module _ (come : due ≤ border)
+      (l : known ≡ laneOf (spansTold question number (spansSince state since border) lane room))
+      (r : kept ≡ roomOf (spansTold question number (spansSince state since border) lane room)) where
+    slow : spansTold question number (spansSince state since border) lane room ≡
+        knownTo question number lane room state due since right border
+    unfolding knownTo
+    slow = rw (le-ltb border due come)
+
+    pub slow-lane : (answer : Lane) → answer ≡ shownIn question number known kept time value .lane
+        → answer ≡ laneOf (shownTold question number lane room state due since right border time value)
+    slow-lane answer a = a ∙ ap laneOf (told-by _ slow l r)
+
+    pub slow-room : kept ≡ roomOf (shownTold question number lane room state due since right border time value)
+    slow-room = ap roomOf (told-by _ slow l r)
+
 -- ---- all lanes
 
 -- what is left of the ports leads to what all of them lead to
@@ -317,6 +360,8 @@ module _ (question : Question) (span : Span) (lanes : List Lane) (room : List �
     answer-room kept k = k ∙ ap placesOf by-answer
 
 pub ruleset told-laws = (lastAt-place, lastAt-none, newFrom-first, newFrom-later, pushed-old-lane, pushed-old-room, pushed-lane, pushed-room, pushed-room-none, shownIn-made, sinceSpan-made)
+
+pub ruleset shown-told-laws = (quick-lane, quick-room, slow-lane, slow-room)
 
 pub ruleset span-laws = (codes-lanes, codes-room, answer-lanes, answer-room)
 

@@ -81,6 +81,23 @@ abbrev pub spansTold : Question → ℕ → List Span → Lane → List ℕ → 
 spansTold question number spans lane room =
     overSpans (laneTold question number) spans (record { lane = lane; room = room })
 
+-- what a lane is told before a value is shown in it: what is right up to a border, of a state that has shown the same
+-- since a time; in one thing where nothing is due by then
+unfoldable pub knownTo : Question → ℕ → Lane → List ℕ → Selector → ℕ → ℕ → ℕ → ℕ → Told
+knownTo question number lane room state due since right border =
+    cond (ltb border due) (pushed question number lane room since border right)
+    (spansTold question number (spansSince state since border) lane room)
+
+-- and the value shown
+abbrev pub withShown : Question → ℕ → ℕ → ℕ → Told → Told
+withShown question number time value known =
+    record { lane = shownIn question number (known .lane) (known .room) time value .lane; room = known .room }
+
+-- a lane is told that a value is shown, and what is right up to a border before that
+unfoldable pub shownTold : Question → ℕ → Lane → List ℕ → Selector → ℕ → ℕ → ℕ → ℕ → ℕ → ℕ → Told
+shownTold question number lane room state due since right border time value =
+    withShown question number time value (knownTo question number lane room state due since right border)
+
 -- all lanes, and when each value of each was right last
 pub record AllTold : Type 0 where
   pub lanes : List Lane

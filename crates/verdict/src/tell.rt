@@ -16,7 +16,7 @@ use selector::Selector;
 ghost use mathlib.Core.Path.{_≡_};
 ghost use Prim.Native.Nat.{max};
 ghost use Rattle.lane.specs.Lane.{capped};
-ghost use Rattle.verdict.specs.Told.{newFrom, lastAt, laneOf, roomOf, pushed, shownIn, sinceSpan, spansSince, spansTold, lanesOf, placesOf, portsTold, spanTold, spansToldAll};
+ghost use Rattle.verdict.specs.Told.{newFrom, lastAt, laneOf, roomOf, pushed, shownIn, shownTold, sinceSpan, spansSince, spansTold, lanesOf, placesOf, portsTold, spanTold, spansToldAll};
 
 // The most spans between two events: each due moment begins one.
 const SPANS: u64 = 49;
@@ -123,6 +123,35 @@ pub fn show(
     let ended = judged.ended;
     write_stretch(view, number, ended, stopped);
     judged.lane
+}
+
+// A lane after a value was shown in it: first it is told what is right up to a border, of what the
+// state has shown since a time; while nothing is due, that is one thing.
+pub fn tell_shown(
+    question: Question,
+    number: usize,
+    lane: Lane,
+    room: &mut [u64; ROOM],
+    state: Selector,
+    due: u64,
+    since: u64,
+    right: u64,
+    border: u64,
+    time: u64,
+    value: u64,
+    stopped: &mut u8,
+) -> Lane
+    ensures { λ answer. ⌜
+        (answer ≡ laneOf (shownTold question number lane (now (room .entry)) state due since right border time value)) ×
+        (now (room .exit) ≡ roomOf
+        (shownTold question number lane (now (room .entry)) state due since right border time value)) ⌝ }
+{
+    if border < due {
+        let known = push(question, number, lane, room, since, border, right, stopped);
+        return show(question, number, known, room, time, value, stopped);
+    }
+    let known = advance(question, number, lane, room, state, since, border, stopped);
+    show(question, number, known, room, time, value, stopped)
 }
 
 // The first span of a state that has shown the same since a time.

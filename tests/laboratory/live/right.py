@@ -118,13 +118,13 @@ def dissector():
     return module
 
 
-def wrongly_dissected(name, frames, zero, late):
-    """How many fields of frames tshark reads otherwise than they should be; says so where it is not there.
+def wrongly_dissected(frames, zero, late):
+    """Where tshark reads frames otherwise than they should be; says so where it is not there.
 
     A frame may come so many ms late and the next one in time, so eleven may stand closer on the wire by as much."""
     if not shutil.which("tshark"):
         print("tshark is not installed: frames are not dissected")
-        return 0
+        return []
     questions = [(one.port, int((one.at - zero) / NS_A_MS), one.octets[SOURCE].hex()) for one in frames]
     window = dissector().WINDOW - late
-    return dissector().judged(name, questions, [one.octets for one in frames], window)
+    return list(dissector().wrong(questions, [one.octets for one in frames], window))

@@ -85,7 +85,7 @@ class Sequences(OnWire):
         self.assertLess(max(abs(ours.time - event.time - 300) for ours, (event, _) in zip(given, plan)), 400)
         self.frames_right(wire, log, zero)
         sent = [one for one in wire.sent_by_card() if one.at >= zero - 2 * right.NS_A_MS]
-        self.assertEqual(right.wrongly_dissected(name, sent, zero, LATE), 0)
+        self.assertEqual(right.wrongly_dissected(sent, zero, LATE), [], name)
 
 
 def add_sequences():

@@ -3,8 +3,7 @@ of document 01, without it.
 
 The proved program converts; the last line's missing LF stays missing, and there and back gives the same bytes. The log is
 written whole or not at all. Exit status 0: converted; 1: refused, and a line on standard error says why: a line is malformed
-(1), or the log is of option II, for which the old form has no byte (21); 2: trouble. A log of more than 1,048,576 octets is
-trouble: the program can't hold it."""
+(1), or the log is of option II, for which the old form has no byte (21); 2: trouble."""
 
 import sys
 
@@ -17,8 +16,8 @@ EXAMPLES = [
     "./nurrispane convert old examples/whole-replay.log -o /tmp/whole-replay.old.log",
 ]
 
-# More than any converted log has: two digits more a line.
-LENGTH = 2 * programs.LARGEST_LOG
+# More than any converted log has: the largest number that the program takes.
+LENGTH = 2**64 - 1
 # What the program says first.
 CONVERTED, MALFORMED, OPTION_TWO = b"00", b"01", b"15"
 # The most digits of a line of the old form.
@@ -32,7 +31,7 @@ def arguments(parser):
 
 
 def run(options):
-    log = programs.read_log(options.log)
+    log = programs.read_log(options.log, None)
     number, _, converted = programs.on_files("convert", [log], LENGTH, first=[options.form]).partition(b"\n")
     if number == CONVERTED:
         write(options.out, converted)

@@ -7,7 +7,7 @@ has it, recorded or not. Times are those of the log in ms. Exit status 0, or 2 f
 import csv
 import io
 
-from nurrispane import answers, inputs, logs, profiles
+from nurrispane import answers, inputs, logs, profiles, proved
 from nurrispane.files import FINE, Trouble, write
 
 SUMMARY = "why each input is selected or isn't, line by line, by what is proved"
@@ -31,7 +31,7 @@ def arguments(parser):
 
 
 def run(options):
-    if options.input is not None and not 0 <= options.input < inputs.INPUTS:
+    if options.input is not None and not 0 <= options.input < proved.INPUTS:
         raise Trouble("there is no input %d: 0 to 15" % options.input)
     log = logs.taken("explain", options.log, options.start)
     if options.line is not None and not 1 <= options.line <= len(log.lines):
@@ -45,9 +45,9 @@ def explained(log, options):
     """Number, event, answer line, facts and reports of each line asked for."""
     asked = [options.line] if options.line else range(1, len(log.lines) + 1)
     reports, done = inputs.Reports(log.profile), 0
-    for known in inputs.along(log.lines, asked, log.profile.start):
+    for known in proved.along(log.lines, asked, log.profile.start):
         for place in range(done, known.number):
-            reports.take(log.lines[place][:-1], known.said[inputs.ANSWER * (place - done):inputs.ANSWER * (place - done) + 2])
+            reports.take(log.lines[place][:-1], known.said[proved.ANSWER * (place - done):proved.ANSWER * (place - done) + 2])
         done = known.number
         yield done, log.line(done), known.answer, known.facts, reports
 
@@ -78,7 +78,7 @@ def in_words(log, options):
         shown = asked_inputs(options, facts, octets)
         if shown:
             yield from table([HEAD] + [cells(each, facts, octets, reports, profile) for each in shown])
-        hidden = [each for each in range(inputs.INPUTS) if each not in shown]
+        hidden = [each for each in range(proved.INPUTS) if each not in shown]
         if hidden and options.input is None:
             yield "  off: %s\n" % logs.ranges(hidden)
         yield "\n"
@@ -99,7 +99,7 @@ def in_csv(log, options):
     for number, line, answer, facts, reports in explained(log, options):
         octets = answers.octets_of(answer)
         time, event = logs.event_in_words(line, profile.option)
-        for each in range(inputs.INPUTS) if options.input is None else [options.input]:
+        for each in range(proved.INPUTS) if options.input is None else [options.input]:
             fact = facts[each]
             told = cells(each, facts, octets, reports, profile)
             reason, said = inputs.why(facts, each, octets, profile, equal=reports.equal(each))

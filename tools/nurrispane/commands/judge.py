@@ -12,12 +12,11 @@ after. The verdict is the program `verdict`'s. --times is the same for lines of 
 --all tells every stretch that is wrong, --csv has them as rows. Exit status 0: all is right; 1: something is wrong, lost or too many;
 2: trouble, also where there is nothing to judge."""
 
-import collections
 import csv
 import io
 import sys
 
-from nurrispane import answered, findings, logs, profiles, shown, verdicts
+from nurrispane import answered, findings, logs, profiles, shown
 from nurrispane.files import FINDING, FINE, Trouble, name_of, write
 
 SUMMARY = "where a card is wrong, by its own answers or by what it shows over time, and why"
@@ -54,27 +53,43 @@ def run(options):
         raise Trouble("--csv has every stretch and nothing else: %s has no effect with it" % ("--all" if options.all else "--candidates"))
     log = logs.taken("judge", options.log, options.start)
     logs.judged_by(log)
-    told = by_shown(log, options) if over_time else by_answers(log, options)
-    found = next(told)
-    write(options.out, "".join(told).encode())
-    return FINDING if found else FINE
+    judged = findings.ByShown(log, options) if over_time else findings.ByAnswers(log, options.answers)
+    if options.csv:
+        told = rows_in_csv(shown_rows(judged) if over_time else answer_rows(judged))
+    else:
+        told = "".join(by_shown(judged, options) if over_time else by_answers(judged, options))
+    write(options.out, told.encode())
+    return FINDING if judged.count else FINE
+
+
+def in_words(title, said, where=""):
+    yield "\n%s\n%s    right: %s\n    card:  %s\n" % (title, where, said.right, said.card)
+    yield from ("    %s\n" % reason for reason in said.reasons)
+
+
+def rows_in_csv(rows):
+    out = io.StringIO()
+    writer = csv.writer(out, lineterminator="\n")
+    writer.writerow(CSV)
+    writer.writerows(rows)
+    return out.getvalue()
 
 
 # ---- by answers
 
 
-def by_answers(log, options):
-    """How many lines differ, and then what is said of them."""
-    judged = findings.ByAnswers(log, options.answers)
-    yield judged.count
-    if options.csv:
-        yield rows_in_csv(in_csv(judged))
-        return
-    lost = "; lost: %d" % sum(map(len, judged.card.lost)) if judged.card.lost else ""
-    extra = "; too many: %d" % sum(map(len, judged.card.extra)) if judged.card.extra else ""
-    yield "lines: %d; answers: %d; wrong: %d%s%s\n" % (len(log.lines), judged.card.count, len(judged.wrong), lost, extra)
-    yield from (line + "\n" for line in on_the_file(judged.card))
-    yield from every_stretch(judged) if options.all else each_sort(judged)
+def by_answers(judged, options):
+    card = judged.card
+    lost = "; lost: %d" % sum(map(len, card.lost)) if card.lost else ""
+    extra = "; too many: %d" % sum(map(len, card.extra)) if card.extra else ""
+    yield "lines: %d; answers: %d; wrong: %d%s%s\n" % (len(judged.log.lines), card.count, len(judged.wrong), lost, extra)
+    yield from (line + "\n" for line in on_the_file(card))
+    titles = every_stretch(judged) if options.all else each_sort(judged)
+    most = len(titles) if options.all else MOST_SORTS
+    for number, said in judged.told(list(titles)[:most]):
+        yield from in_words(titles[number], said, "  %s\n" % said.head)
+    if len(titles) > most:
+        yield "\n%d further sorts of differences are not told: --all tells each\n" % (len(titles) - most)
     if options.candidates is not None:
         yield "\n"
         yield from (line + "\n" for line in (candidates(judged, options.candidates) if judged.wrong else ["no candidates: no answer is wrong"]))
@@ -100,52 +115,26 @@ def on_the_file(card):
 
 
 def each_sort(judged):
-    """The first wrong line of each sort, and how many there are."""
-    sorts = collections.OrderedDict()
-    for number, right, card in judged.wrong:
-        sorts.setdefault(findings.sort_of(right, card), []).append(number)
-    told = list(sorts.items())[:MOST_SORTS]
-    said = dict(judged.told([numbers[0] for _, numbers in told]))
-    for sort, numbers in told:
-        count = "once" if len(numbers) == 1 else "%s times, to line %d" % (format(len(numbers), ","), numbers[-1])
-        yield "\n%s wrong: %s\n" % (", ".join(sort), count)
-        yield from in_words(said[numbers[0]])
-    if len(sorts) > MOST_SORTS:
-        yield "\n%d further sorts of differences are not told: --all tells each\n" % (len(sorts) - MOST_SORTS)
+    """How often each sort of difference comes, by the number of its first line."""
+    return {numbers[0]: "%s wrong: %s" % (sort, "once" if len(numbers) == 1 else "%s times, to line %d" % (format(len(numbers), ","), max(numbers)))
+            for sort, numbers in judged.sorts().items()}
 
 
 def every_stretch(judged):
-    found = {each.first: each for each in findings.stretches(judged.wrong)}
-    for number, said in judged.told(found):
-        each = found[number]
-        lines = "line %d" % number if each.last == number else "lines %d to %d" % (number, each.last)
-        yield "\n%s wrong: %s\n" % (", ".join(findings.sort_of(each.right, each.card)), lines)
-        yield from in_words(said)
+    """Every stretch of wrong lines, by the number of its first line."""
+    return {each.first: "%s wrong: line%s" % (each.sort, " %d" % each.first if each.first == each.last else "s %d to %d" % each[:2])
+            for each in judged.stretches()}
 
 
-def in_words(said):
-    yield "  %s\n    right: %s\n    card:  %s\n" % (said.head, said.right, said.card)
-    yield from ("    %s\n" % reason for reason in said.reasons)
-
-
-def in_csv(judged):
+def answer_rows(judged):
     """Every stretch; lines that were lost or are too many have rows too."""
-    found = {each.first: each for each in findings.stretches(judged.wrong)}
+    found = {each.first: each for each in judged.stretches()}
     time = lambda number: logs.event_in_words(judged.log.line(number), judged.log.profile.option)[0]
     for number, said in judged.told(found):
         each = found[number]
-        yield [time(number), time(each.last), number, each.last, ", ".join(findings.sort_of(each.right, each.card)), said.right, said.card,
-               " | ".join(said.reasons)]
+        yield [time(number), time(each.last), number, each.last, each.sort, said.right, said.card, " | ".join(said.reasons)]
     for gaps, what, noun in ((judged.card.lost, "lost", "line"), (judged.card.extra, "too many", "answer")):
         yield from (["", "", gap.first + 1, gap.last, what, "", "", gap.told(noun)] for gap in gaps)
-
-
-def rows_in_csv(rows):
-    out = io.StringIO()
-    writer = csv.writer(out, lineterminator="\n")
-    writer.writerow(CSV)
-    writer.writerows(rows)
-    return out.getvalue()
 
 
 def candidates(judged, only):
@@ -177,23 +166,17 @@ def alike(one, card):
 # ---- by what is shown over time
 
 
-def by_shown(log, options):
-    """How many stretches are wrong, and then what is said of them."""
-    judged = findings.ByShown(log, options)
-    yield judged.count
-    told = judged.wrong if options.all or options.csv else judged.wrong[:MOST_SORTS]
-    if options.csv:
-        yield rows_in_csv(stretch_row(judged, stretch, said) for stretch, said in judged.told(told))
-        return
+def by_shown(judged, options):
+    told = judged.wrong if options.all else judged.wrong[:MOST_SORTS]
     yield "%s\n%s: %s\n" % (judged.judged(), judged.shown.name, judged.summary())
     yield from (line + "\n" for line in judged.shown.said)
     for _, said in judged.told(told):
-        yield "\n%s\n    right: %s\n    card:  %s\n" % (said.head, said.right, said.card)
-        yield from ("    %s\n" % reason for reason in said.reasons)
+        yield from in_words(said.head, said)
     if len(judged.wrong) > len(told):
         yield "\n%d further stretches are not told: --all tells each\n" % (len(judged.wrong) - len(told))
 
 
-def stretch_row(judged, stretch, said):
-    lines = (verdicts.place_of(judged.times, time) for time in (stretch.start, stretch.end))
-    return [stretch.start, stretch.end, *lines, said.head.rpartition(": ")[2].removesuffix(" wrong"), said.right, said.card, " | ".join(said.reasons)]
+def shown_rows(judged):
+    for stretch, said in judged.told(judged.wrong):
+        lines = map(judged.place_of, (stretch.start, stretch.end))
+        yield [stretch.start, stretch.end, *lines, said.head.rpartition(": ")[2].removesuffix(" wrong"), said.right, said.card, " | ".join(said.reasons)]

@@ -1,6 +1,8 @@
 -- `onestep::late_at` meets its contract: each way is a law. Assumes nothing.
+use Rattle.choice.specs.declared.Selection.the-variants as S
+use Rattle.events.proofs.EventLaws.{late-judged, late-never}
 use Rattle.inplace.specs.Lists.{selectorAt}
-use Rattle.onestep.proofs.StepLaws.{late-judged, late-never}
+use Rattle.inplace.proofs.Turn.{inputs-length}
 use borrow.Author.Needs.{needs}
 use Rattle.onestep.proofs.late_at.Statement.{statement}
 use Rattle.onestep.proofs.late_at.Tie as tie
@@ -8,8 +10,11 @@ use Rattle.onestep.proofs.late_at.Tie as tie
 is-judged-late-requires : tie.Need-is-judged-late-requires
 is-judged-late-requires c κs = search needs
 
-candidates-at-requires : tie.Need-candidates-at-requires
-candidates-at-requires c κs = search needs
+candidate-at-requires : tie.Need-candidate-at-requires
+candidate-at-requires c κs = search needs
+
+leader-at-requires : tie.Need-leader-at-requires
+leader-at-requires c κs = search needs
 
 switch-at-requires : tie.Need-switch-at-requires
 switch-at-requires c κs = search needs
@@ -18,13 +23,16 @@ late-refusal-requires : tie.Need-late-refusal-requires
 late-refusal-requires c κs = search needs
 
 returns : tie.Need-returns
-returns c = let args = c .before .before .before .before .before .args in
+returns c =
+    let leader = c .before .before .before in
+    let own = leader .before in
+    let args = own .before .before .before .args in
     late-judged (selectorAt (args .times .now) (args .small .now) (args .words .now)) (args .event)
-    (c .before .before .candidates-at .result)
-    (c .before .switch-at .result)
-    (c .late-refusal .result)
-    (c .before .before .candidates-at .ensures)
+    (c .before .switch-at .result) (own .candidate-at .result) (leader .leader-at .result) (c .late-refusal .result) S.Nothing
     (c .before .switch-at .ensures (args .times .now) (args .words .now))
+    (own .candidate-at .ensures)
+    (leader .leader-at .ensures)
+    (inputs-length (args .times .now) (args .small .now) (args .words .now))
     (c .late-refusal .ensures)
 
 returns-2 : tie.Need-returns-2
@@ -35,7 +43,8 @@ late-at-spec =
     tie.close
     (tie.spec
     is-judged-late-requires
-    candidates-at-requires
+    candidate-at-requires
+    leader-at-requires
     switch-at-requires
     late-refusal-requires
     returns

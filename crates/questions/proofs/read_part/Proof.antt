@@ -11,17 +11,17 @@ part-end-requires c κs = search needs
 returns : tie.Need-returns
 returns c = search readPart-laws
 
-sub-number-in : tie.Need-sub-number-in
-sub-number-in c = search needs
+sub-read-number : tie.Need-sub-read-number
+sub-read-number c = search needs
 
-part-number-in-start : tie.Need-part-number-in-start
-part-number-in-start c = search needs
+part-read-number-start : tie.Need-part-read-number-start
+part-read-number-start c = search needs
 
-part-number-in-end : tie.Need-part-number-in-end
-part-number-in-end c = search readPart-laws
+part-read-number-end : tie.Need-part-read-number-end
+part-read-number-end c = search readPart-laws
 
-number-in-requires : tie.Need-number-in-requires
-number-in-requires c κs = search needs
+read-number-requires : tie.Need-read-number-requires
+read-number-requires c κs = search needs
 
 enum-known-value : tie.Need-enum-known-value
 enum-known-value c = search needs
@@ -44,10 +44,10 @@ read-part-spec =
     (tie.spec
     part-end-requires
     returns
-    sub-number-in
-    part-number-in-start
-    part-number-in-end
-    number-in-requires
+    sub-read-number
+    part-read-number-start
+    part-read-number-end
+    read-number-requires
     enum-known-value
     enum-told
     returns-2

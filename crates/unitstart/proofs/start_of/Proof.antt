@@ -5,8 +5,8 @@ use borrow.Author.Needs.{needs}
 use Rattle.unitstart.proofs.start_of.Statement.{statement}
 use Rattle.unitstart.proofs.start_of.Tie as tie
 
-unit-start-number-requires : tie.Need-unit-start-number-requires
-unit-start-number-requires c κs = search needs
+is-minimum-requires : tie.Need-is-minimum-requires
+is-minimum-requires c κs = search needs
 
 returns : tie.Need-returns
 returns c = search unitStartOf-laws
@@ -15,4 +15,4 @@ returns-2 : tie.Need-returns-2
 returns-2 c = search unitStartOf-laws
 
 pub start-of-spec : {M : Type 1} → statement M
-start-of-spec = tie.close (tie.spec unit-start-number-requires returns returns-2)
+start-of-spec = tie.close (tie.spec is-minimum-requires returns returns-2)

@@ -11,6 +11,9 @@ enum-told c = search needs
 enum-known-profile : tie.Need-enum-known-profile
 enum-known-profile c = search needs
 
+number-of-place-requires : tie.Need-number-of-place-requires
+number-of-place-requires c κs = search needs
+
 returns : tie.Need-returns
 returns c = search placeOf-laws
 
@@ -18,4 +21,4 @@ returns-2 : tie.Need-returns-2
 returns-2 c = search placeOf-laws
 
 pub place-of-spec : {M : Type 1} → statement M
-place-of-spec = tie.close (tie.spec enum-told enum-known-profile returns returns-2)
+place-of-spec = tie.close (tie.spec enum-told enum-known-profile number-of-place-requires returns returns-2)

@@ -1,14 +1,17 @@
--- `numbers::profile::profile_in` meets its contract: each way is a law.
--- Assumes nothing.
+-- `numbers::profile::profile_in` meets its contract. Assumes nothing.
+use borrow.Author.Needs.{needs}
 use Rattle.numbers.proofs.Profiles.{profileIn-laws}
 use Rattle.numbers.proofs.profile.profile_in.Statement.{statement}
 use Rattle.numbers.proofs.profile.profile_in.Tie as tie
 
+place-in-requires : tie.Need-place-in-requires
+place-in-requires c κs = search needs
+
+profile-with-requires : tie.Need-profile-with-requires
+profile-with-requires c κs = search needs
+
 returns : tie.Need-returns
 returns c = search profileIn-laws
 
-returns-2 : tie.Need-returns-2
-returns-2 c = search profileIn-laws
-
 pub profile-in-spec : {M : Type 1} → statement M
-profile-in-spec = tie.close (tie.spec returns returns-2)
+profile-in-spec = tie.close (tie.spec place-in-requires profile-with-requires returns)

@@ -1,19 +1,54 @@
 -- `selector::Selector::decided` meets its contract: it is the definition, call by call.
 -- Assumes nothing.
 use Rattle.selector.specs.State.{decided}
+use Rattle.selector.proofs.Scanning.{seen-on, decided-one}
 use borrow.Author.Needs.{needs}
 use Rattle.selector.proofs.Selector.decided.Statement.{statement}
 use Rattle.selector.proofs.Selector.decided.Tie as tie
 
-candidates-of-requires : tie.Need-candidates-of-requires
-candidates-of-requires c κs = search needs
+switch-input-requires : tie.Need-switch-input-requires
+switch-input-requires c κs = search needs
+
+place-in-requires : tie.Need-place-in-requires
+place-in-requires c κs = search needs
+
+mul-input : tie.Need-mul-input
+mul-input c = search needs
+
+element-copy-out-input : tie.Need-element-copy-out-input
+element-copy-out-input c = search needs
+
+candidate-for-requires : tie.Need-candidate-for-requires
+candidate-for-requires c κs = search needs
+
+leader-requires : tie.Need-leader-requires
+leader-requires c κs = search needs
 
 decide-requires : tie.Need-decide-requires
 decide-requires c κs = search needs
 
 returns : tie.Need-returns
 unfolding decided
-returns c = rw (c .decide .ensures, c .before .candidates-of .ensures)
+returns c =
+    let state = c .before .before .before .before .before .before .before .args .t1 in
+    let own = c .before .before in
+    let place = own .before .before in
+    let made =
+    decided-one (state .profile) (state .mode) (state .inputs) (state .switch) (state .selection) (state .waslocked) _ _ _
+    (seen-on _ _ _ _ _ _ _ _ (place .before .switch-input .ensures) (place .place-in .ensures)
+    (own .candidate-for .ensures))
+    (c .before .leader .ensures) (c .decide .ensures) (place .place-in .ensures .sixteen) in
+    rw made
 
 pub decided-spec : {M : Type 1} → statement M
-decided-spec = tie.close (tie.spec candidates-of-requires decide-requires returns)
+decided-spec =
+    tie.close
+    (tie.spec
+    switch-input-requires
+    place-in-requires
+    mul-input
+    element-copy-out-input
+    candidate-for-requires
+    leader-requires
+    decide-requires
+    returns)
