@@ -771,9 +771,9 @@ struct nurrispane_unit {
      (nurrispane_unit_octets() == sizeof(struct nurrispane_unit)))
 
 /* No call on a unit takes more stack than NURRISPANE_UNIT_STACK, and each no more than is said of it. */
-#define NURRISPANE_UNIT_STACK       2304U
+#define NURRISPANE_UNIT_STACK       2048U
 #define NURRISPANE_STACK_UNIT_FRESH 768U
-#define NURRISPANE_STACK_UNIT_STEP  2304U
+#define NURRISPANE_STACK_UNIT_STEP  2048U
 
 /* What the library has; as above. The first five arrays are the equipment's, the next five the station's. */
 uint32_t nurrispane_unit_version_in(void);
