@@ -195,13 +195,13 @@ extern "C" {
  * No call takes more stack than NURRISPANE_STACK, and each no more than is said of it, on any of the machines,
  * what it is handed and what its inline function takes included.
  */
-#define NURRISPANE_STACK                3584U
-#define NURRISPANE_STACK_SELF_TEST      3584U
+#define NURRISPANE_STACK                3328U
+#define NURRISPANE_STACK_SELF_TEST      3328U
 #define NURRISPANE_STACK_FRESH          512U
-#define NURRISPANE_STACK_STEP           2048U
-#define NURRISPANE_STACK_TICK_PART      2048U
+#define NURRISPANE_STACK_STEP           1792U
+#define NURRISPANE_STACK_TICK_PART      1792U
 #define NURRISPANE_STACK_NEXT_DUE       512U
-#define NURRISPANE_STACK_IS_SOUND       2048U
+#define NURRISPANE_STACK_IS_SOUND       1792U
 #define NURRISPANE_STACK_INPUT_STATUS   512U
 #define NURRISPANE_STACK_OUTGOING_CODES 768U
 #define NURRISPANE_STACK_OUTGOING_WORDS 512U
