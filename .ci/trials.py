@@ -1,7 +1,9 @@
 """An edit tried: a crate copied into a room of its own, beside links to all that it rests on, the edit made there, and the crate checked
-by `rt dev`, over what the room has checked before. So an edit costs what it changes, and not its whole crate; the prover says the same
-of it. Nothing is written to the repository's crates."""
+by `rt dev`, over what is proved of it as it stands: the checked modules that `rt check` left in its rlib, or, of a program, which has none,
+what the room's first check left. So an edit costs what it changes, and not its whole crate; the prover says the same of it, whatever was
+tried before it. Nothing is written to the repository's crates, nor to what is proved of them."""
 import os
+import re
 import shutil
 import subprocess
 import tempfile
@@ -22,7 +24,9 @@ class Room:
     def __init__(self, crate):
         self.crate, self.root = crate, tempfile.mkdtemp()
         self.folder = f"{self.root}/crates/{crate}"
-        shutil.copy("crates.txt", self.root)
+        os.makedirs(self.folder)
+        # What it rests on is proved: rt is to look at none of it again, at each edit.
+        write(f"{self.root}/crates.txt", re.search(rf"^{crate}:.*\n", read("crates.txt"), re.M).group())
         for part in PARTS:
             if os.path.isdir(f"crates/{crate}/{part}"):
                 shutil.copytree(f"crates/{crate}/{part}", f"{self.folder}/{part}")
@@ -31,7 +35,12 @@ class Room:
                 os.symlink(os.path.abspath(f"crates/{other}"), f"{self.root}/crates/{other}")
         os.mkdir(f"{self.root}/target")
         os.symlink(os.path.abspath("target/rlib"), f"{self.root}/target/rlib")
-        shutil.copytree("target/stamp", f"{self.root}/target/stamp")
+        self.kept, self.proved, rlib = f"{self.root}/target/inc/{crate}", None, f"target/rlib/{crate}.rlib"
+        if os.path.isdir(f"{rlib}/toolchain/checked"):
+            # The prover's own name for the folder: the build that wrote it. Under another name it takes nothing from there.
+            build = re.search(r"^rattle-build (.*)$", read(f"{rlib}/format"), re.M).group(1).replace("/", "_")
+            self.proved = f"{self.root}/proved"
+            shutil.copytree(f"{rlib}/toolchain/checked", f"{self.proved}/{build}")
 
     def __enter__(self):
         return self
@@ -41,7 +50,13 @@ class Room:
 
     def check(self):
         """Checks the crate as it stands; what is said, with places from the crate's folder on, and the exit status."""
+        shutil.rmtree(self.kept, ignore_errors=True)
+        if self.proved:
+            shutil.copytree(self.proved, self.kept)
         done = subprocess.run(["rt", "dev", self.crate], cwd=self.root, capture_output=True, text=True, errors="replace")
+        if not self.proved and done.returncode == 0:
+            self.proved = f"{self.root}/proved"
+            os.rename(self.kept, self.proved)
         return (done.stdout + done.stderr).replace(f"{self.folder}/", ""), done.returncode
 
     def tried(self, pairs):
@@ -71,10 +86,10 @@ def is_refused(said, status):
 
 
 def try_edits(crate, paths):
-    """Tries edits of a crate one after the other. Of each its path, what was said and the exit status; first, where there are several, the
-    crate as it stands, with no path: that fills the room."""
+    """Tries edits of a crate one after the other. Of each its path, what was said and the exit status; first the crate as it stands, with no
+    path, but for one edit of a program, which costs the whole crate in any case."""
     with Room(crate) as room:
-        if len(paths) > 1:
+        if len(paths) > 1 or room.proved:
             yield None, *room.check()
         for path in paths:
             yield path, *room.tried(changes(path))

@@ -66,8 +66,8 @@ def stream(name, source, sink, start=()):
                 process.stdin.write(piece)
                 piece = source.read(CHUNK)
             process.stdin.close()
-        except BrokenPipeError:
-            pass  # the program ended early: the count tells
+        except (BrokenPipeError, ValueError):
+            pass  # the program ended early, or its input was closed as our output failed: the count tells
         except OSError as error:
             failed.append("the log cannot be read: %s" % reason(error))
             process.kill()

@@ -4,33 +4,15 @@
 use inplace::SMALL;
 use inplace::TIMES;
 use inplace::WORDS;
-use inplace::input_at;
-use inplace::mode_at;
 use inplace::profile_at;
-use inplace::time_at;
-use numbers::InputNumber;
 use numbers::LAST_INPUT;
 use numbers::profile::paper_number;
 use numbers::refusal::ACCEPTED;
 use numbers::refusal::INPUT_OUT_OF_RANGE;
-use status::Status;
-use status::status_of;
+use status::input_status;
 ghost use mathlib.Core.Path.{_≡_};
-ghost use Rattle.status.specs.Kept.{inputStatus};
 ghost use Rattle.inplace.specs.Lists.{selectorAt};
 ghost use Rattle.card.specs.Known.{endsKnown, inputKnown};
-
-// What is known of an input, of a fresh one where there is no such number.
-fn status_at(times: &[u64; TIMES], small: &[u8; SMALL], words: &[u16; WORDS], input: u8) -> Status
-    ensures { λ answer. ⌜ answer ≡ inputStatus
-        (selectorAt (now (times .entry)) (now (small .entry)) (now (words .entry))) input ⌝ }
-{
-    let profile = profile_at(small, words);
-    let mode = mode_at(small);
-    let time = time_at(times);
-    let one = input_at(times, small, words, InputNumber(input));
-    status_of(profile, one, mode, time)
-}
 
 // When its timer and its frame end; 0 where nothing is still to end, and where there is no such
 // input.
@@ -46,7 +28,7 @@ pub fn ends_at(
     if LAST_INPUT < input {
         return [0, 0];
     }
-    let status = status_at(times, small, words, input);
+    let status = input_status(times, small, words, input);
     [status.timer, status.frame]
 }
 
@@ -65,7 +47,7 @@ pub fn known_at(
         return [INPUT_OUT_OF_RANGE, 0, 0, 0, 0, 0, 0, 0];
     }
     let profile = profile_at(small, words);
-    let status = status_at(times, small, words, input);
+    let status = input_status(times, small, words, input);
     let priority = status.priority;
     let raw = paper_number(profile, status.raw);
     let passed = paper_number(profile, status.passed);

@@ -18,7 +18,7 @@ use Rattle.choice.specs.declared.Selection.{Selection}
 use Rattle.choice.specs.declared.Selection.the-variants.{Nothing, At}
 use Rattle.choice.specs.declared.Rank.{Rank}
 use Rattle.choice.specs.Rank.{isPlaced, rankOf, floorRank}
-use Rattle.choice.specs.Candidate.{isUsable, isAdmitted, rankedQuality, isEligible, isBetter, isLike}
+use Rattle.choice.specs.Candidate.{isUsable, isAdmitted, rankedQuality, candidateOf, isEligible, isBetter, isLike}
 use Rattle.choice.specs.Leader.{lead, noLeader, seed, bestOf, isPassed, offer}
 
 -- ---- isPlaced, rankOf
@@ -86,18 +86,24 @@ module _ (priority : Priority) (locked : Bool) where
 
 pub ruleset isAdmitted-laws = (isAdmitted-off, isAdmitted-locked, isAdmitted-open)
 
--- ---- rankedQuality
+-- ---- candidateOf
 
-module _ (mode : Bool) (passed : Quality) where
-  pub rankedQuality-on : mode ≡ true → passed ≡ rankedQuality mode passed
-  unfolding rankedQuality
-  rankedQuality-on m = rw m
+module _ (place floor : ℕ) (passed : Quality) (priority : Priority) (locked mode admitted usable : Bool) where
+  pub candidateOf-on : (rank : Rank) → mode ≡ true → admitted ≡ isAdmitted priority locked
+      → rank ≡ rankOf place passed → usable ≡ isUsable mode floor rank passed
+      → record { quality = passed; rank = rank; priority = priority; admitted = admitted; usable = usable }
+      ≡ candidateOf place floor passed priority locked mode
+  unfolding candidateOf rankedQuality
+  candidateOf-on rank m a r u = rw (u, r, a, m)
 
-  pub rankedQuality-off : mode ≡ false → notTold ≡ rankedQuality mode passed
-  unfolding rankedQuality
-  rankedQuality-off m = rw m
+  pub candidateOf-off : mode ≡ false → admitted ≡ isAdmitted priority locked
+      → usable ≡ isUsable mode floor (record { 0 = 0 }) passed
+      → record { quality = notTold; rank = record { 0 = 0 }; priority = priority; admitted = admitted; usable = usable }
+      ≡ candidateOf place floor passed priority locked mode
+  unfolding candidateOf rankedQuality rankOf isPlaced
+  candidateOf-off m a u = rw (u, a, m)
 
-pub ruleset rankedQuality-laws = (rankedQuality-on, rankedQuality-off)
+pub ruleset candidateOf-laws = (candidateOf-on, candidateOf-off)
 
 -- ---- isEligible
 

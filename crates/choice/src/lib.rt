@@ -12,7 +12,7 @@ use numbers::quality::is_failed;
 ghost use mathlib.Core.Path.{_≡_};
 ghost use Rattle.numbers.specs.Truth.{alike};
 ghost use Rattle.choice.specs.Rank.{isPlaced, rankOf, floorRank};
-ghost use Rattle.choice.specs.Candidate.{isUsable, isAdmitted, rankedQuality, candidateOf, isEligible, isBetter, isLike};
+ghost use Rattle.choice.specs.Candidate.{isUsable, isAdmitted, candidateOf, isEligible, isBetter, isLike};
 ghost use Rattle.choice.specs.Leader.{lead, noLeader, seed, bestOf, isPassed, offer};
 
 // What a choice looks at of an input, the floor as it was set, 0 for none: with the profile and the
@@ -26,6 +26,9 @@ pub struct Seen {
 
 // What qualities are compared by, lower is better.
 pub struct Rank(pub u16);
+
+// The rank of all inputs with quality mode off.
+const UNRANKED: Rank = Rank(0);
 
 // One input as a choice sees it: its quality (0 for all with quality mode off) and how it ranks,
 // its priority, whether it is neither off nor locked, and whether its passed quality is usable.
@@ -116,16 +119,6 @@ fn is_admitted(priority: Priority, locked: bool) -> bool
     true
 }
 
-// The quality by which an input ranks.
-fn ranked_quality(mode: bool, passed: Quality) -> Quality
-    ensures { λ answer. ⌜ answer ≡ rankedQuality mode passed ⌝ }
-{
-    if mode {
-        return passed;
-    }
-    NOT_TOLD
-}
-
 impl Seen {
     // Whether a choice sees no difference, and so makes the same of both.
     pub fn is_like(self, other: Seen) -> bool
@@ -144,7 +137,8 @@ impl Seen {
     }
 }
 
-// An input as a choice sees it, where `place` is that of PROV and `floor` the one in force.
+// An input as a choice sees it, where `place` is that of PROV and `floor` the one in force. With
+// quality mode off no quality is ranked: most of the work is for the other.
 pub fn candidate_of(
     place: u8,
     floor: u8,
@@ -155,13 +149,22 @@ pub fn candidate_of(
 ) -> Candidate
     ensures { λ answer. ⌜ answer ≡ candidateOf place floor passed priority locked mode ⌝ }
 {
-    let quality = ranked_quality(mode, passed);
     let admitted = is_admitted(priority, locked);
-    let rank = rank_of(place, quality);
-    let usable = is_usable(mode, floor, rank, passed);
+    if mode {
+        let rank = rank_of(place, passed);
+        let usable = is_usable(mode, floor, rank, passed);
+        return Candidate {
+            quality: passed,
+            rank,
+            priority,
+            admitted,
+            usable,
+        };
+    }
+    let usable = is_usable(mode, floor, UNRANKED, passed);
     Candidate {
-        quality,
-        rank,
+        quality: NOT_TOLD,
+        rank: UNRANKED,
         priority,
         admitted,
         usable,

@@ -1,3 +1,3 @@
--- What reading a file or a number may answer; what printing a text in two parts comes to.
+-- What opening a file or reading a number may answer; what printing a text comes to.
 pub mod Files
 pub mod Printed

@@ -1,10 +1,10 @@
--- What printing a text in two parts comes to. Cited by `src/lib.rt`. Assumes nothing.
+-- What printing a text comes to, in two parts or in any number. Cited by `src/lib.rt`. Assumes nothing.
 use Prim.Native.Nat.{ℕ}
 use mathlib.Core.List.{List}
 use mathlib.Core.Path.{_≡_}
 use lib.ListN.{length}
 use Rattle.calls.specs.declared.Ending.{Ending}
-use Rattle.calls.specs.declared.Ending.the-variants.{Whole}
+use Rattle.calls.specs.declared.Ending.the-variants.{Whole, Unread}
 use Rattle.calls.specs.Calls.{TextTaken}
 use Rattle.files.specs.declared.Printed.{Printed}
 use Rattle.files.specs.declared.Printed.the-variants as P
@@ -21,6 +21,11 @@ pub record Handed (size : ℕ) (printed : Printed) : Type 0 where
   pub sent : ℕ
   pub is : printed ≡ P.Handed ending sent
   pub taken : TextTaken size 0 ending sent
+
+-- so much was taken of a text: of all of it that was handed over; or all, and then nothing more was handed over
+pub data TakenOf (size : ℕ) : Ending → ℕ → Type 0 where
+  handed : (ending : Ending) (sent : ℕ) → TextTaken size 0 ending sent → TakenOf size ending sent
+  stopped : TakenOf size Unread size
 
 -- how printing ended; whole where there was nothing to print
 abbrev pub endingOf : Printed → Ending

@@ -8,7 +8,7 @@ use native.Mathlib.Nat.{mod-eq-of-lt}
 use lib.Dec.{eqb}
 use lib.ListN.{getD, set, length}
 use lib.Seq.{getD-set-same, set-getD}
-use borrow.Author.Tests.{eqb-true}
+use borrow.Author.Tests.{eqb-true, lt-ltb, le-ltb}
 use Rattle.numbers.specs.declared.Answer.{Answer}
 use Rattle.numbers.specs.declared.Event.{Event}
 use Rattle.numbers.specs.declared.profile.Profile.{Profile}
@@ -36,8 +36,8 @@ use Rattle.quickstep.specs.declared.Left.the-variants.{Nothing, Choice, Service
 use Rattle.quickstep.specs.declared.Own.{Own}
 use Rattle.quickstep.specs.declared.Watch.{Watch}
 use Rattle.quickstep.specs.Again.{ownOf, saysAgain, againInput, againOwn}
-use Rattle.quickstep.specs.Own.{isServed, seenAlike, ownTake, ownStep}
-use Rattle.quickstep.specs.Watch.{watchOf, freshWatch, numbered, movedTo, dueAnew, dueAfter, servedWatch, completed, ownPlace, ownPut, ownAt, takeStep, watchStep}
+use Rattle.quickstep.specs.Own.{isServed, seenAlike, ownTake, ownStep, isLeft}
+use Rattle.quickstep.specs.Watch.{watchOf, freshWatch, numbered, movedTo, dueAnew, dueAfter, servedWatch, completed, ownPlace, ownPut, ownAt, ownFrom, takeWith, dueAt, takeStep, isPutAtOnce, watchStep, isAnew}
 use Rattle.onestep.specs.Watched.{sixValues, answerIn, watchHeld, watchAt}
 
 -- ---- what was answered
@@ -143,93 +143,122 @@ service-own before profile mode time due event read is =
     (λ seen. absurd (true≢false (sym (rw (none, other, seen) at is))))))
     (λ refused. absurd (true≢false (sym (rw refused at is))))
 
-module _ (watch : Watch) (event : Event) (read : FrameRead) (before : Input) (profile : Profile) (mode : Bool)
-    (time next : ℕ) (own : Own)
-    (b : before ≡ ownAt (watch .state) event) (p : profile ≡ watch .state .profile) (m : mode ≡ watch .state .mode)
-    (t : time ≡ watch .state .time)
-    (n : next
-    ≡ dueAnew (watch .state .inputs) (watch .state .mode) (watch .state .time) (watch .due) (event .time))
-    (o : own ≡ ownStep before profile mode time next event read) where
-  taken-put : ownPut watch own event read ≡ takeStep watch event read
-  unfolding takeStep
-  taken-put =
-      ap (λ (one : Own). ownPut watch one event read)
-      (o ∙ (λ j. ownStep (b j) (p j) (m j) (t j) (n j) event read))
+-- what was read of a state, and what an event makes of its own input
+pub record Taking (watch : Watch) (next : ℕ) (event : Event) (read : FrameRead) : Type 0 where
+  pub before : Input
+  pub profile : Profile
+  pub mode : Bool
+  pub time : ℕ
+  pub own : Own
+  pub isBefore : before ≡ ownAt (watch .state) event
+  pub isProfile : profile ≡ watch .state .profile
+  pub isMode : mode ≡ watch .state .mode
+  pub isTime : time ≡ watch .state .time
+  pub isOwn : own ≡ ownStep before profile mode time next event read
 
-  pub take-nothing : (after : Selector) (held : Watch) → own .left ≡ Nothing
-      → after ≡ movedTo (watch .state) (set (watch .state .inputs) (ownPlace event) (own .input)) (own .time)
-      → held ≡ watchOf after (own .due) (numbered (own .number) (watch .answer)) 0
-      → held ≡ takeStep watch event read
-  unfolding ownPut completed
-  take-nothing after held l a h =
-      h ∙
-      ap (λ (state : Selector). watchOf state (own .due) (numbered (own .number) (watch .answer)) 0) a ∙
-      ap
-      (λ (left : Left). completed
-      (movedTo (watch .state) (set (watch .state .inputs) (ownPlace event) (own .input)) (own .time))
-      (own .due) (numbered (own .number) (watch .answer)) left event read)
-      (sym l) ∙
-      taken-put
+module _ (watch : Watch) (next : ℕ) (event : Event) (read : FrameRead) (taking : Taking watch next event read) where
+  -- the event's own input as it is taken
+  abbrev own : Own
+  own = taking .own
 
-  pub take-choice : (after : Selector) (held : Watch) → own .left ≡ Choice
-      → after ≡ movedTo (watch .state) (set (watch .state .inputs) (ownPlace event) (own .input)) (own .time)
+  -- the state with that input in it
+  abbrev moved : Selector
+  moved = movedTo (watch .state) (set (watch .state .inputs) (ownPlace event) (own .input)) (own .time)
+
+  -- the answer with the event's number
+  abbrev told : Answer
+  told = numbered (own .number) (watch .answer)
+
+  own-from : own ≡ ownFrom (watch .state) next event read
+  own-from =
+      taking .isOwn ∙
+      (λ j. ownStep (taking .isBefore j) (taking .isProfile j) (taking .isMode j) (taking .isTime j) next event read)
+
+  -- whether the answer was made anew
+  take-left : (left : Left) → own .left ≡ left → isLeft left ≡ isLeft (ownFrom (watch .state) next event read .left)
+  take-left left l = ap isLeft (sym l) ∙ ap (λ (one : Own). isLeft (one .left)) own-from
+
+  -- what is left is done
+  take-completed : (left : Left) → own .left ≡ left
+      → completed moved (own .due) told left event read ≡ takeWith watch next event read
+  unfolding ownPut
+  take-completed left l =
+      ap (λ (one : Left). completed moved (own .due) told one event read) (sym l) ∙
+      ap (λ (one : Own). ownPut watch one event read) own-from
+
+  -- what a way leaves, and whether the answer was made anew
+  abbrev pub Took : Watch → Bool → Type 0
+  Took held anew =
+      (held ≡ takeWith watch next event read) × (anew ≡ isLeft (ownFrom (watch .state) next event read .left))
+
+  pub take-nothing : (after : Selector) (held : Watch) → own .left ≡ Nothing → after ≡ moved
+      → held ≡ watchOf after (own .due) told 0
+      → Took held false
+  unfolding completed isLeft
+  take-nothing after held l a h = (
+    h ∙ ap (λ (state : Selector). watchOf state (own .due) told 0) a ∙ take-completed Nothing l,
+    take-left Nothing l,
+  )
+
+  pub take-choice : (after : Selector) (held : Watch) → own .left ≡ Choice → after ≡ moved
       → held ≡ watchOf (decided after) (own .due) (answerOf (own .number) (decided after)) 0
-      → held ≡ takeStep watch event read
-  unfolding ownPut completed
-  take-choice after held l a h =
-      h ∙
-      ap
-      (λ (state : Selector). watchOf (decided state) (own .due) (answerOf (own .number) (decided state)) 0)
-      a ∙
-      ap
-      (λ (left : Left). completed
-      (movedTo (watch .state) (set (watch .state .inputs) (ownPlace event) (own .input)) (own .time))
-      (own .due) (numbered (own .number) (watch .answer)) left event read)
-      (sym l) ∙
-      taken-put
+      → Took held true
+  unfolding completed isLeft
+  take-choice after held l a h = (
+    h ∙
+        ap
+        (λ (state : Selector). watchOf (decided state) (own .due) (answerOf (own .number) (decided state)) 0)
+        a ∙
+        take-completed Choice l,
+    take-left Choice l,
+  )
 
   module _ (l : own .left ≡ Service) where
-    is : isService (ownStep before profile mode time next event read .left) ≡ true
+    is : isService
+        (ownStep (taking .before) (taking .profile) (taking .mode) (taking .time) next event read .left)
+        ≡ true
     unfolding isService
-    is = ap (λ (one : Own). isService (one .left)) (sym o) ∙ ap isService l
+    is = ap (λ (one : Own). isService (one .left)) (sym (taking .isOwn)) ∙ ap isService l
+
+    kept : (ownStep (taking .before) (taking .profile) (taking .mode) (taking .time) next event read
+        ≡ ownOf (taking .before) (taking .time) next accepted Service)
+        × (earlyRefusal (limitsOf (taking .profile)) (taking .time) (taking .before .settings .kind) event read
+        ≡ accepted)
+    kept = service-own (taking .before) (taking .profile) (taking .mode) (taking .time) next event read is
 
     -- nothing refuses it before its tick
     pub service-accepted : earlyNumber (watch .state) event read ≡ accepted
     service-accepted =
-        let none = service-own before profile mode time next event read is .1 in
         let few : event .input < inputCount =
-        accepted-input (limitsOf profile) time (before .settings .kind) event read none in
+        accepted-input (limitsOf (taking .profile)) (taking .time) (taking .before .settings .kind) event read
+        (kept .1) in
         let here : event .input % inputCount ≡ event .input = mod-eq-of-lt few in
-        (λ j. earlyRefusal (limitsOf (sym p j)) (sym t j)
-        ((ap (λ (place : ℕ). getD (watch .state .inputs) place freshInput) (sym here) ∙ sym b) j .settings .kind)
+        (λ j. earlyRefusal (limitsOf (sym (taking .isProfile) j)) (sym (taking .isTime) j)
+        ((ap (λ (place : ℕ). getD (watch .state .inputs) place freshInput) (sym here) ∙ sym (taking .isBefore)) j
+        .settings .kind)
         event read) ∙
-        none
+        kept .1
 
     -- and its own input is as it was
-    untouched : movedTo (watch .state) (set (watch .state .inputs) (ownPlace event) (own .input)) (own .time)
-        ≡ watch .state
+    untouched : moved ≡ watch .state
     untouched =
-        let whole : own ≡ ownOf before time next accepted Service =
-        o ∙ service-own before profile mode time next event read is .0 in
+        let whole : own ≡ ownOf (taking .before) (taking .time) next accepted Service =
+        taking .isOwn ∙ kept .0 in
         (λ j. movedTo (watch .state)
         (set (watch .state .inputs) (ownPlace event)
-        ((ap (λ (one : Own). one .input) whole ∙ b) j))
-        ((ap (λ (one : Own). one .time) whole ∙ t) j)) ∙
+        ((ap (λ (one : Own). one .input) whole ∙ taking .isBefore) j))
+        ((ap (λ (one : Own). one .time) whole ∙ taking .isTime) j)) ∙
         (λ j. movedTo (watch .state) (set-getD (watch .state .inputs) (ownPlace event) freshInput j)
         (watch .state .time))
 
-    pub take-service : (held : Watch) → held ≡ servedWatch (watch .state) (own .due) event read
-        → held ≡ takeStep watch event read
-    unfolding ownPut completed
-    take-service held h =
-        h ∙
-        ap (λ (state : Selector). servedWatch state (own .due) event read) (sym untouched) ∙
-        ap
-        (λ (left : Left). completed
-        (movedTo (watch .state) (set (watch .state .inputs) (ownPlace event) (own .input)) (own .time))
-        (own .due) (numbered (own .number) (watch .answer)) left event read)
-        (sym l) ∙
-        taken-put
+    pub take-service : (held : Watch) → held ≡ servedWatch (watch .state) (own .due) event read → Took held true
+    unfolding completed isLeft
+    take-service held h = (
+      h ∙
+          ap (λ (state : Selector). servedWatch state (own .due) event read) (sym untouched) ∙
+          take-completed Service l,
+      take-left Service l,
+    )
 
 -- ---- what is said again
 
@@ -249,45 +278,85 @@ framed-own there before due event own b o =
 
 -- ---- any event
 
-module _ (watch : Watch) (event : Event) (read : FrameRead) (before : Input) (profile : Profile) (time : ℕ)
-    (again : Bool)
-    (b : before ≡ ownAt (watch .state) event) (p : profile ≡ watch .state .profile) (t : time ≡ watch .state .time)
-    (s : again ≡ saysAgain before profile time (watch .due) event read) where
-  says : again
-      ≡ saysAgain (ownAt (watch .state) event) (watch .state .profile) (watch .state .time) (watch .due) event read
-  says = s ∙ (λ j. saysAgain (b j) (p j) (t j) (watch .due) event read)
+-- what was read of a state, nothing being due before the time that the watch has for that; whether an event says again
+pub record Asking (watch : Watch) (event : Event) (read : FrameRead) : Type 0 where
+  pub before : Input
+  pub profile : Profile
+  pub time : ℕ
+  pub again : Bool
+  pub isBefore : before ≡ ownAt (watch .state) event
+  pub isProfile : profile ≡ watch .state .profile
+  pub isTime : time ≡ watch .state .time
+  pub isAgain : again ≡ saysAgain before profile time (watch .due) event read
 
-  pub step-again : (own : Own) (after : Selector) (held : Watch) → again ≡ true
-      → own ≡ againOwn before (watch .due) event
-      → after ≡ movedTo (watch .state) (set (watch .state .inputs) (ownPlace event) (own .input)) (own .time)
-      → held ≡ watchOf after (own .due) (numbered (own .number) (watch .answer)) 0
-      → held ≡ watchStep watch event read
-  unfolding watchStep ownPut completed againOwn
-  step-again own after held y o a h =
-      h ∙
-      ap (λ (state : Selector). watchOf state (own .due) (numbered (own .number) (watch .answer)) 0) a ∙
-      ap
-      (λ (one : Own). watchOf
-      (movedTo (watch .state) (set (watch .state .inputs) (ownPlace event) (one .input)) (one .time)) (one .due)
-      (numbered (one .number) (watch .answer)) 0)
-      (o ∙ ap (λ (input : Input). againOwn input (watch .due) event) b) ∙
-      rw (← says, y)
+-- what a step leaves, and whether the answer was made anew
+abbrev pub StepDone : Watch → Event → FrameRead → Watch → Bool → Type 0
+StepDone watch event read held anew = (held ≡ watchStep watch event read) × (anew ≡ isAnew watch event read)
+
+module _ (watch : Watch) (event : Event) (read : FrameRead) (asking : Asking watch event read) where
+  says : asking .again ≡ isPutAtOnce watch event read
+  says =
+      asking .isAgain ∙
+      (λ j. saysAgain (asking .isBefore j) (asking .isProfile j) (asking .isTime j) (watch .due) event read)
 
   -- of the own input only the time of the last frame is stored
-  pub step-framed : (own : Own) (after : Selector) (held : Watch) → again ≡ true
-      → own ≡ againOwn before (watch .due) event
+  pub step-again : (own : Own) (after : Selector) (held : Watch) → asking .again ≡ true
+      → own ≡ againOwn (asking .before) (watch .due) event
       → after ≡ withTime (withFramed (watch .state) (ownPlace event) (own .input .heard .framed)) (own .time)
       → held ≡ watchOf after (own .due) (numbered (own .number) (watch .answer)) 0
-      → held ≡ watchStep watch event read
-  step-framed own after held y o a h =
-      step-again own after held y o
-      (a ∙
+      → StepDone watch event read held false
+  unfolding watchStep isAnew ownPut completed againOwn
+  step-again own after held y o a h =
+      let moved : after ≡ movedTo (watch .state) (set (watch .state .inputs) (ownPlace event) (own .input)) (own .time) =
+      a ∙
       ap
       (λ (input : Input). movedTo (watch .state) (set (watch .state .inputs) (ownPlace event) input) (own .time))
-      (framed-own (ownAt (watch .state) event) before (watch .due) event own b o))
-      h
+      (framed-own (ownAt (watch .state) event) (asking .before) (watch .due) event own (asking .isBefore) o) in (
+        h ∙
+            ap (λ (state : Selector). watchOf state (own .due) (numbered (own .number) (watch .answer)) 0) moved ∙
+            ap
+            (λ (one : Own). watchOf
+            (movedTo (watch .state) (set (watch .state .inputs) (ownPlace event) (one .input)) (one .time)) (one .due)
+            (numbered (one .number) (watch .answer)) 0)
+            (o ∙ ap (λ (input : Input). againOwn input (watch .due) event) (asking .isBefore)) ∙
+            rw (← says, y),
+        rw (← says, y),
+      )
 
-  pub step-taken : (held : Watch) → again ≡ false → held ≡ takeStep watch event read
-      → held ≡ watchStep watch event read
-  unfolding watchStep
-  step-taken held n h = h ∙ rw (← says, n)
+  -- one that does not say again is taken
+  pub step-taken : (held : Watch) (anew : Bool) → asking .again ≡ false → event .time < watch .due
+      → (held ≡ takeWith watch (watch .due) event read)
+      × (anew ≡ isLeft (ownFrom (watch .state) (watch .due) event read .left))
+      → StepDone watch event read held anew
+  unfolding watchStep takeStep isAnew dueAnew
+  step-taken held anew n early taken = (
+    taken .0 ∙ rw (← says, n, lt-ltb (event .time) (watch .due) early),
+    taken .1 ∙ rw (← says, n, lt-ltb (event .time) (watch .due) early),
+  )
+
+-- once the time has come before which nothing was due, nothing is said again, and what is due is made anew
+module _ (watch : Watch) (event : Event) (read : FrameRead) (next : ℕ)
+    (n : next ≡ nextDue (watch .state)) (late : watch .due ≤ event .time) where
+  not-again : (before : Input) (profile : Profile) (time : ℕ)
+      → saysAgain before profile time (watch .due) event read ≡ false
+  unfolding saysAgain
+  not-again before profile time =
+      byBool (eqb (earlyRefusal (limitsOf profile) time (before .settings .kind) event read) accepted)
+      (λ e. rw (e, le-ltb (event .time) (watch .due) late))
+      (λ e. rw e)
+
+  due-is : next ≡ dueAt watch event
+  unfolding dueAnew
+  due-is = n ∙ rw (le-ltb (event .time) (watch .due) late)
+
+  pub step-late : (held : Watch) (anew : Bool)
+      → (held ≡ takeWith watch next event read)
+      × (anew ≡ isLeft (ownFrom (watch .state) next event read .left))
+      → StepDone watch event read held anew
+  unfolding watchStep takeStep isAnew
+  step-late held anew taken =
+      let none : isPutAtOnce watch event read ≡ false =
+      not-again (ownAt (watch .state) event) (watch .state .profile) (watch .state .time) in (
+        taken .0 ∙ ap (λ (due : ℕ). takeWith watch due event read) due-is ∙ rw none,
+        taken .1 ∙ ap (λ (due : ℕ). isLeft (ownFrom (watch .state) due event read .left)) due-is ∙ rw none,
+      )

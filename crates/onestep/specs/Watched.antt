@@ -1,5 +1,5 @@
 -- The watch of `quickstep` as lists of numbers: those of a state, a time before which nothing is due, and what was
--- answered last with how many due moments were served. Cited by `src/watch.rt`. Assumes nothing.
+-- answered last with how many due moments were served. Cited by `src/watch.rt` and `src/held.rt`. Assumes nothing.
 use Prim.Native.Nat.{ℕ}
 use mathlib.Core.List.{List}
 use lib.ListN.{getD}
@@ -7,6 +7,7 @@ use Rattle.numbers.specs.declared.Answer.{Answer}
 use Rattle.selector.specs.declared.Selector.{Selector}
 use Rattle.inplace.specs.Lists.{rest, selectorAt}
 use Rattle.quickstep.specs.declared.Watch.{Watch}
+use Rattle.onestep.specs.declared.held.Held.{Held}
 use Rattle.quickstep.specs.Watch.{watchOf}
 
 -- an answer, by its six values in the order of an answer line
@@ -32,3 +33,7 @@ watchHeld state due told = watchOf state (getD due 0 0) (answerIn told) (getD to
 -- the watch that five lists hold
 unfoldable pub watchAt : List ℕ → List ℕ → List ℕ → List ℕ → List ℕ → Watch
 watchAt times small words due told = watchHeld (selectorAt times small words) due told
+
+-- the watch that five arrays by value hold
+abbrev pub watchIn : Held → Watch
+watchIn held = watchAt (held .times) (held .small) (held .words) (held .due) (held .told)

@@ -3,6 +3,7 @@
 // and a frame read once.
 //
 // Any numbers in the arrays are answered for. No public function has a `requires`.
+pub mod held;
 pub mod watch;
 
 use choice::Selection;

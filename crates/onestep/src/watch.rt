@@ -33,14 +33,15 @@ use quickstep::says_again;
 ghost use Prim.Native.Nat.{ℕ};
 ghost use mathlib.Core.Path.{_≡_};
 ghost use mathlib.Core.List.{List};
-ghost use lib.ListN.{length, set};
+ghost use lib.ListN.{length, getD, set};
 ghost use Rattle.numbers.specs.Refusal.{accepted};
 ghost use Rattle.selector.specs.declared.Selector.{Selector};
 ghost use Rattle.selector.specs.State.{decided};
 ghost use Rattle.selector.specs.Answer.{answerOf};
 ghost use Rattle.inplace.specs.Lists.{selectorAt, withFramed, withTime};
 ghost use Rattle.events.specs.Step.{earlyNumber};
-ghost use Rattle.quickstep.specs.Watch.{watchOf, freshWatch, numbered, movedTo, dueAnew, dueAfter, servedWatch, ownAt, takeStep, watchStep};
+ghost use Rattle.quickstep.specs.Own.{isLeft};
+ghost use Rattle.quickstep.specs.Watch.{watchOf, freshWatch, numbered, movedTo, dueAfter, servedWatch, ownFrom, takeWith, watchStep, isAnew};
 ghost use Rattle.onestep.specs.Watched.{answerIn, watchHeld, watchAt};
 
 // How many numbers each of the two arrays has.
@@ -75,6 +76,27 @@ fn know_told(told: [u8; TOLD])
     ensures { λ _. ⌜ length told ≡ 7 ⌝ }
 {}
 
+// The answer that was told last.
+pub fn answer_in(told: &[u8; TOLD]) -> Answer
+    ensures { λ answer. ⌜ answer ≡ answerIn (now (told .entry)) ⌝ }
+{
+    Answer {
+        number: told[NUMBER],
+        selected: told[SELECTED],
+        clockstate: told[STATE],
+        clockquality: told[QUALITY],
+        switchkind: told[SWITCH],
+        switchinput: told[ON],
+    }
+}
+
+// How many due moments were served for it.
+pub fn count_in(told: &[u8; TOLD]) -> u8
+    ensures { λ count. ⌜ count ≡ getD (now (told .entry)) 6 0 ⌝ }
+{
+    told[COUNT]
+}
+
 // The number of an event stored that no moment was served for and that changes no other value of
 // the answer, with a time before which nothing is due.
 pub fn put_number(due: &mut [u64; DUE], told: &mut [u8; TOLD], next: u64, number: u8)
@@ -87,6 +109,17 @@ pub fn put_number(due: &mut [u64; DUE], told: &mut [u8; TOLD], next: u64, number
     due[NEXT] = next;
     told[NUMBER] = number;
     told[COUNT] = 0;
+}
+
+// The number of what was refused without an event stored, and nothing else.
+pub fn refuse(due: &mut [u64; DUE], told: &mut [u8; TOLD], number: u8)
+    ensures { λ _. ⌜ ((state : Selector) →
+        watchHeld state (now (due .exit)) (now (told .exit)) ≡
+        watchOf state (getD (now (due .entry)) 0 0)
+        (numbered number (answerIn (now (told .entry)))) 0) ⌝ }
+{
+    let known = due[NEXT];
+    put_number(due, told, known, number);
 }
 
 // An answer stored, with how many moments were served and a time before which nothing is due.
@@ -154,27 +187,8 @@ pub fn start_watch(
     tell(due, told, next, answer, 0);
 }
 
-// A time before which nothing is due; once it has come, when something is next due.
-fn due_at(
-    times: &[u64; TIMES],
-    small: &[u8; SMALL],
-    words: &[u16; WORDS],
-    due: u64,
-    time: u64,
-) -> u64
-    ensures { λ answer. ⌜ answer ≡ dueAnew
-        (selectorAt (now (times .entry)) (now (small .entry)) (now (words .entry)) .inputs)
-        (selectorAt (now (times .entry)) (now (small .entry)) (now (words .entry)) .mode)
-        (selectorAt (now (times .entry)) (now (small .entry)) (now (words .entry)) .time)
-        due time ⌝ }
-{
-    if time < due {
-        return due;
-    }
-    next_due(times, small, words)
-}
-
-// Such a time of the state that an event left: till it has come it is only lessened.
+// A time before which nothing is due of the state that an event left: till it has come it is only
+// lessened.
 fn due_left(
     times: &[u64; TIMES],
     small: &[u8; SMALL],
@@ -242,50 +256,73 @@ fn serve_event(
     tell(due, told, later, answer, after.count);
 }
 
-// One event with its frame read, taken by its own input as far as nothing is due and it commands
-// nothing; a choice is made only where it would see that input otherwise than before.
+// An event handed on: it is put together where a call takes it, and not before. A quick step then
+// has none in memory, which is some 16 instructions of a line of the replay.
+fn handed(event: Event) -> Event
+    ensures { λ answer. ⌜ answer ≡ event ⌝ }
+{
+    Event {
+        kind: event.kind,
+        time: event.time,
+        input: event.input,
+        argument: event.argument,
+    }
+}
+
+// One event with its frame read, taken by its own input as far as nothing is due, before `next`,
+// and it commands nothing; a choice is made only where it would see that input otherwise than
+// before. Answers whether the answer was made anew; otherwise it has another number alone.
 fn take(
     times: &mut [u64; TIMES],
     small: &mut [u8; SMALL],
     words: &mut [u16; WORDS],
     due: &mut [u64; DUE],
     told: &mut [u8; TOLD],
-    before: Input,
+    next: u64,
     event: Event,
     read: FrameRead,
-)
-    requires { ⌜ before ≡ ownAt (selectorAt (now times) (now small) (now words)) event ⌝ }
-    ensures { λ _. ⌜
-        watchAt (now (times .exit)) (now (small .exit)) (now (words .exit)) (now (due .exit))
+) -> bool
+    ensures { λ anew. ⌜
+        (watchAt (now (times .exit)) (now (small .exit)) (now (words .exit)) (now (due .exit))
         (now (told .exit)) ≡
-        takeStep
+        takeWith
         (watchAt (now (times .entry)) (now (small .entry)) (now (words .entry))
         (now (due .entry)) (now (told .entry)))
-        event read ⌝ }
+        next event read) ×
+        (anew ≡ isLeft (ownFrom
+        (watchAt (now (times .entry)) (now (small .entry)) (now (words .entry))
+        (now (due .entry)) (now (told .entry)) .state)
+        next event read .left)) ⌝ }
 {
+    let place = InputNumber(event.input % INPUT_COUNT);
+    let before = input_at(times, small, words, place);
     let profile = profile_at(small, words);
     let mode = mode_at(small);
     let time = time_at(times);
-    let next = due_at(times, small, words, due[NEXT], event.time);
     let own = own_step(before, profile, mode, time, next, event, read);
     let input = own.input;
     let left = own.left;
     match left {
         Left::Nothing => {
-            let place = InputNumber(event.input % INPUT_COUNT);
             put_own(times, small, words, place, input, own.time);
             put_number(due, told, own.due, own.number);
+            false
         }
         Left::Choice => {
-            let place = InputNumber(event.input % INPUT_COUNT);
             put_own(times, small, words, place, input, own.time);
             choose(times, small, words, due, told, own.due, own.number);
+            true
         }
-        Left::Service => serve_event(times, small, words, due, told, own.due, event, read),
+        Left::Service => {
+            serve_event(times, small, words, due, told, own.due, event, read);
+            true
+        }
     }
 }
 
-// One event with its frame read: one that says again what was said before is taken at once.
+// One event with its frame read: one that says again what was said before is put at once. What is
+// due is made anew where the time has come before which nothing was. Answers whether the answer was
+// made anew; otherwise it has another number alone.
 pub fn step_watch(
     times: &mut [u64; TIMES],
     small: &mut [u8; SMALL],
@@ -294,26 +331,35 @@ pub fn step_watch(
     told: &mut [u8; TOLD],
     event: Event,
     read: FrameRead,
-)
-    ensures { λ _. ⌜
-        watchAt (now (times .exit)) (now (small .exit)) (now (words .exit)) (now (due .exit))
+) -> bool
+    ensures { λ anew. ⌜
+        (watchAt (now (times .exit)) (now (small .exit)) (now (words .exit)) (now (due .exit))
         (now (told .exit)) ≡
         watchStep
         (watchAt (now (times .entry)) (now (small .entry)) (now (words .entry))
         (now (due .entry)) (now (told .entry)))
-        event read ⌝ }
+        event read) ×
+        (anew ≡ isAnew
+        (watchAt (now (times .entry)) (now (small .entry)) (now (words .entry))
+        (now (due .entry)) (now (told .entry)))
+        event read) ⌝ }
 {
-    let place = InputNumber(event.input % INPUT_COUNT);
-    let before = input_at(times, small, words, place);
-    let profile = profile_at(small, words);
-    let time = time_at(times);
-    if says_again(before, profile, time, due[NEXT], event, read) {
-        let own = again_own(before, due[NEXT], event);
-        let input = own.input;
-        let heard = input.heard;
-        put_again(times, place, heard.framed, own.time);
-        put_number(due, told, own.due, own.number);
-        return;
+    let known = due[NEXT];
+    if event.time < known {
+        let place = InputNumber(event.input % INPUT_COUNT);
+        let before = input_at(times, small, words, place);
+        let profile = profile_at(small, words);
+        let time = time_at(times);
+        if says_again(before, profile, time, known, event, read) {
+            let own = again_own(before, known, event);
+            let input = own.input;
+            let heard = input.heard;
+            put_again(times, place, heard.framed, own.time);
+            put_number(due, told, own.due, own.number);
+            return false;
+        }
+        return take(times, small, words, due, told, known, handed(event), read);
     }
-    take(times, small, words, due, told, before, event, read);
+    let next = next_due(times, small, words);
+    take(times, small, words, due, told, next, handed(event), read)
 }

@@ -6,3 +6,4 @@ pub mod Due
 pub mod Step
 pub mod QuickLaws
 pub mod SameAsPlain
+pub mod Anew

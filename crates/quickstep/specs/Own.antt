@@ -2,7 +2,7 @@
 -- left to do. Cited by `src/lib.rt`.
 -- Assumes nothing.
 use Prim.Native.Nat.{ℕ, _%_, _<_}
-use mathlib.Core.Bool.{Bool, not, _||_, cond}
+use mathlib.Core.Bool.{Bool, true, false, not, _||_, cond}
 use mathlib.Core.List.{List}
 use mathlib.Core.Path.{_≡_}
 use lib.Dec.{eqb, leb}
@@ -21,6 +21,7 @@ use Rattle.due.specs.Next.{lesser, nextOf}
 use Rattle.events.specs.Refusals.{earlyRefusal}
 use Rattle.events.specs.Step.{inputAfter}
 use Rattle.events.specs.Given.{recordedEvent}
+use Rattle.quickstep.specs.declared.Left.{Left}
 use Rattle.quickstep.specs.declared.Left.the-variants.{Nothing, Choice, Service}
 use Rattle.quickstep.specs.declared.Own.{Own}
 use Rattle.quickstep.specs.Again.{ownOf}
@@ -56,3 +57,9 @@ ownStep before profile mode time due event read =
     cond (not (eqb early accepted)) (ownOf before time due early Nothing)
     (cond (isServed due (event .kind) (event .time)) (ownOf before time due accepted Service)
     (ownTake before profile mode due event read))
+
+-- anything is left to do
+unfoldable pub isLeft : Left → Bool
+isLeft Nothing = false
+isLeft Choice = true
+isLeft Service = true

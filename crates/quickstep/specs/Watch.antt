@@ -2,7 +2,7 @@
 -- left is done on all sixteen. Cited by `src/lib.rt`.
 -- Assumes nothing.
 use Prim.Native.Nat.{ℕ, _%_}
-use mathlib.Core.Bool.{Bool, cond}
+use mathlib.Core.Bool.{Bool, not, _&&_, cond}
 use mathlib.Core.List.{List}
 use lib.Dec.{ltb}
 use lib.ListN.{getD, set}
@@ -24,7 +24,7 @@ use Rattle.quickstep.specs.declared.Left.the-variants.{Nothing, Choice, 
 use Rattle.quickstep.specs.declared.Own.{Own}
 use Rattle.quickstep.specs.declared.Watch.{Watch}
 use Rattle.quickstep.specs.Again.{saysAgain, againOwn}
-use Rattle.quickstep.specs.Own.{ownStep}
+use Rattle.quickstep.specs.Own.{ownStep, isLeft}
 
 -- a watch by its parts
 abbrev pub watchOf : Selector → ℕ → Answer → ℕ → Watch
@@ -101,17 +101,40 @@ ownPut watch own event read =
 abbrev pub ownAt : Selector → Event → Input
 ownAt state event = getD (state .inputs) (ownPlace event) freshInput
 
+-- what an event makes of its own input, where nothing is due before a time
+abbrev pub ownFrom : Selector → ℕ → Event → FrameRead → Own
+ownFrom state due event read =
+    ownStep (ownAt state event) (state .profile) (state .mode) (state .time) due event read
+
+-- one event, taken by its own input, where nothing is due before a time
+abbrev pub takeWith : Watch → ℕ → Event → FrameRead → Watch
+takeWith watch due event read = ownPut watch (ownFrom (watch .state) due event read) event read
+
+-- the time before which a watch knows at an event that nothing is due
+abbrev pub dueAt : Watch → Event → ℕ
+dueAt watch event =
+    let state = watch .state in
+    dueAnew (state .inputs) (state .mode) (state .time) (watch .due) (event .time)
+
 -- one event, taken by its own input, once it is known again what is due
 unfoldable pub takeStep : Watch → Event → FrameRead → Watch
-takeStep watch event read =
+takeStep watch event read = takeWith watch (dueAt watch event) event read
+
+-- an event that a watch may put at once: it says again what was said before
+abbrev pub isPutAtOnce : Watch → Event → FrameRead → Bool
+isPutAtOnce watch event read =
     let state = watch .state in
-    let due = dueAnew (state .inputs) (state .mode) (state .time) (watch .due) (event .time) in
-    ownPut watch (ownStep (ownAt state event) (state .profile) (state .mode) (state .time) due event read) event read
+    saysAgain (ownAt state event) (state .profile) (state .time) (watch .due) event read
 
 -- one event: said again, and put at once; or taken
 unfoldable pub watchStep : Watch → Event → FrameRead → Watch
 watchStep watch event read =
-    let state = watch .state in
-    cond (saysAgain (ownAt state event) (state .profile) (state .time) (watch .due) event read)
-    (ownPut watch (againOwn (ownAt state event) (watch .due) event) event read)
+    cond (isPutAtOnce watch event read)
+    (ownPut watch (againOwn (ownAt (watch .state) event) (watch .due) event) event read)
     (takeStep watch event read)
+
+-- the answer to an event is made anew, by a choice or by the plain step; otherwise it is the answer before it with
+-- another number
+unfoldable pub isAnew : Watch → Event → FrameRead → Bool
+isAnew watch event read =
+    not (isPutAtOnce watch event read) && isLeft (ownFrom (watch .state) (dueAt watch event) event read .left)

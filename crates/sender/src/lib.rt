@@ -7,6 +7,10 @@
 use frame::SOURCE_LENGTH;
 use frame::WRITTEN_LENGTH;
 use frame::write_frame;
+use inplace::SMALL;
+use inplace::TIMES;
+use inplace::WORDS;
+use inplace::codes_at;
 use numbers::TIME_LIMIT;
 use numbers::refusal::ACCEPTED;
 use numbers::refusal::ARGUMENT_OUT_OF_RANGE;
@@ -16,7 +20,6 @@ use numbers::refusal::SOURCE_NOT_SIX;
 use numbers::refusal::TIME_BEFORE_STATE;
 use numbers::refusal::TIME_TOO_LARGE;
 use run::has_elapsed;
-use selector::Selector;
 ghost use mathlib.Core.Path.{_≡_};
 ghost use mathlib.Core.List.{_∷_};
 ghost use Prim.Native.Nat.{_≤_};
@@ -24,6 +27,7 @@ ghost use lib.Dec.{ltb};
 ghost use lib.ListN.{length, take};
 ghost use Rattle.numbers.specs.Inputs.{lastInput, inputCount};
 ghost use Rattle.frame.specs.Write.{writtenLength, sourceLength, largestCode};
+ghost use Rattle.inplace.specs.Lists.{selectorAt};
 ghost use Rattle.sender.specs.Heartbeat.{questionOf, questionNumber, contentBy};
 ghost use Rattle.sender.specs.Sender.{freshSenders, isFull, heartbeatDue, heartbeatOf, withFrame, afterHeartbeat, lastAsked, AskOne, AskSenders};
 
@@ -306,19 +310,23 @@ impl Senders {
         }
     }
 
-    // Asks a port's sender at a time, with the selector's state. An answered frame stands in the
-    // first 60 octets of `buffer`; all else in it is kept.
+    // Asks a port's sender at a time, with the selector's state in three lent arrays. An answered
+    // frame stands in the first 60 octets of `buffer`; all else in it is kept.
     pub fn ask(
         mut self,
+        times: &[u64; TIMES],
+        small: &[u8; SMALL],
+        words: &[u16; WORDS],
         port: u64,
         time: u64,
-        state: Selector,
         source: &[u8],
         buffer: &mut [u8],
     ) -> Asked
         ensures { λ answer. ⌜
-            AskSenders
-            self (questionOf port time state (now (source .entry)) (now (buffer .entry)))
+            AskSenders self
+            (questionOf port time
+            (selectorAt (now (times .entry)) (now (small .entry)) (now (words .entry)))
+            (now (source .entry)) (now (buffer .entry)))
             answer (now (buffer .exit)) ⌝ }
     {
         let ports = self.ports;
@@ -340,7 +348,7 @@ impl Senders {
                 heartbeat: Heartbeat::Refused(number),
             };
         }
-        let codes = state.outgoing_codes();
+        let codes = codes_at(times, small, words);
         let code = codes[at];
         let heartbeat = sender.heartbeat(time, code as u32);
         let after = sender.after(heartbeat, time, code as u32);

@@ -5,6 +5,13 @@
 // A state with any numbers in it is answered for, no sum can wrap, and no public function has a
 // `requires`.
 use due::NEVER;
+use inplace::SMALL;
+use inplace::TIMES;
+use inplace::WORDS;
+use inplace::input_at;
+use inplace::mode_at;
+use inplace::profile_at;
+use inplace::time_at;
 use input::Heard;
 use input::Input;
 use numbers::FRAME_LIFE;
@@ -18,10 +25,9 @@ use numbers::quality::Quality;
 use numbers::quality::is_failed;
 use run::Forecast;
 use run::Run;
-use selector::Selector;
 use selector::candidate_for;
-use selector::input_at;
 ghost use mathlib.Core.Path.{_≡_};
+ghost use Rattle.inplace.specs.Lists.{selectorAt};
 ghost use Rattle.status.specs.Status.{endAhead};
 ghost use Rattle.status.specs.Kept.{timerAhead, frameAhead, statusOf, inputStatus};
 
@@ -109,12 +115,20 @@ pub fn status_of(profile: Profile, input: Input, mode: bool, time: u64) -> Statu
     }
 }
 
-// What is known of an input, of a fresh one where there is no such number.
-pub fn input_status(state: Selector, number: u8) -> Status
-    ensures { λ answer. ⌜ answer ≡ inputStatus state number ⌝ }
+// What is known of an input of a state in three lent arrays, of a fresh one where there is no such
+// number.
+pub fn input_status(
+    times: &[u64; TIMES],
+    small: &[u8; SMALL],
+    words: &[u16; WORDS],
+    number: u8,
+) -> Status
+    ensures { λ answer. ⌜ answer ≡ inputStatus
+        (selectorAt (now (times .entry)) (now (small .entry)) (now (words .entry))) number ⌝ }
 {
-    let profile = state.profile;
-    let inputs = state.inputs;
-    let input = input_at(inputs, InputNumber(number));
-    status_of(profile, input, state.mode, state.time)
+    let profile = profile_at(small, words);
+    let mode = mode_at(small);
+    let time = time_at(times);
+    let one = input_at(times, small, words, InputNumber(number));
+    status_of(profile, one, mode, time)
 }

@@ -28,9 +28,8 @@ use Rattle.events.proofs.Demand1.{demand-1-events}
 use Rattle.events.proofs.Calm.{accepted-or-not, sequence-calm}
 use Rattle.unit.specs.declared.Half.{Half}
 use Rattle.unit.specs.declared.Half.the-variants as H
-use Rattle.unit.specs.declared.Unit.{Unit}
 use Rattle.unit.specs.Unit.{Addressed, UnitSequence, goesTo, isFor, timeIn, tickFirst, ownEvents, ownNumber, timeNumber}
-use Rattle.unit.specs.Kept.{isSquelched, sourceOf}
+use Rattle.unit.specs.Kept.{Unit, isSquelched, sourceOf}
 use Rattle.unit.specs.Sequence.{Telling, unitAfter, halfAfter, halfNumber, tellingOf, tellings, stationOutput, outputs}
 use Rattle.unit.specs.Claims.{addressedTo, SentAlike}
 use Rattle.unit.proofs.Runs.{goes-alike}

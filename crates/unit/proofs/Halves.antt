@@ -22,9 +22,8 @@ use Rattle.events.proofs.Demand3.{demand-3, manual-eligible}
 use Rattle.events.proofs.Demand4.{demand-4}
 use Rattle.unit.specs.declared.Half.{Half}
 use Rattle.unit.specs.declared.Half.the-variants as H
-use Rattle.unit.specs.declared.Unit.{Unit}
 use Rattle.unit.specs.Unit.{Addressed, UnitSequence, goesTo, isFor, ownEvents, ownNumber, tellingBy, ownTellings}
-use Rattle.unit.specs.Kept.{halfStep, stepUnitRead, stepUnit}
+use Rattle.unit.specs.Kept.{Unit, halfStep, stepUnitRead, stepUnit}
 use Rattle.unit.specs.Sequence.{halfOf, numberOfHalf, unitAfter, halfAfter, halfNumber, tellingOf, tellings}
 use Rattle.unit.specs.Claims.{HalfRight}
 

@@ -45,9 +45,8 @@ use Rattle.events.proofs.Demand3.{demand-3}
 use Rattle.events.specs.Usable.{NothingUsable}
 use Rattle.events.proofs.Usable.{quality-stated, some-selected, nothing-usable}
 use Rattle.unit.specs.declared.Half.the-variants as H
-use Rattle.unit.specs.declared.Unit.{Unit}
 use Rattle.unit.specs.Unit.{UnitSequence, ownEvents, ownPast, WorseThan, squelchedBy, outputBy, ownOutputs}
-use Rattle.unit.specs.Kept.{isSquelched, sourceOf}
+use Rattle.unit.specs.Kept.{Unit, isSquelched, sourceOf}
 use Rattle.unit.specs.Sequence.{unitAfter, outputs}
 use Rattle.unit.specs.Claims.{OutputRight, ProvWorse}
 use Rattle.unit.proofs.Halves.{half-after, minimum-after}

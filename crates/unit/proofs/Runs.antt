@@ -15,9 +15,8 @@ use Rattle.events.specs.Given.{Given, Sequence, tickAt}
 use Rattle.events.specs.Sequence.{stateAfter, numberAfter}
 use Rattle.unit.specs.declared.Half.{Half}
 use Rattle.unit.specs.declared.Half.the-variants as H
-use Rattle.unit.specs.declared.Unit.{Unit}
 use Rattle.unit.specs.Unit.{Addressed, UnitSequence, goesToBoth, isTo, goesTo, isFor, timeIn, ownEvents}
-use Rattle.unit.specs.Kept.{isSquelched, sourceOf}
+use Rattle.unit.specs.Kept.{Unit, isSquelched, sourceOf}
 use Rattle.unit.specs.Sequence.{unitAfter, halfAfter, halfNumber, tellingOf, tellings, stationOutput, outputs}
 use Rattle.unit.specs.Claims.{otherHalf, addressedTo, SentAlike, CommandOrNone, TwoCommands, DifferOnlyIn, begun, same, commands, SameOf}
 use Rattle.unit.proofs.Halves.{withOwn, numberWith, own-following, half-after, half-number-with, minimum-after}

@@ -22,10 +22,10 @@ use Rattle.events.proofs.Happened.{happened}
 use Rattle.events.proofs.Demand1.{demand-1-events}
 use Rattle.unit.specs.declared.Half.{Half}
 use Rattle.unit.specs.declared.Half.the-variants as H
-use Rattle.unit.specs.declared.Unit.{Unit}
 use Rattle.unit.specs.Unit.{Addressed, UnitSequence, isFor, timeIn, tickFirst, ownEvents, timeNumber, unitTime}
 use Rattle.unit.specs.Sequence.{halfOf, unitAfter, halfNumber}
 use Rattle.unit.specs.Claims.{OneTime, RefusalsLeave}
+use Rattle.unit.specs.Kept.{Unit}
 use Rattle.unit.proofs.Ticks.{timeNumber-again, timeAfter, tick-number, tick-passes, tick-keeps-past, tick-keeps, tick-again, untimely-number, untimely-refused, untimely-keeps-past, untimely-keeps, timely-number}
 use Rattle.unit.proofs.Halves.{withOwn, numberWith, own-following, own-profile, half-after, half-number-with, minimum-after}
 

@@ -2,7 +2,7 @@
 use Prim.Native.Nat.{ℕ, _≤_, _<_}
 use mathlib.Core.Bool.{Bool, true, false, _||_}
 use mathlib.Core.List.{[]}
-use mathlib.Core.Path.{_≡_, refl, _∙_}
+use mathlib.Core.Path.{_≡_, refl, _∙_, ap}
 use lib.Dec.{leb, ltb}
 use borrow.Author.Tests.{eq-eqb, ne-eqb, lt-leb, le-leb}
 use Rattle.numbers.specs.declared.Answer.{Answer}
@@ -25,12 +25,11 @@ use Rattle.selector.specs.State.{freshSelector}
 use Rattle.selector.specs.Answer.{noInput, locked}
 use Rattle.events.specs.declared.Stepped.{Stepped}
 use Rattle.events.specs.Given.{tickAt}
-use Rattle.events.specs.Step.{stepRead}
+use Rattle.events.specs.Step.{stepped, stepRead}
 use Rattle.unit.specs.declared.Half.{Half}
 use Rattle.unit.specs.declared.Half.the-variants as H
-use Rattle.unit.specs.declared.UnitStarted.{UnitStarted}
 use Rattle.unit.specs.Unit.{isMinimum, unitStartNumber, goesToBoth, isTo, goesTo}
-use Rattle.unit.specs.Kept.{startedUnit, halfStep, squelchedBy, sourceBy}
+use Rattle.unit.specs.Kept.{Unit, UnitStarted, startedUnit, halfStep, stepUnitRead, squelchedBy, sourceBy}
 
 -- ---- isMinimum, unitStartNumber, startedUnit
 
@@ -124,18 +123,71 @@ unfolding readCode frameNumber firstThatApplies rightLength
 readCode-none = refl
 
 module _ (state : Selector) (goes : Bool) (event : Event) (read : FrameRead) (ticked : Stepped) where
-  pub halfStep-event : (after : Stepped) → ticked ≡ stepRead state (tickAt (event .time) .event) (R.Refused frameLength)
+  halfStep-event : (after : Stepped) → ticked ≡ stepRead state (tickAt (event .time) .event) (R.Refused frameLength)
       → goes ≡ true → after ≡ stepRead (ticked .state) event read
       → after ≡ halfStep state goes event read
   unfolding halfStep
   halfStep-event after t g a = a ∙ rw (t, g, readCode-none)
 
-  pub halfStep-tick : ticked ≡ stepRead state (tickAt (event .time) .event) (R.Refused frameLength) → goes ≡ false
+  halfStep-tick : ticked ≡ stepRead state (tickAt (event .time) .event) (R.Refused frameLength) → goes ≡ false
       → ticked ≡ halfStep state goes event read
   unfolding halfStep
   halfStep-tick t g = t ∙ rw (g, readCode-none)
 
-pub ruleset halfStep-laws = (halfStep-event, halfStep-tick)
+-- the same of a state in place: its number and its state
+module _ (before : Selector) (goes : Bool) (event : Event) (read : FrameRead) (number count : ℕ) (ticked : Selector)
+    (t : stepped number count ticked ≡ stepRead before (tickAt (event .time) .event) (R.Refused frameLength)) where
+  pub half-ticked : goes ≡ false
+      → (number ≡ halfStep before goes event read .number) × (ticked ≡ halfStep before goes event read .state)
+  half-ticked none =
+      let whole : stepped number count ticked ≡ halfStep before goes event read =
+      halfStep-tick before goes event read (stepped number count ticked) t none in
+      (ap (λ (one : Stepped). one .number) whole, ap (λ (one : Stepped). one .state) whole)
+
+  pub half-taken : (later after : ℕ) (taken : Selector) → goes ≡ true
+      → stepped later after taken ≡ stepRead ticked event read
+      → (later ≡ halfStep before goes event read .number) × (taken ≡ halfStep before goes event read .state)
+  half-taken later after taken one s =
+      let whole : stepped later after taken ≡ halfStep before goes event read =
+      halfStep-event before goes event read (stepped number count ticked) (stepped later after taken) t one s in
+      (ap (λ (one : Stepped). one .number) whole, ap (λ (one : Stepped). one .state) whole)
+
+-- ---- stepUnitRead
+
+module _ (unit : Unit) (to : Half) (event : Event) (read : FrameRead) (profile : Profile) (limits : Limits)
+    (goes gone : Bool) (p : profile ≡ unit .equipment .profile) (l : limits ≡ limitsOf profile)
+    (g : goes ≡ goesTo limits (event .kind) to H.Equipment) (h : gone ≡ goesTo limits (event .kind) to H.Station) where
+  limits-are : limits ≡ limitsOf (unit .equipment .profile)
+  limits-are = l ∙ ap limitsOf p
+
+  pub unit-stepped : (one other : ℕ) (equipment station : Selector)
+      → (one ≡ halfStep (unit .equipment) goes event read .number)
+      × (equipment ≡ halfStep (unit .equipment) goes event read .state)
+      → (other ≡ halfStep (unit .station) gone event read .number)
+      × (station ≡ halfStep (unit .station) gone event read .state)
+      → record {
+        equipment = one;
+        station = other;
+        unit = record { equipment = equipment; station = station; minimum = unit .minimum };
+      }
+      ≡ stepUnitRead unit to event read
+  unfolding stepUnitRead
+  unit-stepped one other equipment station e s =
+      let ours : goes ≡ goesTo (limitsOf (unit .equipment .profile)) (event .kind) to H.Equipment =
+      g ∙ ap (λ (limits : Limits). goesTo limits (event .kind) to H.Equipment) limits-are in
+      let theirs : gone ≡ goesTo (limitsOf (unit .equipment .profile)) (event .kind) to H.Station =
+      h ∙ ap (λ (limits : Limits). goesTo limits (event .kind) to H.Station) limits-are in
+      let first = ap (λ (goes : Bool). halfStep (unit .equipment) goes event read) ours in
+      let second = ap (λ (gone : Bool). halfStep (unit .station) gone event read) theirs in
+      let number = e .0 ∙ ap (λ (one : Stepped). one .number) first in
+      let state = e .1 ∙ ap (λ (one : Stepped). one .state) first in
+      let numbered = s .0 ∙ ap (λ (one : Stepped). one .number) second in
+      let left = s .1 ∙ ap (λ (one : Stepped). one .state) second in
+      λ j. record {
+        equipment = number j;
+        station = numbered j;
+        unit = record { equipment = state j; station = left j; minimum = unit .minimum };
+      }
 
 -- ---- squelchedBy
 

@@ -1,5 +1,5 @@
--- The unit as the code keeps it, and what it makes of an event. Cited by `src/lib.rt`; `Claims` says what it comes to.
--- Assumes nothing.
+-- The unit as the code keeps it, and what it makes of an event. Cited by `src/lib.rt`, and by `src/held.rt` through
+-- `Held`; `Claims` says what it comes to. Assumes nothing.
 use Prim.Native.Nat.{ℕ}
 use mathlib.Core.Bool.{Bool, not, _&&_, _||_, cond}
 use mathlib.Core.List.{List, []}
@@ -22,10 +22,25 @@ use Rattle.events.specs.Given.{tickAt}
 use Rattle.events.specs.Step.{stepRead}
 use Rattle.unit.specs.declared.Half.{Half}
 use Rattle.unit.specs.declared.Half.the-variants as H
-use Rattle.unit.specs.declared.Unit.{Unit}
-use Rattle.unit.specs.declared.UnitStarted.{UnitStarted}
-use Rattle.unit.specs.declared.UnitStepped.{UnitStepped}
 use Rattle.unit.specs.Unit.{isMinimum, goesTo}
+
+-- a unit: a selector for the equipment clock, one for the station output, and the worst quality that the station output
+-- still carries
+pub record Unit : Type 0 where
+  pub equipment : Selector
+  pub station : Selector
+  pub minimum : Quality
+
+-- what an event is answered with: a number of each selector's own, and the unit after it
+pub record UnitStepped : Type 0 where
+  pub equipment : ℕ
+  pub station : ℕ
+  pub unit : Unit
+
+-- a start of a unit: the number that it is answered with, and the unit; beside 6 no unit has started
+pub record UnitStarted : Type 0 where
+  pub number : ℕ
+  pub unit : Unit
 
 -- "It holds two selectors of one profile", and the minimum
 abbrev pub freshUnit : Profile → Quality → Unit

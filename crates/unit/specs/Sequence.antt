@@ -8,9 +8,7 @@ use Rattle.selector.specs.declared.Selector.{Selector}
 use Rattle.selector.specs.Answer.{answerOf, outgoingCodes, outgoingWords}
 use Rattle.unit.specs.declared.Half.{Half}
 use Rattle.unit.specs.declared.Half.the-variants as H
-use Rattle.unit.specs.declared.Unit.{Unit}
-use Rattle.unit.specs.declared.UnitStepped.{UnitStepped}
-use Rattle.unit.specs.Kept.{freshUnit, stepUnit, isSquelched, sourceOf}
+use Rattle.unit.specs.Kept.{Unit, UnitStepped, freshUnit, stepUnit, isSquelched, sourceOf}
 pub use Rattle.unit.specs.Unit.{Addressed, UnitSequence, Telling, Output}
 
 -- the selector of a half

@@ -1,13 +1,16 @@
 // The station clock unit: document 02, L13. Two selectors of one profile: the equipment clock's,
 // and that of the 2 Mbit/s station output, which squelches.
 //
-// The unit asks a selector for its step and its answer, and knows no rule of either. An event's
-// numbers may be anything that their types hold, and no public function has a `requires`.
+// The unit asks a selector for its step and its answer, and knows no rule of either: `half_step` is
+// one selector's, on three lent arrays, and `held` has a unit by value. An event's numbers and those
+// in the arrays may be anything that their types hold, and no public function has a `requires`.
+pub mod held;
+
 use choice::rank_of;
-use events::Stepped;
-use events::step_read;
 use frame::FrameRead;
-use frame::read_code;
+use inplace::SMALL;
+use inplace::TIMES;
+use inplace::WORDS;
 use numbers::Answer;
 use numbers::Event;
 use numbers::kind::KIND_FRAME;
@@ -22,44 +25,21 @@ use numbers::profile::limits_of;
 use numbers::profile::place_of;
 use numbers::profile::profile_in;
 use numbers::profile::start_number;
-use numbers::quality::PRC;
 use numbers::quality::Quality;
-use numbers::refusal::ACCEPTED;
 use numbers::refusal::ARGUMENT_OUT_OF_RANGE;
 use numbers::refusal::FRAME_LENGTH;
+use onestep::step_read;
 use selector::LOCKED;
 use selector::NO_INPUT;
-use selector::Selector;
 ghost use mathlib.Core.Path.{_≡_};
 ghost use Rattle.unit.specs.Unit.{isMinimum, unitStartNumber, goesToBoth, isTo, goesTo};
-ghost use Rattle.unit.specs.Kept.{freshUnit, startedUnit, halfStep, stepUnitRead, stepUnit, squelchedBy, sourceBy, isSquelched, sourceOf};
+ghost use Rattle.inplace.specs.Lists.{selectorAt};
+ghost use Rattle.unit.specs.Kept.{halfStep, squelchedBy, sourceBy};
 
 // The two selectors of a unit, by what they are for.
 pub enum Half {
     Equipment,
     Station,
-}
-
-// The unit: a selector for the equipment clock, one for the station output, and the worst quality
-// that the station output still carries. Its one time is that of either selector.
-pub struct Unit {
-    pub equipment: Selector,
-    pub station: Selector,
-    pub minimum: Quality,
-}
-
-// What an event is answered with: a number of each selector's own, and the unit after it.
-pub struct UnitStepped {
-    pub equipment: u8,
-    pub station: u8,
-    pub unit: Unit,
-}
-
-// A start of a unit: the number that it is answered with, and the unit. Beside 6 no unit has
-// started, and what stands there carries the best quality alone.
-pub struct UnitStarted {
-    pub number: u8,
-    pub unit: Unit,
 }
 
 // Whether a unit of a profile starts with a minimum: 1 to 4, option II 1 to 8.
@@ -128,8 +108,21 @@ pub fn goes_to(limits: Limits, kind: u8, to: Half, half: Half) -> bool
 
 // One selector's own step: a tick at the event's time, and then the event itself where it goes
 // there. A tick has no frame, and none is looked at for it.
-fn half_step(state: Selector, goes: bool, event: Event, read: FrameRead) -> Stepped
-    ensures { λ answer. ⌜ answer ≡ halfStep state goes event read ⌝ }
+pub fn half_step(
+    times: &mut [u64; TIMES],
+    small: &mut [u8; SMALL],
+    words: &mut [u16; WORDS],
+    goes: bool,
+    event: Event,
+    read: FrameRead,
+) -> u8
+    ensures { λ number. ⌜
+        (number ≡
+        halfStep (selectorAt (now (times .entry)) (now (small .entry)) (now (words .entry)))
+        goes event read .number) ×
+        (selectorAt (now (times .exit)) (now (small .exit)) (now (words .exit)) ≡
+        halfStep (selectorAt (now (times .entry)) (now (small .entry)) (now (words .entry)))
+        goes event read .state) ⌝ }
 {
     let tick = Event {
         kind: KIND_TICK,
@@ -138,12 +131,12 @@ fn half_step(state: Selector, goes: bool, event: Event, read: FrameRead) -> Step
         argument: 0,
     };
     let none = FrameRead::Refused(FRAME_LENGTH);
-    let ticked = step_read(state, tick, none);
+    let ticked = step_read(times, small, words, tick, none);
     if goes {
-        let brought = ticked.state;
-        return step_read(brought, event, read);
+        let after = step_read(times, small, words, event, read);
+        return after.number;
     }
-    ticked
+    ticked.number
 }
 
 // Whether an output squelches, which is to send AIS, by what its selector answers: nothing usable
@@ -172,90 +165,4 @@ pub fn source_by(squelched: bool, answer: Answer) -> u8
         return NO_INPUT;
     }
     answer.selected
-}
-
-impl Unit {
-    // A start of a profile with a minimum: two fresh selectors, and the minimum. One that is out of
-    // range is refused with 6.
-    pub fn fresh(profile: Profile, minimum: Quality) -> UnitStarted
-        ensures { λ started. ⌜ started ≡ startedUnit profile minimum ⌝ }
-    {
-        let equipment = Selector::fresh(profile);
-        let station = Selector::fresh(profile);
-        if is_minimum(profile, minimum) {
-            return UnitStarted {
-                number: ACCEPTED,
-                unit: Unit {
-                    equipment,
-                    station,
-                    minimum,
-                },
-            };
-        }
-        UnitStarted {
-            number: ARGUMENT_OUT_OF_RANGE,
-            unit: Unit {
-                equipment,
-                station,
-                minimum: PRC,
-            },
-        }
-    }
-
-    // One event with its frame read, sent to a half: the number of each selector, and the unit
-    // after it.
-    pub fn step_read(self, to: Half, event: Event, read: FrameRead) -> UnitStepped
-        ensures { λ answer. ⌜ answer ≡ stepUnitRead self to event read ⌝ }
-    {
-        let equipment = self.equipment;
-        let station = self.station;
-        let minimum = self.minimum;
-        let profile = equipment.profile;
-        let limits = limits_of(profile);
-        let to_equipment = goes_to(limits, event.kind, to, Half::Equipment);
-        let to_station = goes_to(limits, event.kind, to, Half::Station);
-        let one = half_step(equipment, to_equipment, event, read);
-        let other = half_step(station, to_station, event, read);
-        let equipment_after = one.state;
-        let station_after = other.state;
-        let unit = Unit {
-            equipment: equipment_after,
-            station: station_after,
-            minimum,
-        };
-        UnitStepped {
-            equipment: one.number,
-            station: other.number,
-            unit,
-        }
-    }
-
-    // One event with a lent frame, which counts for a frame event alone.
-    pub fn step(self, to: Half, event: Event, frame: &[u8]) -> UnitStepped
-        ensures { λ answer. ⌜ answer ≡ stepUnit self to event (now (frame .entry)) ⌝ }
-    {
-        let read = read_code(frame);
-        self.step_read(to, event, read)
-    }
-
-    // Whether the station output squelches, which is to send AIS.
-    pub fn is_squelched(self) -> bool
-        ensures { λ answer. ⌜ answer ≡ isSquelched self ⌝ }
-    {
-        let station = self.station;
-        let profile = station.profile;
-        let minimum = self.minimum;
-        let answer = station.answer(ACCEPTED);
-        squelches(answer, station.mode, profile, minimum)
-    }
-
-    // The source identifier of the station output.
-    pub fn source(self) -> u8
-        ensures { λ answer. ⌜ answer ≡ sourceOf self ⌝ }
-    {
-        let squelched = self.is_squelched();
-        let station = self.station;
-        let answer = station.answer(ACCEPTED);
-        source_by(squelched, answer)
-    }
 }

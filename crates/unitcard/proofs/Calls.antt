@@ -34,9 +34,8 @@ use Rattle.events.proofs.Extra.{sequence-ever}
 use Rattle.events.proofs.NextDue.{next-right}
 use Rattle.unit.specs.declared.Half.{Half}
 use Rattle.unit.specs.declared.Half.the-variants as H
-use Rattle.unit.specs.declared.Unit.{Unit}
 use Rattle.unit.specs.Unit.{Addressed, UnitSequence, Telling, isMinimum, unitStartNumber, goesTo, ownEvents, ownPast}
-use Rattle.unit.specs.Kept.{halfStep, stepUnitRead, stepUnit, isSquelched, sourceOf}
+use Rattle.unit.specs.Kept.{Unit, halfStep, stepUnitRead, stepUnit, isSquelched, sourceOf}
 use Rattle.unit.specs.Sequence.{unitAfter, halfAfter, halfNumber, tellings}
 use Rattle.unit.specs.Claims.{otherHalf, DifferOnlyIn, SameOf}
 use Rattle.unit.proofs.Halves.{half-after, half-number-own, minimum-after, half-right}

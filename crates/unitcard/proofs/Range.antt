@@ -17,8 +17,7 @@ use Rattle.selector.specs.Answer.{answerOf}
 use Rattle.events.specs.Given.{tickAt}
 use Rattle.onestep.specs.Watched.{watchAt}
 use Rattle.unit.specs.declared.Half.{Half}
-use Rattle.unit.specs.declared.Unit.{Unit}
-use Rattle.unit.specs.Kept.{halfStep, stepUnitRead, squelchedBy}
+use Rattle.unit.specs.Kept.{Unit, halfStep, stepUnitRead, squelchedBy}
 use Rattle.card.specs.Lent.{eventOf, readFor}
 use Rattle.card.specs.Range.{IsInput, InRange}
 use Rattle.card.proofs.Range.{Named, selectorAt-named, stepRead-named, readFor-unread, answer-inRange}

@@ -11,25 +11,20 @@ use Rattle.numbers.specs.declared.profile.Limits.{Limits}
 use Rattle.numbers.specs.declared.profile.Profile.{Profile}
 use Rattle.numbers.specs.Kind.{flag}
 use Rattle.numbers.specs.Quality.{quality}
-use Rattle.numbers.specs.Refusal.{accepted, argumentOutOfRange, frameLength}
+use Rattle.numbers.specs.Refusal.{accepted, argumentOutOfRange}
 use Rattle.numbers.specs.Profile.{limitsOf, profileIn}
 use Rattle.frame.specs.declared.FrameRead.{FrameRead}
-use Rattle.frame.specs.declared.FrameRead.the-variants as R
 use Rattle.selector.specs.declared.Selector.{Selector}
 use Rattle.selector.specs.State.{freshSelector}
 use Rattle.selector.specs.Answer.{answerOf}
 use Rattle.due.specs.Next.{nextDue}
 use Rattle.events.specs.declared.Stepped.{Stepped}
-use Rattle.events.specs.Given.{tickAt}
-use Rattle.events.specs.Step.{stepped, stepRead}
 use Rattle.quickstep.specs.declared.Watch.{Watch}
 use Rattle.quickstep.specs.Watch.{watchOf}
 use Rattle.unit.specs.declared.Half.{Half}
 use Rattle.unit.specs.declared.Half.the-variants as H
-use Rattle.unit.specs.declared.Unit.{Unit}
 use Rattle.unit.specs.Unit.{unitStartNumber, goesTo}
-use Rattle.unit.specs.Kept.{freshUnit, halfStep, stepUnitRead, squelchedBy, sourceBy}
-use Rattle.unit.proofs.UnitLaws.{halfStep-event, halfStep-tick}
+use Rattle.unit.specs.Kept.{Unit, freshUnit, halfStep, stepUnitRead, squelchedBy, sourceBy}
 use Rattle.card.specs.Lent.{withNumber, namesOption, eventOf, readFor}
 use Rattle.unitcard.specs.Lent.{LentUnit, stationHalf, halfIn, halfHeld, steppedHeld, sentBy, unitIn, unitHeld, withNumbers, startLentUnit, stepLentUnit}
 
@@ -55,24 +50,7 @@ pub half-told : (number : ℕ) (state : Selector) (next : ℕ) (answer : Answer)
     → held ≡ halfHeld number state
 half-told number state next answer held n a h = h ∙ (λ j. watchOf state (n j) (a j) 0)
 
--- ---- halfStep
-
-module _ (before : Selector) (goes : Bool) (event : Event) (read : FrameRead) (number count : ℕ) (ticked : Selector)
-    (t : stepped number count ticked ≡ stepRead before (tickAt (event .time) .event) (R.Refused frameLength)) where
-  pub half-ticked : goes ≡ false
-      → (number ≡ halfStep before goes event read .number) × (ticked ≡ halfStep before goes event read .state)
-  half-ticked none =
-      let whole : stepped number count ticked ≡ halfStep before goes event read =
-      halfStep-tick before goes event read (stepped number count ticked) t none in
-      (ap (λ (one : Stepped). one .number) whole, ap (λ (one : Stepped). one .state) whole)
-
-  pub half-taken : (later after : ℕ) (taken : Selector) → goes ≡ true
-      → stepped later after taken ≡ stepRead ticked event read
-      → (later ≡ halfStep before goes event read .number) × (taken ≡ halfStep before goes event read .state)
-  half-taken later after taken one s =
-      let whole : stepped later after taken ≡ halfStep before goes event read =
-      halfStep-event before goes event read (stepped number count ticked) (stepped later after taken) t one s in
-      (ap (λ (one : Stepped). one .number) whole, ap (λ (one : Stepped). one .state) whole)
+-- ---- steppedHeld
 
 -- what a half holds after its own step
 pub half-stepped : (whole : Stepped) (number : ℕ) (state : Selector) (held : Watch) → number ≡ whole .number

@@ -19,10 +19,8 @@ use Rattle.quickstep.specs.Watch.{watchOf}
 use Rattle.onestep.specs.Watched.{watchAt}
 use Rattle.unit.specs.declared.Half.{Half}
 use Rattle.unit.specs.declared.Half.the-variants as H
-use Rattle.unit.specs.declared.Unit.{Unit}
-use Rattle.unit.specs.declared.UnitStepped.{UnitStepped}
 use Rattle.unit.specs.Unit.{unitStartNumber}
-use Rattle.unit.specs.Kept.{freshUnit, stepUnitRead, squelchedBy, sourceBy}
+use Rattle.unit.specs.Kept.{Unit, UnitStepped, freshUnit, stepUnitRead, squelchedBy, sourceBy}
 use Rattle.card.specs.Lent.{withNumber, namesOption, eventOf, readFor}
 
 -- how long a unit is in C: two cards, and eight octets

@@ -16,17 +16,15 @@ use inplace::next_due;
 use inplace::profile_at;
 use inplace::start;
 use numbers::Event;
-use numbers::kind::KIND_TICK;
 use numbers::profile::Profile;
 use numbers::quality::Quality;
 use numbers::refusal::ACCEPTED;
-use numbers::refusal::FRAME_LENGTH;
-use onestep::step_read;
 use onestep::watch::DUE;
 use onestep::watch::TOLD;
 use onestep::watch::put_number;
 use onestep::watch::tell;
 use unit::Half;
+use unit::half_step;
 use unit::source_by;
 use unit::squelches;
 ghost use mathlib.Core.Path.{_≡_};
@@ -76,39 +74,6 @@ fn tell_half(
     let next = next_due(times, small, words);
     let answer = answer_at(times, small, words, number);
     tell(due, told, next, answer, 0);
-}
-
-// A half's own step: a tick at the event's time, and then the event itself where it goes there. A
-// tick has no frame, and none is looked at for it.
-fn half_step(
-    times: &mut [u64; TIMES],
-    small: &mut [u8; SMALL],
-    words: &mut [u16; WORDS],
-    goes: bool,
-    event: Event,
-    read: FrameRead,
-) -> u8
-    ensures { λ number. ⌜
-        (number ≡
-        halfStep (selectorAt (now (times .entry)) (now (small .entry)) (now (words .entry)))
-        goes event read .number) ×
-        (selectorAt (now (times .exit)) (now (small .exit)) (now (words .exit)) ≡
-        halfStep (selectorAt (now (times .entry)) (now (small .entry)) (now (words .entry)))
-        goes event read .state) ⌝ }
-{
-    let tick = Event {
-        kind: KIND_TICK,
-        time: event.time,
-        input: 0,
-        argument: 0,
-    };
-    let none = FrameRead::Refused(FRAME_LENGTH);
-    let ticked = step_read(times, small, words, tick, none);
-    if goes {
-        let after = step_read(times, small, words, event, read);
-        return after.number;
-    }
-    ticked.number
 }
 
 // A half's own step, and what it answers.

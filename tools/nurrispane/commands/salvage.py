@@ -3,9 +3,8 @@ each line that is dropped with its refusal.
 
 The proved program makes the new log; its lines replay to the answers they had. Where a line whose time was torn is kept, and shuts
 out what comes after it, that line is named. NEW is written whole or not at all: a
-crash leaves the file that was there, or the new one. Exit status 0: nothing is dropped; 1: something is; 2: trouble. A
-log of more than 1,048,576 octets, or one with more than 32,768 lines to drop, is trouble: the program can't hold it, and
-nothing is written."""
+crash leaves the file that was there, or the new one. Exit status 0: nothing is dropped; 1: something is; 2: trouble. The
+log has any length; one with more than 32,768 lines to drop is trouble, and nothing is written."""
 
 import os
 
@@ -29,7 +28,7 @@ def arguments(parser):
 def run(options):
     if os.path.exists(options.log) and os.path.exists(options.out) and os.path.samefile(options.log, options.out):
         raise Trouble("%s is the damaged log itself: what is dropped would be lost" % name_of(options.out))
-    log = programs.read_log(options.log)
+    log = programs.read_log(options.log, None)
     logs.word_on_old_form("salvage", options.log, log)
     report, salvaged = kept(log)
     write(options.out, salvaged)
@@ -39,7 +38,7 @@ def run(options):
 
 def kept(log):
     """The lines that are dropped, each with its refusal, and the new log."""
-    number, _, rest = programs.on_files("salvage", [log], programs.LARGEST_LOG, PLACES).partition(b"\n")
+    number, _, rest = programs.on_files("salvage", [log], len(log), PLACES).partition(b"\n")
     if number == TOO_SHORT:
         raise Trouble("more than %s lines would be dropped: nothing is written" % format(PLACES // 2, ","))
     if number != b"00":

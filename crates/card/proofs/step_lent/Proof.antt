@@ -30,7 +30,7 @@ returns c = let args = c .before .before .before .before .before .before .before
     (c .before .before .before .before .before .before .before .before .before .before .before .before .read-for .result)
     (c .before .before .before .before .before .before .before .before .before .before .before .before .read-for .ensures)
     (ranged .ensures)
-    (c .step-watch .ensures)
+    (c .step-watch .ensures .0)
 
 pub step-lent-spec : {M : Type 1} → statement M
 step-lent-spec =

@@ -11,8 +11,8 @@ returns c = search inputKnown-none
 profile-at-requires : tie.Need-profile-at-requires
 profile-at-requires c κs = search needs
 
-status-at-requires : tie.Need-status-at-requires
-status-at-requires c κs = search needs
+input-status-requires : tie.Need-input-status-requires
+input-status-requires c κs = search needs
 
 paper-number-requires : tie.Need-paper-number-requires
 paper-number-requires c κs = search needs
@@ -33,12 +33,12 @@ returns-2 : tie.Need-returns-2
 returns-2 c = let args = c .before .before .before .before .before .before .before .before .before .args in
     inputKnown-known (selectorAt (args .times .now) (args .small .now) (args .words .now)) (args .input)
     (c .before .before .before .before .before .before .before .profile-at .result)
-    (c .before .before .before .before .before .before .status-at .result)
+    (c .before .before .before .before .before .before .input-status .result)
     (c .before .before .before .before .paper-number .result)
     (c .before .before .before .paper-number2 .result)
     (search needs)
     (c .before .before .before .before .before .before .before .profile-at .ensures (args .times .now))
-    (c .before .before .before .before .before .before .status-at .ensures)
+    (c .before .before .before .before .before .before .input-status .ensures)
     (c .before .before .before .before .paper-number .ensures)
     (c .before .before .before .paper-number2 .ensures)
 
@@ -48,7 +48,7 @@ known-at-spec =
     (tie.spec
     returns
     profile-at-requires
-    status-at-requires
+    input-status-requires
     paper-number-requires
     paper-number-requires-2
     cast-t11

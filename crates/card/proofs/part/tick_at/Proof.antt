@@ -21,7 +21,7 @@ returns c = let args = c .before .before .before .before .before .before .before
     (watchAt (all .0) (all .1 .0) (all .1 .1 .0) (all .1 .1 .1 .0) (all .1 .1 .1 .1 .0))
     (args .time)
     (ranged .ensures)
-    (c .step-watch .ensures)
+    (c .step-watch .ensures .0)
 
 pub tick-at-spec : {M : Type 1} → statement M
 tick-at-spec = tie.close (tie.spec make-ranged-requires step-watch-requires returns)

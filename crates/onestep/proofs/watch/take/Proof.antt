@@ -1,10 +1,14 @@
 -- `onestep::watch::take` meets its contract: each way is a law. Assumes nothing.
 use Rattle.inplace.specs.Lists.{selectorAt}
+use Rattle.quickstep.specs.declared.Watch.{Watch}
 use Rattle.onestep.specs.Watched.{watchHeld, watchAt}
-use Rattle.onestep.proofs.Watched.{take-nothing, take-choice, take-service, service-accepted}
+use Rattle.onestep.proofs.Watched.{Taking, take-nothing, take-choice, take-service, service-accepted}
 use borrow.Author.Needs.{needs}
 use Rattle.onestep.proofs.watch.take.Statement.{statement}
 use Rattle.onestep.proofs.watch.take.Tie as tie
+
+input-at-requires : tie.Need-input-at-requires
+input-at-requires c κs = search needs
 
 profile-at-requires : tie.Need-profile-at-requires
 profile-at-requires c κs = search needs
@@ -14,12 +18,6 @@ mode-at-requires c κs = search needs
 
 time-at-requires : tie.Need-time-at-requires
 time-at-requires c κs = search needs
-
-element-copy-out-due-at : tie.Need-element-copy-out-due-at
-element-copy-out-due-at c = search needs
-
-due-at-requires : tie.Need-due-at-requires
-due-at-requires c κs = search needs
 
 own-step-requires : tie.Need-own-step-requires
 own-step-requires c κs = search needs
@@ -45,75 +43,63 @@ choose-requires c κs = search needs
 enum-told-3 : tie.Need-enum-told-3
 enum-told-3 c = search needs
 
-serve-event-requires : tie.Need-serve-event-requires
+-- the start
+abbrev start : tie.After-own-step → tie.Start
+start a = a .before .before .before .before .before .before .before .before .before .before .before .before .before
+
+-- the watch that the arrays held then
+abbrev watch : tie.After-own-step → Watch
+watch a =
+    let args = start a .args in
+    watchAt (args .times .now) (args .small .now) (args .words .now) (args .due .now) (args .told .now)
+
+-- what was read of it, and what the event makes of its own input
+taking : (a : tie.After-own-step)
+    → let args = start a .args in
+    Taking (watch a) (args .next) (args .event) (args .read)
 unfolding watchAt
-serve-event-requires c κs = let args = c .before .before .before .before .before .before .before .before .before .before .before .before .before .before .before .before .before .before .before .before .before .args in
-    service-accepted
-    (watchAt (args .times .now) (args .small .now) (args .words .now) (args .due .now) (args .told .now))
-    (args .event)
-    (args .read)
-    (args .before)
-    (c .before .before .before .before .before .before .before .before .before .before .before .before .before .before .before .before .before .before .profile-at .result)
-    (c .before .before .before .before .before .before .before .before .before .before .before .before .before .before .before .before .mode-at .result)
-    (c .before .before .before .before .before .before .before .before .before .before .before .before .before .before .time-at .result)
-    (c .before .before .before .before .before .before .before .before .before .due-at .result)
-    (c .before .before .before .before .before .before .before .before .own-step .result)
-    (c .before .before .before .before .before .before .before .before .before .before .before .before .before .before .before .before .before .before .before .before .before .pre)
-    (c .before .before .before .before .before .before .before .before .before .before .before .before .before .before .before .before .before .before .profile-at .ensures (args .times .now))
-    (c .before .before .before .before .before .before .before .before .before .before .before .before .before .before .before .before .mode-at .ensures (args .times .now) (args .words .now))
-    (c .before .before .before .before .before .before .before .before .before .before .before .before .before .before .time-at .ensures (args .small .now) (args .words .now))
-    (c .before .before .before .before .before .before .before .before .before .due-at .ensures)
-    (c .before .before .before .before .before .before .before .before .own-step .ensures)
-    (search needs)
+taking a =
+    let args = start a .args in
+    let time = a .before in
+    let mode = time .before .before in
+    let profile = mode .before .before in
+    let input = profile .before .before .before in
+    record {
+      before = input .input-at .result;
+      profile = profile .profile-at .result;
+      mode = mode .mode-at .result;
+      time = time .time-at .result;
+      own = a .own-step .result;
+      isBefore = input .input-at .ensures;
+      isProfile = profile .profile-at .ensures (args .times .now);
+      isMode = mode .mode-at .ensures (args .times .now) (args .words .now);
+      isTime = time .time-at .ensures (args .small .now) (args .words .now);
+      isOwn = a .own-step .ensures;
+    }
+
+serve-event-requires : tie.Need-serve-event-requires
+unfolding watchAt taking
+serve-event-requires c κs =
+    service-accepted _ _ _ _ (taking (c .before .before .before .before .before .before .before .before)) (search needs)
 
 returns : tie.Need-returns
-unfolding watchAt
-returns c = let args = c .before .before .before .before .before .before .before .before .before .before .before .before .before .before .before .before .before .before .before .before .before .before .before .before .args in
+unfolding watchAt taking
+returns c =
     let put = c .before .before .before .put-own in
     let after = selectorAt (put .last .0) (put .last .1 .0) (put .last .1 .1 .0) in
-    take-nothing
-    (watchAt (args .times .now) (args .small .now) (args .words .now) (args .due .now) (args .told .now))
-    (args .event)
-    (args .read)
-    (args .before)
-    (c .before .before .before .before .before .before .before .before .before .before .before .before .before .before .before .before .before .before .before .before .before .profile-at .result)
-    (c .before .before .before .before .before .before .before .before .before .before .before .before .before .before .before .before .before .before .before .mode-at .result)
-    (c .before .before .before .before .before .before .before .before .before .before .before .before .before .before .before .before .before .time-at .result)
-    (c .before .before .before .before .before .before .before .before .before .before .before .before .due-at .result)
-    (c .before .before .before .before .before .before .before .before .before .before .before .own-step .result)
-    (c .before .before .before .before .before .before .before .before .before .before .before .before .before .before .before .before .before .before .before .before .before .before .before .before .pre)
-    (c .before .before .before .before .before .before .before .before .before .before .before .before .before .before .before .before .before .before .before .before .before .profile-at .ensures (args .times .now))
-    (c .before .before .before .before .before .before .before .before .before .before .before .before .before .before .before .before .before .before .before .mode-at .ensures (args .times .now) (args .words .now))
-    (c .before .before .before .before .before .before .before .before .before .before .before .before .before .before .before .before .before .time-at .ensures (args .small .now) (args .words .now))
-    (c .before .before .before .before .before .before .before .before .before .before .before .before .due-at .ensures)
-    (c .before .before .before .before .before .before .before .before .before .before .before .own-step .ensures)
-    after
+    take-nothing _ _ _ _ (taking (c .before .before .before .before .before .before .before .before .before .before)) after
     (watchHeld after (c .put-number .last .0) (c .put-number .last .1 .0))
     (search needs)
     (put .ensures)
     (c .put-number .ensures after)
 
 returns-2 : tie.Need-returns-2
-unfolding watchAt
-returns-2 c = let args = c .before .before .before .before .before .before .before .before .before .before .before .before .before .before .before .before .before .before .before .before .before .before .before .before .before .before .before .args in
+unfolding watchAt taking
+returns-2 c =
     let put = c .before .before .before .before .before .before .put-own2 in
     let all = c .choose in
-    take-choice
-    (watchAt (args .times .now) (args .small .now) (args .words .now) (args .due .now) (args .told .now))
-    (args .event)
-    (args .read)
-    (args .before)
-    (c .before .before .before .before .before .before .before .before .before .before .before .before .before .before .before .before .before .before .before .before .before .before .before .before .profile-at .result)
-    (c .before .before .before .before .before .before .before .before .before .before .before .before .before .before .before .before .before .before .before .before .before .before .mode-at .result)
-    (c .before .before .before .before .before .before .before .before .before .before .before .before .before .before .before .before .before .before .before .before .time-at .result)
-    (c .before .before .before .before .before .before .before .before .before .before .before .before .before .before .before .due-at .result)
-    (c .before .before .before .before .before .before .before .before .before .before .before .before .before .before .own-step .result)
-    (c .before .before .before .before .before .before .before .before .before .before .before .before .before .before .before .before .before .before .before .before .before .before .before .before .before .before .before .pre)
-    (c .before .before .before .before .before .before .before .before .before .before .before .before .before .before .before .before .before .before .before .before .before .before .before .before .profile-at .ensures (args .times .now))
-    (c .before .before .before .before .before .before .before .before .before .before .before .before .before .before .before .before .before .before .before .before .before .before .mode-at .ensures (args .times .now) (args .words .now))
-    (c .before .before .before .before .before .before .before .before .before .before .before .before .before .before .before .before .before .before .before .before .time-at .ensures (args .small .now) (args .words .now))
-    (c .before .before .before .before .before .before .before .before .before .before .before .before .before .before .before .due-at .ensures)
-    (c .before .before .before .before .before .before .before .before .before .before .before .before .before .before .own-step .ensures)
+    take-choice _ _ _ _
+    (taking (c .before .before .before .before .before .before .before .before .before .before .before .before .before))
     (selectorAt (put .last .0) (put .last .1 .0) (put .last .1 .1 .0))
     (watchAt (put .last .0) (all .last .1 .0) (put .last .1 .1 .0) (all .last .1 .1 .1 .0) (all .last .1 .1 .1 .1 .0))
     (search needs)
@@ -121,26 +107,10 @@ returns-2 c = let args = c .before .before .before .before .before .before .befo
     (all .ensures)
 
 returns-3 : tie.Need-returns-3
-unfolding watchAt
-returns-3 c = let args = c .before .before .before .before .before .before .before .before .before .before .before .before .before .before .before .before .before .before .before .before .before .before .args in
+unfolding watchAt taking
+returns-3 c =
     let all = c .serve-event .last in
-    take-service
-    (watchAt (args .times .now) (args .small .now) (args .words .now) (args .due .now) (args .told .now))
-    (args .event)
-    (args .read)
-    (args .before)
-    (c .before .before .before .before .before .before .before .before .before .before .before .before .before .before .before .before .before .before .before .profile-at .result)
-    (c .before .before .before .before .before .before .before .before .before .before .before .before .before .before .before .before .before .mode-at .result)
-    (c .before .before .before .before .before .before .before .before .before .before .before .before .before .before .before .time-at .result)
-    (c .before .before .before .before .before .before .before .before .before .before .due-at .result)
-    (c .before .before .before .before .before .before .before .before .before .own-step .result)
-    (c .before .before .before .before .before .before .before .before .before .before .before .before .before .before .before .before .before .before .before .before .before .before .pre)
-    (c .before .before .before .before .before .before .before .before .before .before .before .before .before .before .before .before .before .before .before .profile-at .ensures (args .times .now))
-    (c .before .before .before .before .before .before .before .before .before .before .before .before .before .before .before .before .before .mode-at .ensures (args .times .now) (args .words .now))
-    (c .before .before .before .before .before .before .before .before .before .before .before .before .before .before .before .time-at .ensures (args .small .now) (args .words .now))
-    (c .before .before .before .before .before .before .before .before .before .before .due-at .ensures)
-    (c .before .before .before .before .before .before .before .before .before .own-step .ensures)
-    (search needs)
+    take-service _ _ _ _ (taking (c .before .before .before .before .before .before .before .before .before)) (search needs)
     (watchAt (all .0) (all .1 .0) (all .1 .1 .0) (all .1 .1 .1 .0) (all .1 .1 .1 .1 .0))
     (c .serve-event .ensures)
 
@@ -148,11 +118,10 @@ pub take-spec : {M : Type 1} → statement M
 take-spec =
     tie.close
     (tie.spec
+    input-at-requires
     profile-at-requires
     mode-at-requires
     time-at-requires
-    element-copy-out-due-at
-    due-at-requires
     own-step-requires
     enum-told
     put-own-requires

@@ -1,5 +1,6 @@
 -- `sender::Senders::ask` meets its contract: each way is a law.
 -- Assumes nothing.
+use Rattle.inplace.specs.Lists.{selectorAt}
 use Rattle.sender.proofs.SenderLaws.{lent-laws, code-small, ask-no-port, ask-refused, ask-accepted}
 use borrow.Author.Needs.{needs}
 use Rattle.sender.proofs.Senders.ask.Statement.{statement}
@@ -26,8 +27,8 @@ question-number-requires-2 c κs = search needs
 returns-2 : tie.Need-returns-2
 returns-2 c = search ask-refused
 
-outgoing-codes-requires : tie.Need-outgoing-codes-requires
-outgoing-codes-requires c κs = search needs
+codes-at-requires : tie.Need-codes-at-requires
+codes-at-requires c κs = search needs
 
 array-read-code : tie.Need-array-read-code
 array-read-code c = search needs
@@ -71,7 +72,7 @@ returns-3 c =
     (args .t1)
     (args .port)
     (args .time)
-    (args .state)
+    (selectorAt (args .times .now) (args .small .now) (args .words .now))
     (args .source .now)
     (args .buffer .now)
     (number .question-number2 .result)
@@ -81,12 +82,12 @@ returns-3 c =
     (last .last-port .ensures .0)
     (inside .if1 .left)
     (number .question-number2 .ensures)
-    (told .outgoing-codes .result)
+    (told .codes-at .result)
     (beat .heartbeat .result)
     (kept .after .result)
     _
     (accept .if2 .left)
-    (told .outgoing-codes .ensures)
+    (told .codes-at .ensures)
     (beat .heartbeat .ensures)
     (kept .after .ensures)
     (sent .send .ensures)
@@ -102,7 +103,7 @@ ask-spec =
     element-copy-out-sender
     question-number-requires-2
     returns-2
-    outgoing-codes-requires
+    codes-at-requires
     array-read-code
     cast-heartbeat
     heartbeat-requires
