@@ -32,26 +32,26 @@ use Rattle.calls.proofs.CallsLaws.{delivered-within, isWhole-true, text
 -- ---- a turn
 
 -- a piece was read behind an input
-module _ (input chunk : List ℕ) (count before after : ℕ) (outcome : Outcome) (is : before ≡ length input)
-    (delivered : Delivered (length chunk) before outcome after) (moved : count ≡ octetsMoved outcome) where
-  pub piece-within : count ≤ length chunk
+module _ (input chunk : List ℕ) (octets before after : ℕ) (outcome : Outcome) (is : before ≡ length input)
+    (delivered : Delivered (length chunk) before outcome after) (moved : octets ≡ octetsMoved outcome) where
+  pub piece-within : octets ≤ length chunk
   piece-within = omega (arith, delivered-within outcome delivered)
 
-  pub piece-count : after ≡ length (input ++ take count chunk)
+  pub piece-count : after ≡ length (input ++ take octets chunk)
   piece-count =
       omega (
         arith,
         delivered .read,
-        length-append input (take count chunk),
-        length-take-le count chunk piece-within,
+        length-append input (take octets chunk),
+        length-take-le octets chunk piece-within,
       )
 
-  pub piece-none : count ≡ 0 → after ≡ length (input ++ [])
+  pub piece-none : octets ≡ 0 → after ≡ length (input ++ [])
   piece-none none = omega (arith, delivered .read, ap length (append-nil input))
 
 -- where nothing was read, it was the input's end or a read that failed
 readEnding-false : (outcome : Outcome) → isWhole (readEnding outcome) ≡ false → readEnding outcome ≡ Unread
-readEnding-false (Moved count) _ = refl
+readEnding-false (Moved octets) _ = refl
 readEnding-false Nothing ends = absurd (true≢false ends)
 readEnding-false Interrupted _ = refl
 readEnding-false NoReader _ = refl

@@ -62,21 +62,21 @@ failureOf-failed (negsuc error) neither nor = refl
 pub outcomeOf-failed : (answer error : ℤ) (size : ℕ) (outcome : Outcome) → ltZ answer (pos 0) ≡ true
     → outcome ≡ failureOf error → outcome ≡ outcomeOf answer error size
 unfolding outcomeOf
-outcomeOf-failed (pos count) error size outcome below is = absurd (omega (arith, ltb-true count 0 below))
+outcomeOf-failed (pos octets) error size outcome below is = absurd (omega (arith, ltb-true octets 0 below))
 outcomeOf-failed (negsuc below) error size outcome _ is = is
 
-pub outcomeOf-nothing : (answer error : ℤ) (size count : ℕ) → ltZ answer (pos 0) ≡ false
-    → count ≡ clamped answer size → count ≡ 0 → Nothing ≡ outcomeOf answer error size
+pub outcomeOf-nothing : (answer error : ℤ) (size octets : ℕ) → ltZ answer (pos 0) ≡ false
+    → octets ≡ clamped answer size → octets ≡ 0 → Nothing ≡ outcomeOf answer error size
 unfolding outcomeOf
-outcomeOf-nothing (pos answer) error size count _ is none = rw (eq-eqb (min answer size) 0 (sym is ∙ none))
-outcomeOf-nothing (negsuc below) error size count above is none = absurd (true≢false above)
+outcomeOf-nothing (pos answer) error size octets _ is none = rw (eq-eqb (min answer size) 0 (sym is ∙ none))
+outcomeOf-nothing (negsuc below) error size octets above is none = absurd (true≢false above)
 
-pub outcomeOf-moved : (answer error : ℤ) (size count : ℕ) → ltZ answer (pos 0) ≡ false
-    → count ≡ clamped answer size → (count ≡ 0 → ⊥) → Moved count ≡ outcomeOf answer error size
+pub outcomeOf-moved : (answer error : ℤ) (size octets : ℕ) → ltZ answer (pos 0) ≡ false
+    → octets ≡ clamped answer size → (octets ≡ 0 → ⊥) → Moved octets ≡ outcomeOf answer error size
 unfolding outcomeOf
-outcomeOf-moved (pos answer) error size count _ is some =
+outcomeOf-moved (pos answer) error size octets _ is some =
     rw (ne-eqb (min answer size) 0 (λ none. some (is ∙ none))) (ap Moved is)
-outcomeOf-moved (negsuc below) error size count above is some = absurd (true≢false above)
+outcomeOf-moved (negsuc below) error size octets above is some = absurd (true≢false above)
 
 -- ---- what a call came to
 
@@ -140,7 +140,7 @@ part-none {size} {before} taken ends =
     omega (arith, taken .sent, go (taken .outcome) (rw (taken .ended) at ends))
   where
     go : (outcome : Outcome) → isWhole (writeEnding outcome) ≡ false → octetsMoved outcome ≡ 0
-    go (Moved count) whole = absurd (true≢false whole)
+    go (Moved octets) whole = absurd (true≢false whole)
     go Nothing _ = refl
     go Interrupted whole = absurd (true≢false whole)
     go NoReader _ = refl
@@ -153,7 +153,7 @@ part-unsent taken ends =
     rw (taken .ended) (go (taken .outcome) (rw (taken .ended) at ends))
   where
     go : (outcome : Outcome) → isWhole (writeEnding outcome) ≡ false → Unsent (writeEnding outcome)
-    go (Moved count) whole = absurd (true≢false whole)
+    go (Moved octets) whole = absurd (true≢false whole)
     go Nothing _ = unwritten
     go Interrupted whole = absurd (true≢false whole)
     go NoReader _ = closed

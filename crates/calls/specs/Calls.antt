@@ -33,7 +33,7 @@ failureOf (negsuc error) = Failed
 
 -- a call on so many octets answers how many it moved, or a number below 0 where it failed
 unfoldable pub outcomeOf : ℤ → ℤ → ℕ → Outcome
-outcomeOf (pos count) error size = cond (eqb (min count size) 0) Nothing (Moved (min count size))
+outcomeOf (pos octets) error size = cond (eqb (min octets size) 0) Nothing (Moved (min octets size))
 outcomeOf (negsuc below) error size = failureOf error
 
 -- what a call on so many octets came to, whatever it answered
@@ -43,7 +43,7 @@ pub record CameTo (size : ℕ) (outcome : Outcome) : Type 0 where
   pub is : outcome ≡ outcomeOf answer error size
 
 abbrev pub isInterrupted : Outcome → Bool
-isInterrupted (Moved count) = false
+isInterrupted (Moved octets) = false
 isInterrupted Nothing = false
 isInterrupted Interrupted = true
 isInterrupted NoReader = false
@@ -51,7 +51,7 @@ isInterrupted Failed = false
 
 -- how many octets a call moved
 abbrev pub octetsMoved : Outcome → ℕ
-octetsMoved (Moved count) = count
+octetsMoved (Moved octets) = octets
 octetsMoved Nothing = 0
 octetsMoved Interrupted = 0
 octetsMoved NoReader = 0
@@ -73,7 +73,7 @@ isWhole Closed = false
 
 -- how the turns ended where nothing was read: a failed read is not the log's end
 abbrev pub readEnding : Outcome → Ending
-readEnding (Moved count) = Unread
+readEnding (Moved octets) = Unread
 readEnding Nothing = Whole
 readEnding Interrupted = Unread
 readEnding NoReader = Unread
@@ -81,7 +81,7 @@ readEnding Failed = Unread
 
 -- whether to go on after a write, and otherwise how it ended: an interrupted one is repeated
 abbrev pub writeEnding : Outcome → Ending
-writeEnding (Moved count) = Whole
+writeEnding (Moved octets) = Whole
 writeEnding Nothing = Unwritten
 writeEnding Interrupted = Whole
 writeEnding NoReader = Closed

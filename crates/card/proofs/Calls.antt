@@ -13,7 +13,7 @@ use Rattle.numbers.specs.declared.Event.{Event}
 use Rattle.numbers.specs.From.{started, _following_, profileOf}
 use Rattle.numbers.specs.declared.profile.Profile.{Profile}
 use Rattle.numbers.specs.Inputs.{lastInput, timeLimit}
-use Rattle.numbers.specs.Profile.{lastPlace, startNumber, limitsOf, optionOne, optionTwo}
+use Rattle.numbers.specs.Profile.{lastProvPlace, startNumber, limitsOf, optionOne, optionTwo}
 use Rattle.numbers.specs.Refusal.{accepted, argumentOutOfRange}
 use Rattle.numbers.proofs.Truth.{byBool, both-first, both-second}
 use Rattle.frame.specs.declared.FrameRead.{FrameRead}
@@ -67,16 +67,17 @@ use Rattle.card.proofs.Due.{takeStep-later}
 -- ---- a start
 
 -- the number of a start, of the numbers that C gives
-startNumber-refused : (option place : ℕ) → option ≡ optionTwo → lastPlace < place
-    → startNumber option place ≡ argumentOutOfRange
+startNumber-refused : (option provplace : ℕ) → option ≡ optionTwo → lastProvPlace < provplace
+    → startNumber option provplace ≡ argumentOutOfRange
 unfolding startNumber
-startNumber-refused option place two above = rw (eq-eqb option optionTwo two, lt-ltb lastPlace place above)
+startNumber-refused option provplace two above = rw (eq-eqb option optionTwo two, lt-ltb lastProvPlace provplace above)
 
-startNumber-starts : (option place : ℕ) → (option ≡ optionTwo → place ≤ lastPlace) → startNumber option place ≡ accepted
+startNumber-starts : (option provplace : ℕ) → (option ≡ optionTwo → provplace ≤ lastProvPlace)
+    → startNumber option provplace ≡ accepted
 unfolding startNumber
-startNumber-starts option place within =
+startNumber-starts option provplace within =
     byBool (eqb option optionTwo)
-    (λ two. rw (two, le-ltb lastPlace place (within (eqb-true option optionTwo two))))
+    (λ two. rw (two, le-ltb lastProvPlace provplace (within (eqb-true option optionTwo two))))
     (λ other. rw other)
 
 -- option II is an option
@@ -91,13 +92,13 @@ names-neither option one two = rw (ne-eqb option optionOne one, ne-eqb option op
 
 -- L10 in C's hands: a place above 8 starts nothing, nor does a number that is no option's, and any other start is where
 -- calls in a row begin.
-pub lent-start : (watch : Watch) (option place marks : ℕ) → StartRight watch option place marks
+pub lent-start : (watch : Watch) (option provplace marks : ℕ) → StartRight watch option provplace marks
 unfolding startLent lentAfter
-lent-start watch option place marks =
+lent-start watch option provplace marks =
     record {
-      refused = λ two above. rw (names-two option two, startNumber-refused option place two above);
+      refused = λ two above. rw (names-two option two, startNumber-refused option provplace two above);
       neither = λ one two. rw (names-neither option one two);
-      starts = λ named within. rw (named, startNumber-starts option place within);
+      starts = λ named within. rw (named, startNumber-starts option provplace within);
     }
 
 -- ---- one call

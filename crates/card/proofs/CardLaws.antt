@@ -38,28 +38,28 @@ module _ (option : ℕ) where
 
 -- ---- startLent
 
-module _ (watch : Watch) (option place marks : ℕ) (named : Bool) (is : named ≡ namesOption option) where
+module _ (watch : Watch) (option provplace marks : ℕ) (named : Bool) (is : named ≡ namesOption option) where
   pub start-neither : (kept : Watch) → named ≡ false → kept ≡ withNumber watch argumentOutOfRange
-      → kept ≡ startLent watch option place marks
+      → kept ≡ startLent watch option provplace marks
   unfolding startLent
   start-neither kept other k = k ∙ (rw (← is, other))
 
-  module _ (chosen : named ≡ true) (profile : Profile) (p : profile ≡ profileIn option place marks) (number : ℕ)
-      (n : number ≡ startNumber option place) where
+  module _ (chosen : named ≡ true) (profile : Profile) (p : profile ≡ profileIn option provplace marks) (number : ℕ)
+      (n : number ≡ startNumber option provplace) where
     pub start-fresh : (new : Watch) → number ≡ accepted → new ≡ freshWatch profile
-        → new ≡ startLent watch option place marks
+        → new ≡ startLent watch option provplace marks
     unfolding startLent
     start-fresh new a f =
         f ∙
         ap freshWatch p ∙
-        (rw (← is, chosen, eq-eqb (startNumber option place) accepted (sym n ∙ a)))
+        (rw (← is, chosen, eq-eqb (startNumber option provplace) accepted (sym n ∙ a)))
 
     pub start-refused : (kept : Watch) → (number ≡ accepted → ⊥) → kept ≡ withNumber watch number
-        → kept ≡ startLent watch option place marks
+        → kept ≡ startLent watch option provplace marks
     unfolding startLent
     start-refused kept a k =
         k ∙ ap (λ (given : ℕ). withNumber watch given) n
-        ∙ (rw (← is, chosen, ne-eqb (startNumber option place) accepted (λ e. a (n ∙ e))))
+        ∙ (rw (← is, chosen, ne-eqb (startNumber option provplace) accepted (λ e. a (n ∙ e))))
 
 -- ---- readFor
 

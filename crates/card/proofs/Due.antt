@@ -38,13 +38,13 @@ unfolding dueAfter lesser
 dueAfter-kept due time state before kept = rw (lt-ltb _ _ before, le-leb _ _ kept)
 
 -- what is next due of a state is due of an input that was put into it no earlier
-put-least : (state : Selector) (place time : ℕ) (input : Input) → place < length (state .inputs) → place < 16
-    → nextDue (movedTo state (set (state .inputs) place input) time) ≤ nextOf input (state .mode) time
-put-least state place time input room few =
+put-least : (state : Selector) (index time : ℕ) (input : Input) → index < length (state .inputs) → index < 16
+    → nextDue (movedTo state (set (state .inputs) index input) time) ≤ nextOf input (state .mode) time
+put-least state index time input room few =
     subst
-    (λ (own : Input). nextDue (movedTo state (set (state .inputs) place input) time) ≤ nextOf own (state .mode) time)
-    (getD-set-same (state .inputs) place input freshInput room)
-    (nextAmong-least (set (state .inputs) place input) (state .mode) time 16 place few)
+    (λ (own : Input). nextDue (movedTo state (set (state .inputs) index input) time) ≤ nextOf own (state .mode) time)
+    (getD-set-same (state .inputs) index input freshInput room)
+    (nextAmong-least (set (state .inputs) index input) (state .mode) time 16 index few)
 
 -- a choice makes nothing due
 decided-due : (state : Selector) → nextDue (decided state) ≡ nextDue state

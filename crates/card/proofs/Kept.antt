@@ -158,14 +158,14 @@ answer-alike true true true false e f is = absurd (true≢false (sym is))
 answer-alike true true true true false f is = absurd (true≢false (sym is))
 answer-alike true true true true true f is = is
 
-sound-inRange : (times small words due told : List ℕ) → isSound (watchAt times small words due told) ≡ 1
+sound-inRange : (times small wider due told : List ℕ) → isSound (watchAt times small wider due told) ≡ 1
     → InRange (answerIn told)
 unfolding isSound sameAnswer watchAt
-sound-inRange times small words due told sound =
-    let watch = watchAt times small words due told in
-    let state = selectorAt times small words in
+sound-inRange times small wider due told sound =
+    let watch = watchAt times small wider due told in
+    let state = selectorAt times small wider in
     let answer = answerOf accepted state in
-    let range = answer-inRange accepted state (selectorAt-named times small words) in
+    let range = answer-inRange accepted state (selectorAt-named times small wider) in
     let alike = answer-alike (ltb (state .time) timeLimit)
     (sameRuns (state .inputs) (ticked state (state .time) .inputs))
     (sameOnce state (ticked state (state .time)))

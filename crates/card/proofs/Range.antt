@@ -70,9 +70,9 @@ pub record Named (state : Selector) : Type 0 where
   pub selection : Inside (state .selection)
 
 -- of any numbers
-pub selectorAt-named : (times small words : List ℕ) → Named (selectorAt times small words)
+pub selectorAt-named : (times small wider : List ℕ) → Named (selectorAt times small wider)
 unfolding selectorAt
-selectorAt-named times small words = record { switch = switchOf-on _ _; selection = selectionOf-inside _ _ }
+selectorAt-named times small wider = record { switch = switchOf-on _ _; selection = selectionOf-inside _ _ }
 
 decided-named : (state : Selector) → On (state .switch) → Named (decided state)
 unfolding decided decide
@@ -262,12 +262,12 @@ step-inRange watch event read named range =
 
 -- Whatever the arrays held, C may index by what it reads; and what is lent beside another event than a frame changes
 -- nothing.
-pub any-lent : (times small words due told : List ℕ) (kind time input argument : ℕ) (frame : List ℕ)
-    → AnyLent times small words due told kind time input argument frame
+pub any-lent : (times small wider due told : List ℕ) (kind time input argument : ℕ) (frame : List ℕ)
+    → AnyLent times small wider due told kind time input argument frame
 unfolding stepLent eventLent watchAt
-any-lent times small words due told kind time input argument frame =
-    let watch = watchAt times small words due told in
-    let named = selectorAt-named times small words in
+any-lent times small wider due told kind time input argument frame =
+    let watch = watchAt times small wider due told in
+    let named = selectorAt-named times small wider in
     record {
       inRange =
           step-inRange (rangedWatch watch) (eventOf kind time input argument) (readFor kind frame)

@@ -7,7 +7,7 @@ use mathlib.Core.Path.{_≡_, refl, sym, ap, subst, _∙_}
 use native.Mathlib.Omega.{arith}
 use lib.Dec.{eqb, ltb}
 use borrow.Author.Tests.{eqb-true, ne-eqb, not-false}
-use Rattle.numbers.specs.declared.profile.Place.{Place}
+use Rattle.numbers.specs.declared.profile.ProvPlace.{ProvPlace}
 use Rattle.numbers.specs.declared.profile.Profile.{Profile}
 use Rattle.numbers.specs.declared.profile.Profile.the-variants as P
 use Rattle.numbers.specs.declared.quality.Quality.{Quality}
@@ -15,8 +15,8 @@ use Rattle.numbers.specs.Recorded.{Recorded}
 use Rattle.numbers.specs.From.{started, _following_, profileOf}
 use Rattle.numbers.specs.Codes.{Sign, saidBy, codesOf, words, qualityOfCode, qualityOfWord, saidIn}
 use Rattle.numbers.specs.Inputs.{lastInput, frameLife}
-use Rattle.numbers.specs.Kind.{rowOf, kindWord, kindLineCode, kindFrame, takesFrames, isCounted, isFrame}
-use Rattle.numbers.specs.Profile.{limitsOf, numberOfPlace, placeOf, numberInOne, paperNumber}
+use Rattle.numbers.specs.Kind.{kindRowOf, kindWord, kindLineCode, kindFrame, takesFrames, isCounted, isFrame}
+use Rattle.numbers.specs.Profile.{limitsOf, numberOfProvPlace, provPlaceOf, numberInOne, paperNumber}
 use Rattle.numbers.specs.Quality.{quality, notTold, invalid, failed, prov, isFailed}
 use Rattle.frame.specs.Read.{readCode}
 use Rattle.numbers.specs.Refusal.{accepted, kindUnknown}
@@ -54,29 +54,30 @@ any-codes state port = codeOfPort-small state port
 own-least : (profile : Profile) → 1 ≤ limitsOf profile .freerunning .0
 unfolding limitsOf
 own-least P.OptionOne = omega arith
-own-least (P.OptionTwo place marks) = omega arith
+own-least (P.OptionTwo provplace marks) = omega arith
 
 own-most : (profile : Profile) → limitsOf profile .freerunning .0 ≤ lastClockQuality profile
 unfolding limitsOf lastClockQuality
 own-most P.OptionOne = omega arith
-own-most (P.OptionTwo place marks) = omega arith
+own-most (P.OptionTwo provplace marks) = omega arith
 
 -- what is placed is PROV, and in option I nothing is
-placed-prov : (place : ℕ) (told : Quality) → isPlaced place told ≡ true → told .0 ≡ prov .0
+placed-prov : (provplace : ℕ) (told : Quality) → isPlaced provplace told ≡ true → told .0 ≡ prov .0
 unfolding isPlaced
-placed-prov place told placed =
-    eqb-true (told .0) (prov .0) (both-first (eqb (told .0) (prov .0)) (not (eqb place 0)) placed)
+placed-prov provplace told placed =
+    eqb-true (told .0) (prov .0) (both-first (eqb (told .0) (prov .0)) (not (eqb provplace 0)) placed)
 
-placed-most : (profile : Profile) (told : Quality) → isPlaced (placeOf profile) told ≡ true
+placed-most : (profile : Profile) (told : Quality) → isPlaced (provPlaceOf profile) told ≡ true
     → told .0 ≤ lastClockQuality profile
-unfolding isPlaced placeOf lastClockQuality
+unfolding isPlaced provPlaceOf lastClockQuality
 placed-most P.OptionOne told placed = absurd (true≢false (sym placed ∙ and-false (eqb (told .0) (prov .0))))
-placed-most (P.OptionTwo place marks) told placed = omega (arith, placed-prov (numberOfPlace place) told placed)
+placed-most (P.OptionTwo provplace marks) told placed =
+    omega (arith, placed-prov (numberOfProvPlace provplace) told placed)
 
 floor-most : (profile : Profile) → limitsOf profile .floor ≤ lastClockQuality profile
 unfolding limitsOf lastClockQuality
 floor-most P.OptionOne = omega arith
-floor-most (P.OptionTwo place marks) = omega arith
+floor-most (P.OptionTwo provplace marks) = omega arith
 
 module _ (sequence : Sequence) where
   abbrev past : Past
@@ -98,13 +99,13 @@ module _ (sequence : Sequence) where
       let some = something-usable past .0 usable in
       let told =
       ap (λ (one : Quality). one .0) (quality-stated past (some .number) (some .passed) (some .isSelected) on) in
-      let within : Within (placeOf profile) (floorOf (some .number) (past .history)) (some .passed) =
-      subst (λ (one : Profile). Within (placeOf one) (floorOf (some .number) (past .history)) (some .passed)) same
+      let within : Within (provPlaceOf profile) (floorOf (some .number) (past .history)) (some .passed) =
+      subst (λ (one : Profile). Within (provPlaceOf one) (floorOf (some .number) (past .history)) (some .passed)) same
       (some .usable .within on) in
       let floor = never-usable sequence (some .number) .floorMost in
-      byBool (isPlaced (placeOf profile) (some .passed))
+      byBool (isPlaced (provPlaceOf profile) (some .passed))
       (λ placed. (
-        omega (arith, told, placed-prov (placeOf profile) (some .passed) placed),
+        omega (arith, told, placed-prov (provPlaceOf profile) (some .passed) placed),
         omega (arith, told, placed-most profile (some .passed) placed),
       ))
       (λ other.
@@ -144,24 +145,24 @@ Ranged profile told = paperNumber profile told ≤ lastQuality profile
 failed-ranged : (profile : Profile) → Ranged profile failed
 unfolding paperNumber numberInOne lastQuality
 failed-ranged P.OptionOne = omega arith
-failed-ranged (P.OptionTwo place marks) = omega arith
+failed-ranged (P.OptionTwo provplace marks) = omega arith
 
 untold-ranged : (profile : Profile) → Ranged profile notTold
 unfolding paperNumber numberInOne lastQuality
 untold-ranged P.OptionOne = omega arith
-untold-ranged (P.OptionTwo place marks) = omega arith
+untold-ranged (P.OptionTwo provplace marks) = omega arith
 
 invalid-ranged : (profile : Profile) → Ranged profile invalid
 unfolding paperNumber numberInOne lastQuality
 invalid-ranged P.OptionOne = omega arith
-invalid-ranged (P.OptionTwo place marks) = omega arith
+invalid-ranged (P.OptionTwo provplace marks) = omega arith
 
 fixed-ranged : (profile : Profile) (fixed : ℕ) → fixed ≤ limitsOf profile .fixed → Ranged profile (quality fixed)
 unfolding paperNumber numberInOne lastQuality limitsOf
 fixed-ranged P.OptionOne fixed most =
     rw (ne-eqb fixed (invalid .0) (λ e. omega (arith, e, most)), ne-eqb fixed (failed .0) (λ e. omega (arith, e, most)))
     (omega (arith, most))
-fixed-ranged (P.OptionTwo place marks) fixed most = omega (arith, most)
+fixed-ranged (P.OptionTwo provplace marks) fixed most = omega (arith, most)
 
 -- what the rows of a table say
 abbrev AllRows : Profile → List Sign → Type 0
@@ -180,8 +181,8 @@ unfolding qualityOfCode paperNumber numberInOne lastQuality
 code-ranged P.OptionOne code =
     saidBy-ranged P.OptionOne (codesOf P.OptionOne) code
     (omega arith, (omega arith, (omega arith, (omega arith, (omega arith, tt)))))
-code-ranged (P.OptionTwo place marks) code =
-    saidBy-ranged (P.OptionTwo place marks) (codesOf (P.OptionTwo place marks)) code (
+code-ranged (P.OptionTwo provplace marks) code =
+    saidBy-ranged (P.OptionTwo provplace marks) (codesOf (P.OptionTwo provplace marks)) code (
       omega arith,
       (
         omega arith,
@@ -195,10 +196,10 @@ code-ranged (P.OptionTwo place marks) code =
       ),
     )
 
-word-ranged : (place : Place) (marks word : ℕ) → Ranged (P.OptionTwo place marks) (qualityOfWord word)
+word-ranged : (provplace : ProvPlace) (marks word : ℕ) → Ranged (P.OptionTwo provplace marks) (qualityOfWord word)
 unfolding qualityOfWord paperNumber lastQuality
-word-ranged place marks word =
-    saidBy-ranged (P.OptionTwo place marks) words word (
+word-ranged provplace marks word =
+    saidBy-ranged (P.OptionTwo provplace marks) words word (
       omega arith,
       (
         omega arith,
@@ -216,14 +217,15 @@ word-ranged place marks word =
     )
 
 -- option I knows no word
-words-ranged : (profile : Profile) (kind argument : ℕ) → rowOf (limitsOf profile) kind .known ≡ true → kind ≡ kindWord
+words-ranged : (profile : Profile) (kind argument : ℕ) → kindRowOf (limitsOf profile) kind .known ≡ true
+    → kind ≡ kindWord
     → Ranged profile (qualityOfWord argument)
-unfolding rowOf limitsOf
+unfolding kindRowOf limitsOf
 words-ranged P.OptionOne kind argument known word = absurd (true≢false (sym (rw word at known)))
-words-ranged (P.OptionTwo place marks) kind argument known word = word-ranged place marks argument
+words-ranged (P.OptionTwo provplace marks) kind argument known word = word-ranged provplace marks argument
 
 -- what a report says
-said-ranged : (profile : Profile) (kind argument : ℕ) → rowOf (limitsOf profile) kind .known ≡ true
+said-ranged : (profile : Profile) (kind argument : ℕ) → kindRowOf (limitsOf profile) kind .known ≡ true
     → Ranged profile (saidIn profile kind argument)
 unfolding saidIn
 said-ranged profile kind argument known =
@@ -243,15 +245,15 @@ HistoryRanged profile input (event following earlier) =
 
 -- an event that is not refused with 2 to 13 is of a kind that is known
 known-kind : (past : Past) (given : Given) → earlyBy past given ≡ accepted
-    → rowOf (limitsOf (profileOf (past .history))) (given .event .kind) .known ≡ true
+    → kindRowOf (limitsOf (profileOf (past .history))) (given .event .kind) .known ≡ true
 known-kind past given none =
     let limits = limitsOf (profileOf (past .history)) in
     let rows =
     earlyRows limits (timeOf (past .history)) (inputKind (given .event .input) (past .history)) (given .event) in
-    let first : not (rowOf limits (given .event .kind) .known) ≡ false =
+    let first : not (kindRowOf limits (given .event .kind) .known) ≡ false =
     given-none-first rows (frameEventRows (given .event .kind) (given .frame))
     (rising-numbered kindUnknown rows (omega arith) refl) none .0 in
-    not-false (rowOf limits (given .event .kind) .known) first
+    not-false (kindRowOf limits (given .event .kind) .known) first
 
 -- what has happened after an event
 abbrev pastWith : Past → Given → Bool → Bool → Past

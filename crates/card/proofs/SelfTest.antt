@@ -1,13 +1,13 @@
 -- The self-test is passed: by computation of the definitions. Assumes nothing.
 use mathlib.Core.Path.{_≡_, refl}
-use Rattle.numbers.specs.Profile.{limitsOf, placeOf, marksOf, floorIn}
+use Rattle.numbers.specs.Profile.{limitsOf, provPlaceOf, marksOf, floorIn}
 use Rattle.numbers.specs.Codes.{saidBy, qualityOfCode, qualityOfWord, saidIn}
-use Rattle.numbers.specs.Kind.{rowOf, inputKindOf, isArgumentOut, isInputOut}
+use Rattle.numbers.specs.Kind.{kindRowOf, inputKindOf, isArgumentOut, isInputOut}
 use Rattle.numbers.specs.Rows.{firstThatApplies}
 use Rattle.frame.specs.Octets.{same}
 use Rattle.frame.specs.Read.{rightLength, rightDestination, rightProtocol, rightOrganisation, rightVersion, rightTlv, frameNumber, readCode}
 use Rattle.frame.specs.Write.{headerOctets, dataOctets, frameOctets, writeAnswer}
-use Rattle.run.specs.Run.{isExpired, rawAt, runStart, isUpAfter, lastGood, atMoment, upBefore, broughtTo, passedQuality}
+use Rattle.run.specs.Run.{isExpired, rawAt, beganAfter, isUpAfter, lastGood, atMoment, upBefore, broughtTo, passedQuality}
 use Rattle.input.specs.Record.{equalCount, lineAfter, heardAfter, settingsAfter, qualityNow, canExpire, forecast, inputAtMoment, inputBroughtTo, afterEvent, takes, recordAfter}
 use Rattle.choice.specs.Candidate.{isUsable, isAdmitted, rankedQuality, candidateOf, isEligible, isBetter, isLower, lowerAmong, isLike}
 use Rattle.choice.specs.Rank.{isPlaced, rankOf}
@@ -38,7 +38,7 @@ unfolding
     writeAnswer frameOctets dataOctets headerOctets
     readCode frameNumber rightLength rightDestination rightProtocol rightOrganisation rightVersion rightTlv same
     stepRead atItsMoment commanded recordedArgument modeAfter inputsAfter inputAfter heldArgument isHeldInByte
-    lateRefusal isForcedSwitch earlyRefusal frameRefusal isWrongKind firstThatApplies isInputOut isArgumentOut rowOf
+    lateRefusal isForcedSwitch earlyRefusal frameRefusal isWrongKind firstThatApplies isInputOut isArgumentOut kindRowOf
     answerOf switchInput switchNumber selectedNumber clockQuality clockState selectedCandidate
     served servedFrom nextAmong nextOf frameDue timerDue ifLater sumOrNever lesser
     tickedOnce decided candidateFor decide wasLocked isClockLocked selectedBy judged manualMayStand
@@ -46,8 +46,8 @@ unfolding
     isUsable isPlaced rankOf
     recordAfter takes afterEvent inputBroughtTo inputAtMoment forecast canExpire qualityNow settingsAfter heardAfter
     lineAfter equalCount
-    passedQuality broughtTo upBefore atMoment lastGood isUpAfter runStart rawAt isExpired
-    saidIn qualityOfCode qualityOfWord saidBy limitsOf placeOf marksOf floorIn inputKindOf
+    passedQuality broughtTo upBefore atMoment lastGood isUpAfter beganAfter rawAt isExpired
+    saidIn qualityOfCode qualityOfWord saidBy limitsOf provPlaceOf marksOf floorIn inputKindOf
 passed = refl
 
 -- THE SELF-TEST is passed.

@@ -49,10 +49,10 @@ namesOption option = eqb option optionOne || eqb option optionTwo
 -- document 02, L10: "otherwise refusal 6 and no start": a fresh card of the profile, or the card as it was with that
 -- number; and so with a number that is no option's
 unfoldable pub startLent : Watch → ℕ → ℕ → ℕ → Watch
-startLent watch option place marks =
-    let profile = profileIn option place marks in
+startLent watch option provplace marks =
+    let profile = profileIn option provplace marks in
     cond (not (namesOption option)) (withNumber watch argumentOutOfRange)
-    (cond (eqb (startNumber option place) accepted) (freshWatch profile) (withNumber watch (startNumber option place)))
+    (cond (eqb (startNumber option provplace) accepted) (freshWatch profile) (withNumber watch (startNumber option provplace)))
 
 -- an event, of the numbers that C gives
 abbrev pub eventOf : ℕ → ℕ → ℕ → ℕ → Event

@@ -26,16 +26,16 @@ pub record InRange (told : Answer) : Type 0 where
   pub switchkind : told .switchkind ≤ switchManual
 
 -- after any step, on any numbers at all
-pub record AnyLent (times small words due told : List ℕ) (kind time input argument : ℕ) (frame : List ℕ) : Type 0 where
-  pub inRange : InRange (stepLent (watchAt times small words due told) kind time input argument frame .answer)
+pub record AnyLent (times small wider due told : List ℕ) (kind time input argument : ℕ) (frame : List ℕ) : Type 0 where
+  pub inRange : InRange (stepLent (watchAt times small wider due told) kind time input argument frame .answer)
   -- a frame is looked at for a frame event alone: for any other, what is lent changes nothing
   pub unread : kind ≢ kindFrame
       → (other : List ℕ)
-      → stepLent (watchAt times small words due told) kind time input argument frame
-      ≡ stepLent (watchAt times small words due told) kind time input argument other
+      → stepLent (watchAt times small wider due told) kind time input argument frame
+      ≡ stepLent (watchAt times small wider due told) kind time input argument other
 
 -- every card that events lead to passes the test, and one that passes answers in range
 pub record SoundRight : Type 0 where
   pub reached : (sequence : Sequence) → isSound (lentAfter sequence) ≡ 1
-  pub inRange : (times small words due told : List ℕ) → isSound (watchAt times small words due told) ≡ 1
+  pub inRange : (times small wider due told : List ℕ) → isSound (watchAt times small wider due told) ≡ 1
       → InRange (answerIn told)

@@ -25,7 +25,7 @@ AnyCodes state = (port : ℕ) → getD (outgoingCodes state) port 0 ≤ largestC
 -- the last clock quality: SEC; in option II PROV
 unfoldable pub lastClockQuality : Profile → ℕ
 lastClockQuality P.OptionOne = 4
-lastClockQuality (P.OptionTwo place marks) = 9
+lastClockQuality (P.OptionTwo provplace marks) = 9
 
 -- `clock_quality` after calls in a row: "1 to 4, in option II 1 to 9; 0 with quality mode off"
 pub record ClockQualityRanged (sequence : Sequence) : Type 0 where
@@ -36,7 +36,7 @@ pub record ClockQualityRanged (sequence : Sequence) : Type 0 where
 -- the last number of a quality on paper, which is failed
 unfoldable pub lastQuality : Profile → ℕ
 lastQuality P.OptionOne = 7
-lastQuality (P.OptionTwo place marks) = 12
+lastQuality (P.OptionTwo provplace marks) = 12
 
 -- of what is known of an input as C reads it
 abbrev pub rawIn : List ℕ → ℕ

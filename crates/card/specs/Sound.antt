@@ -21,7 +21,7 @@ use Rattle.quickstep.specs.declared.Watch.{Watch}
 -- two inputs have the same run
 abbrev pub sameRun : Input → Input → Bool
 sameRun one other =
-    eqb (one .run .start) (other .run .start) &&
+    eqb (one .run .began) (other .run .began) &&
     eqb (one .run .good .0) (other .run .good .0) &&
     eqb (flag (one .run .failed)) (flag (other .run .failed)) &&
     eqb (flag (one .run .up)) (flag (other .run .up))

@@ -12,7 +12,7 @@ use crate::step_lent;
 use crate::write_port;
 use inplace::SMALL;
 use inplace::TIMES;
-use inplace::WORDS;
+use inplace::WIDER;
 use inplace::codes_at;
 use inplace::next_due;
 use inplace::words_at;
@@ -78,22 +78,22 @@ pub extern "C" fn nurrispane_self_test_in() -> u32
 pub extern "C" fn nurrispane_fresh_in(
     times: &mut [u64; TIMES],
     small: &mut [u8; SMALL],
-    words: &mut [u16; WORDS],
+    wider: &mut [u16; WIDER],
     due: &mut [u64; DUE],
     told: &mut [u8; TOLD],
     option: u8,
-    place: u8,
+    provplace: u8,
     marks: u16,
 )
     ensures { λ _. ⌜
-        watchAt (now (times .exit)) (now (small .exit)) (now (words .exit)) (now (due .exit))
+        watchAt (now (times .exit)) (now (small .exit)) (now (wider .exit)) (now (due .exit))
         (now (told .exit)) ≡
         startLent
-        (watchAt (now (times .entry)) (now (small .entry)) (now (words .entry))
+        (watchAt (now (times .entry)) (now (small .entry)) (now (wider .entry))
         (now (due .entry)) (now (told .entry)))
-        option place marks ⌝ }
+        option provplace marks ⌝ }
 {
-    start_lent(times, small, words, due, told, option, place, marks);
+    start_lent(times, small, wider, due, told, option, provplace, marks);
 }
 
 // One event with a lent frame, which is looked at for a frame event alone: the card after it takes
@@ -102,7 +102,7 @@ pub extern "C" fn nurrispane_fresh_in(
 pub extern "C" fn nurrispane_step_in(
     times: &mut [u64; TIMES],
     small: &mut [u8; SMALL],
-    words: &mut [u16; WORDS],
+    wider: &mut [u16; WIDER],
     due: &mut [u64; DUE],
     told: &mut [u8; TOLD],
     kind: u8,
@@ -112,17 +112,17 @@ pub extern "C" fn nurrispane_step_in(
     frame: &[u8],
 )
     ensures { λ _. ⌜
-        watchAt (now (times .exit)) (now (small .exit)) (now (words .exit)) (now (due .exit))
+        watchAt (now (times .exit)) (now (small .exit)) (now (wider .exit)) (now (due .exit))
         (now (told .exit)) ≡
         stepLent
-        (watchAt (now (times .entry)) (now (small .entry)) (now (words .entry))
+        (watchAt (now (times .entry)) (now (small .entry)) (now (wider .entry))
         (now (due .entry)) (now (told .entry)))
         kind time input argument (now (frame .entry)) ⌝ }
 {
     step_lent(
         times,
         small,
-        words,
+        wider,
         due,
         told,
         kind,
@@ -140,25 +140,25 @@ pub extern "C" fn nurrispane_step_in(
 pub extern "C" fn nurrispane_tick_part_in(
     times: &mut [u64; TIMES],
     small: &mut [u8; SMALL],
-    words: &mut [u16; WORDS],
+    wider: &mut [u16; WIDER],
     due: &mut [u64; DUE],
     told: &mut [u8; TOLD],
     time: u64,
     most: u8,
 ) -> u32
     ensures { λ more. ⌜
-        (watchAt (now (times .exit)) (now (small .exit)) (now (words .exit)) (now (due .exit))
+        (watchAt (now (times .exit)) (now (small .exit)) (now (wider .exit)) (now (due .exit))
         (now (told .exit)) ≡
         partLent most
-        (watchAt (now (times .entry)) (now (small .entry)) (now (words .entry))
+        (watchAt (now (times .entry)) (now (small .entry)) (now (wider .entry))
         (now (due .entry)) (now (told .entry)))
         time) ×
         (more ≡ moreLent most
-        (watchAt (now (times .entry)) (now (small .entry)) (now (words .entry))
+        (watchAt (now (times .entry)) (now (small .entry)) (now (wider .entry))
         (now (due .entry)) (now (told .entry)))
         time) ⌝ }
 {
-    tick_part(times, small, words, due, told, time, most)
+    tick_part(times, small, wider, due, told, time, most)
 }
 
 // When something is next due: no answer changes before it but by an event.
@@ -166,12 +166,12 @@ pub extern "C" fn nurrispane_tick_part_in(
 pub extern "C" fn nurrispane_next_due_in(
     times: &[u64; TIMES],
     small: &[u8; SMALL],
-    words: &[u16; WORDS],
+    wider: &[u16; WIDER],
 ) -> u64
     ensures { λ answer. ⌜ answer ≡
-        nextDue (selectorAt (now (times .entry)) (now (small .entry)) (now (words .entry))) ⌝ }
+        nextDue (selectorAt (now (times .entry)) (now (small .entry)) (now (wider .entry))) ⌝ }
 {
-    next_due(times, small, words)
+    next_due(times, small, wider)
 }
 
 // 1 where a card can have come from a fresh one by events, as far as is looked; 0 where not.
@@ -179,15 +179,15 @@ pub extern "C" fn nurrispane_next_due_in(
 pub extern "C" fn nurrispane_is_sound_in(
     times: &[u64; TIMES],
     small: &[u8; SMALL],
-    words: &[u16; WORDS],
+    wider: &[u16; WIDER],
     due: &[u64; DUE],
     told: &[u8; TOLD],
 ) -> u32
     ensures { λ answer. ⌜ answer ≡ isSound
-        (watchAt (now (times .entry)) (now (small .entry)) (now (words .entry)) (now (due .entry))
+        (watchAt (now (times .entry)) (now (small .entry)) (now (wider .entry)) (now (due .entry))
         (now (told .entry))) ⌝ }
 {
-    is_sound(times, small, words, due, told)
+    is_sound(times, small, wider, due, told)
 }
 
 // What is known of one input: when its timer and its frame end; and the number of the refusal or 0,
@@ -197,19 +197,19 @@ pub extern "C" fn nurrispane_is_sound_in(
 pub extern "C" fn nurrispane_input_status_in(
     times: &[u64; TIMES],
     small: &[u8; SMALL],
-    words: &[u16; WORDS],
+    wider: &[u16; WIDER],
     input: u8,
     ends: &mut [u64; 2],
     known: &mut [u8; 8],
 )
     ensures { λ _. ⌜
         (now (ends .exit) ≡ endsKnown
-        (selectorAt (now (times .entry)) (now (small .entry)) (now (words .entry))) input) ×
+        (selectorAt (now (times .entry)) (now (small .entry)) (now (wider .entry))) input) ×
         (now (known .exit) ≡ inputKnown
-        (selectorAt (now (times .entry)) (now (small .entry)) (now (words .entry))) input) ⌝ }
+        (selectorAt (now (times .entry)) (now (small .entry)) (now (wider .entry))) input) ⌝ }
 {
-    let two = ends_at(times, small, words, input);
-    let eight = known_at(times, small, words, input);
+    let two = ends_at(times, small, wider, input);
+    let eight = known_at(times, small, wider, input);
     *ends = two;
     *known = eight;
 }
@@ -219,13 +219,13 @@ pub extern "C" fn nurrispane_input_status_in(
 pub extern "C" fn nurrispane_outgoing_codes_in(
     times: &[u64; TIMES],
     small: &[u8; SMALL],
-    words: &[u16; WORDS],
+    wider: &[u16; WIDER],
     codes: &mut [u8; 16],
 )
     ensures { λ _. ⌜ now (codes .exit) ≡ outgoingCodes
-        (selectorAt (now (times .entry)) (now (small .entry)) (now (words .entry))) ⌝ }
+        (selectorAt (now (times .entry)) (now (small .entry)) (now (wider .entry))) ⌝ }
 {
-    let new = codes_at(times, small, words);
+    let new = codes_at(times, small, wider);
     *codes = new;
 }
 
@@ -234,13 +234,13 @@ pub extern "C" fn nurrispane_outgoing_codes_in(
 pub extern "C" fn nurrispane_outgoing_words_in(
     times: &[u64; TIMES],
     small: &[u8; SMALL],
-    words: &[u16; WORDS],
+    wider: &[u16; WIDER],
     out: &mut [u16; 16],
 )
     ensures { λ _. ⌜ now (out .exit) ≡ outgoingWords
-        (selectorAt (now (times .entry)) (now (small .entry)) (now (words .entry))) ⌝ }
+        (selectorAt (now (times .entry)) (now (small .entry)) (now (wider .entry))) ⌝ }
 {
-    let new = words_at(times, small, words);
+    let new = words_at(times, small, wider);
     *out = new;
 }
 
@@ -261,7 +261,7 @@ pub extern "C" fn nurrispane_read_frame_in(frame: &[u8], told: &mut [u8; 9])
 pub extern "C" fn nurrispane_write_frame_in(
     times: &[u64; TIMES],
     small: &[u8; SMALL],
-    words: &[u16; WORDS],
+    wider: &[u16; WIDER],
     port: u8,
     event: u8,
     source: &[u8],
@@ -269,9 +269,9 @@ pub extern "C" fn nurrispane_write_frame_in(
 ) -> u32
     ensures { λ answer. ⌜
         WritePort
-        (selectorAt (now (times .entry)) (now (small .entry)) (now (words .entry)))
+        (selectorAt (now (times .entry)) (now (small .entry)) (now (wider .entry)))
         port (isSet event) (now (source .entry)) (now (buffer .entry)) answer
         (now (buffer .exit)) ⌝ }
 {
-    write_port(times, small, words, port, event, source, buffer)
+    write_port(times, small, wider, port, event, source, buffer)
 }

@@ -3,7 +3,7 @@
 // answered for, and any number of an input.
 use inplace::SMALL;
 use inplace::TIMES;
-use inplace::WORDS;
+use inplace::WIDER;
 use inplace::profile_at;
 use numbers::LAST_INPUT;
 use numbers::profile::paper_number;
@@ -19,16 +19,16 @@ ghost use Rattle.card.specs.Known.{endsKnown, inputKnown};
 pub fn ends_at(
     times: &[u64; TIMES],
     small: &[u8; SMALL],
-    words: &[u16; WORDS],
+    wider: &[u16; WIDER],
     input: u8,
 ) -> [u64; 2]
     ensures { λ answer. ⌜ answer ≡ endsKnown
-        (selectorAt (now (times .entry)) (now (small .entry)) (now (words .entry))) input ⌝ }
+        (selectorAt (now (times .entry)) (now (small .entry)) (now (wider .entry))) input ⌝ }
 {
     if LAST_INPUT < input {
         return [0, 0];
     }
-    let status = input_status(times, small, words, input);
+    let status = input_status(times, small, wider, input);
     [status.timer, status.frame]
 }
 
@@ -37,17 +37,17 @@ pub fn ends_at(
 pub fn known_at(
     times: &[u64; TIMES],
     small: &[u8; SMALL],
-    words: &[u16; WORDS],
+    wider: &[u16; WIDER],
     input: u8,
 ) -> [u8; 8]
     ensures { λ answer. ⌜ answer ≡ inputKnown
-        (selectorAt (now (times .entry)) (now (small .entry)) (now (words .entry))) input ⌝ }
+        (selectorAt (now (times .entry)) (now (small .entry)) (now (wider .entry))) input ⌝ }
 {
     if LAST_INPUT < input {
         return [INPUT_OUT_OF_RANGE, 0, 0, 0, 0, 0, 0, 0];
     }
-    let profile = profile_at(small, words);
-    let status = input_status(times, small, words, input);
+    let profile = profile_at(small, wider);
+    let status = input_status(times, small, wider, input);
     let priority = status.priority;
     let raw = paper_number(profile, status.raw);
     let passed = paper_number(profile, status.passed);

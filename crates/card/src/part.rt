@@ -6,7 +6,7 @@ use crate::make_ranged;
 use frame::FrameRead;
 use inplace::SMALL;
 use inplace::TIMES;
-use inplace::WORDS;
+use inplace::WIDER;
 use inplace::next_due;
 use numbers::Event;
 use numbers::TIME_LIMIT;
@@ -23,16 +23,16 @@ ghost use Rattle.card.specs.Part.{tickLent, atLeastOne, partServed, part
 fn tick_at(
     times: &mut [u64; TIMES],
     small: &mut [u8; SMALL],
-    words: &mut [u16; WORDS],
+    wider: &mut [u16; WIDER],
     due: &mut [u64; DUE],
     told: &mut [u8; TOLD],
     time: u64,
 )
     ensures { λ _. ⌜
-        watchAt (now (times .exit)) (now (small .exit)) (now (words .exit)) (now (due .exit))
+        watchAt (now (times .exit)) (now (small .exit)) (now (wider .exit)) (now (due .exit))
         (now (told .exit)) ≡
         tickLent
-        (watchAt (now (times .entry)) (now (small .entry)) (now (words .entry))
+        (watchAt (now (times .entry)) (now (small .entry)) (now (wider .entry))
         (now (due .entry)) (now (told .entry)))
         time ⌝ }
 {
@@ -43,8 +43,8 @@ fn tick_at(
         argument: 0,
     };
     let read = FrameRead::Code(0);
-    make_ranged(times, small, words, due, told);
-    step_watch(times, small, words, due, told, event, read);
+    make_ranged(times, small, wider, due, told);
+    step_watch(times, small, wider, due, told, event, read);
 }
 
 // How many moments a portion serves: one at least, so that each call comes further.
@@ -61,29 +61,29 @@ fn at_least_one(most: u8) -> u8
 fn serve_part(
     times: &mut [u64; TIMES],
     small: &mut [u8; SMALL],
-    words: &mut [u16; WORDS],
+    wider: &mut [u16; WIDER],
     due: &mut [u64; DUE],
     told: &mut [u8; TOLD],
     time: u64,
     most: u8,
 ) -> u64
     ensures { λ next. ⌜
-        (watchAt (now (times .exit)) (now (small .exit)) (now (words .exit)) (now (due .exit))
+        (watchAt (now (times .exit)) (now (small .exit)) (now (wider .exit)) (now (due .exit))
         (now (told .exit)) ≡
         partServed most
-        (watchAt (now (times .entry)) (now (small .entry)) (now (words .entry))
+        (watchAt (now (times .entry)) (now (small .entry)) (now (wider .entry))
         (now (due .entry)) (now (told .entry)))
         time) ×
         (next ≡ nextDue
-        (watchAt (now (times .exit)) (now (small .exit)) (now (words .exit)) (now (due .exit))
+        (watchAt (now (times .exit)) (now (small .exit)) (now (wider .exit)) (now (due .exit))
         (now (told .exit)) .state)) ⌝ }
 {
     let mut count: u8 = 0;
-    let mut next = next_due(times, small, words);
+    let mut next = next_due(times, small, wider);
     while count < most && next <= time {
-        tick_at(times, small, words, due, told, next);
+        tick_at(times, small, wider, due, told, next);
         count += 1;
-        next = next_due(times, small, words);
+        next = next_due(times, small, wider);
     }
     next
 }
@@ -94,33 +94,33 @@ fn serve_part(
 pub fn tick_part(
     times: &mut [u64; TIMES],
     small: &mut [u8; SMALL],
-    words: &mut [u16; WORDS],
+    wider: &mut [u16; WIDER],
     due: &mut [u64; DUE],
     told: &mut [u8; TOLD],
     time: u64,
     most: u8,
 ) -> u32
     ensures { λ more. ⌜
-        (watchAt (now (times .exit)) (now (small .exit)) (now (words .exit)) (now (due .exit))
+        (watchAt (now (times .exit)) (now (small .exit)) (now (wider .exit)) (now (due .exit))
         (now (told .exit)) ≡
         partLent most
-        (watchAt (now (times .entry)) (now (small .entry)) (now (words .entry))
+        (watchAt (now (times .entry)) (now (small .entry)) (now (wider .entry))
         (now (due .entry)) (now (told .entry)))
         time) ×
         (more ≡ moreLent most
-        (watchAt (now (times .entry)) (now (small .entry)) (now (words .entry))
+        (watchAt (now (times .entry)) (now (small .entry)) (now (wider .entry))
         (now (due .entry)) (now (told .entry)))
         time) ⌝ }
 {
     if TIME_LIMIT <= time {
-        tick_at(times, small, words, due, told, time);
+        tick_at(times, small, wider, due, told, time);
         return 0;
     }
     let limit = at_least_one(most);
-    let next = serve_part(times, small, words, due, told, time, limit);
+    let next = serve_part(times, small, wider, due, told, time, limit);
     if next <= time {
         return 1;
     }
-    tick_at(times, small, words, due, told, time);
+    tick_at(times, small, wider, due, told, time);
     0
 }

@@ -4,7 +4,7 @@
 // numbers in them may be anything that their types hold. No public function has a `requires`.
 use inplace::SMALL;
 use inplace::TIMES;
-use inplace::WORDS;
+use inplace::WIDER;
 use inplace::codes_at;
 use numbers::LAST_INPUT;
 use sender::Heartbeat;
@@ -97,14 +97,14 @@ fn told_of(heartbeat: Heartbeat) -> u32
 }
 
 // The code that goes out of a port; 0 where there is no such port.
-fn code_at(times: &[u64; TIMES], small: &[u8; SMALL], words: &[u16; WORDS], port: u8) -> u8
+fn code_at(times: &[u64; TIMES], small: &[u8; SMALL], wider: &[u16; WIDER], port: u8) -> u8
     ensures { λ answer. ⌜ answer ≡ codeOfPort
-        (selectorAt (now (times .entry)) (now (small .entry)) (now (words .entry))) port ⌝ }
+        (selectorAt (now (times .entry)) (now (small .entry)) (now (wider .entry))) port ⌝ }
 {
     if LAST_INPUT < port {
         return 0;
     }
-    let codes = codes_at(times, small, words);
+    let codes = codes_at(times, small, wider);
     codes[port as usize]
 }
 
@@ -131,7 +131,7 @@ pub extern "C" fn nurrispane_ask_in(
     numbers: &mut [u32; SENDER_NUMBERS],
     times: &[u64; TIMES],
     small: &[u8; SMALL],
-    words: &[u16; WORDS],
+    wider: &[u16; WIDER],
     port: u8,
     time: u64,
     source: &[u8],
@@ -139,12 +139,12 @@ pub extern "C" fn nurrispane_ask_in(
 ) -> u32
     ensures { λ answer. ⌜
         AskLent (senderIn (now (frames .entry)) (now (numbers .entry)))
-        (selectorAt (now (times .entry)) (now (small .entry)) (now (words .entry)))
+        (selectorAt (now (times .entry)) (now (small .entry)) (now (wider .entry)))
         port time (now (source .entry)) (now (buffer .entry))
         (now (frames .exit)) (now (numbers .exit)) answer (now (buffer .exit)) ⌝ }
 {
     let before = sender_in(frames, numbers);
-    let code = code_at(times, small, words, port);
+    let code = code_at(times, small, wider, port);
     let asked = ask_one(before, port as u64, time, code, source, buffer);
     let after = asked.sender;
     let heartbeat = asked.heartbeat;

@@ -5,7 +5,7 @@
 // large a setting or a quality may be is not looked at.
 use inplace::SMALL;
 use inplace::TIMES;
-use inplace::WORDS;
+use inplace::WIDER;
 use inplace::answer_at;
 use inplace::input_at;
 use inplace::next_due;
@@ -39,11 +39,11 @@ fn same_run(one: Input, other: Input) -> bool
 {
     let ours = one.run;
     let theirs = other.run;
-    let start = ours.start == theirs.start;
+    let began = ours.began == theirs.began;
     let good = ours.good.0 == theirs.good.0;
     let failed = ours.failed as u8 == theirs.failed as u8;
     let up = ours.up as u8 == theirs.up as u8;
-    start & good & failed & up
+    began & good & failed & up
 }
 
 // One pair more of inputs.
@@ -54,23 +54,23 @@ fn also_same(same: bool, one: Input, other: Input) -> bool
     same & alike
 }
 
-// The sixteen inputs have the same runs in two cards with the same words.
+// The sixteen inputs have the same runs in two cards with the same `wider`.
 fn same_runs(
     times: &[u64; TIMES],
     small: &[u8; SMALL],
-    words: &[u16; WORDS],
+    wider: &[u16; WIDER],
     later: &[u64; TIMES],
     after: &[u8; SMALL],
 ) -> bool
     ensures { λ answer. ⌜ answer ≡ sameRuns
-        (selectorAt (now (times .entry)) (now (small .entry)) (now (words .entry)) .inputs)
-        (selectorAt (now (later .entry)) (now (after .entry)) (now (words .entry)) .inputs) ⌝ }
+        (selectorAt (now (times .entry)) (now (small .entry)) (now (wider .entry)) .inputs)
+        (selectorAt (now (later .entry)) (now (after .entry)) (now (wider .entry)) .inputs) ⌝ }
 {
     let mut same = true;
     let mut at: u8 = 0;
     while at < INPUT_COUNT {
-        let one = input_at(times, small, words, InputNumber(at));
-        let other = input_at(later, after, words, InputNumber(at));
+        let one = input_at(times, small, wider, InputNumber(at));
+        let other = input_at(later, after, wider, InputNumber(at));
         same = also_same(same, one, other);
         at += 1;
     }
@@ -79,9 +79,9 @@ fn same_runs(
 
 // Switch, selection and whether the clock was ever locked are the same in two cards.
 fn same_once(small: &[u8; SMALL], after: &[u8; SMALL]) -> bool
-    ensures { λ answer. ⌜ ((times later words : List ℕ) → answer ≡ sameOnce
-        (selectorAt times (now (small .entry)) words)
-        (selectorAt later (now (after .entry)) words)) ⌝ }
+    ensures { λ answer. ⌜ ((times later wider : List ℕ) → answer ≡ sameOnce
+        (selectorAt times (now (small .entry)) wider)
+        (selectorAt later (now (after .entry)) wider)) ⌝ }
 {
     let ours = switch_at(small);
     let theirs = switch_at(after);
@@ -110,21 +110,21 @@ fn same_answer(told: &[u8; TOLD], answer: Answer) -> bool
 pub fn is_sound(
     times: &[u64; TIMES],
     small: &[u8; SMALL],
-    words: &[u16; WORDS],
+    wider: &[u16; WIDER],
     due: &[u64; DUE],
     told: &[u8; TOLD],
 ) -> u32
     ensures { λ answer. ⌜ answer ≡ isSound
-        (watchAt (now (times .entry)) (now (small .entry)) (now (words .entry)) (now (due .entry))
+        (watchAt (now (times .entry)) (now (small .entry)) (now (wider .entry)) (now (due .entry))
         (now (told .entry))) ⌝ }
 {
     let time = time_at(times);
-    let next = next_due(times, small, words);
-    let answer = answer_at(times, small, words, ACCEPTED);
+    let next = next_due(times, small, wider);
+    let answer = answer_at(times, small, wider, ACCEPTED);
     let mut later = *times;
     let mut after = *small;
-    serve(&mut later, &mut after, words, time);
-    let runs = same_runs(times, small, words, &later, &after);
+    serve(&mut later, &mut after, wider, time);
+    let runs = same_runs(times, small, wider, &later, &after);
     let once = same_once(small, &after);
     let told_right = same_answer(told, answer);
     let below = time < TIME_LIMIT;

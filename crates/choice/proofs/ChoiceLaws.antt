@@ -23,22 +23,22 @@ use Rattle.choice.specs.Leader.{lead, noLeader, seed, bestOf, isPassed, 
 
 -- ---- isPlaced, rankOf
 
-module _ (place : ℕ) (told : Quality) where
-  pub isPlaced-prov : told .0 ≡ prov .0 → not (eqb place 0) ≡ isPlaced place told
+module _ (provplace : ℕ) (told : Quality) where
+  pub isPlaced-prov : told .0 ≡ prov .0 → not (eqb provplace 0) ≡ isPlaced provplace told
   unfolding isPlaced
   isPlaced-prov e = rw (eq-eqb (told .0) (prov .0) e)
 
-  pub isPlaced-other : (told .0 ≡ prov .0 → ⊥) → false ≡ isPlaced place told
+  pub isPlaced-other : (told .0 ≡ prov .0 → ⊥) → false ≡ isPlaced provplace told
   unfolding isPlaced
   isPlaced-other e = rw (ne-eqb (told .0) (prov .0) e)
 
-  pub rankOf-placed : (test : Bool) → test ≡ isPlaced place told → test ≡ true
-      → _≡_ {A = Rank} (record { 0 = 2 * place + 1 }) (rankOf place told)
+  pub rankOf-placed : (test : Bool) → test ≡ isPlaced provplace told → test ≡ true
+      → _≡_ {A = Rank} (record { 0 = 2 * provplace + 1 }) (rankOf provplace told)
   unfolding rankOf
   rankOf-placed test q t = rw (← q, t)
 
-  pub rankOf-numbered : (test : Bool) → test ≡ isPlaced place told → test ≡ false
-      → _≡_ {A = Rank} (record { 0 = 2 * told .0 }) (rankOf place told)
+  pub rankOf-numbered : (test : Bool) → test ≡ isPlaced provplace told → test ≡ false
+      → _≡_ {A = Rank} (record { 0 = 2 * told .0 }) (rankOf provplace told)
   unfolding rankOf
   rankOf-numbered test q t = rw (← q, t)
 
@@ -88,18 +88,18 @@ pub ruleset isAdmitted-laws = (isAdmitted-off, isAdmitted-locked, isAdmitted-ope
 
 -- ---- candidateOf
 
-module _ (place floor : ℕ) (passed : Quality) (priority : Priority) (locked mode admitted usable : Bool) where
+module _ (provplace floor : ℕ) (passed : Quality) (priority : Priority) (locked mode admitted usable : Bool) where
   pub candidateOf-on : (rank : Rank) → mode ≡ true → admitted ≡ isAdmitted priority locked
-      → rank ≡ rankOf place passed → usable ≡ isUsable mode floor rank passed
+      → rank ≡ rankOf provplace passed → usable ≡ isUsable mode floor rank passed
       → record { quality = passed; rank = rank; priority = priority; admitted = admitted; usable = usable }
-      ≡ candidateOf place floor passed priority locked mode
+      ≡ candidateOf provplace floor passed priority locked mode
   unfolding candidateOf rankedQuality
   candidateOf-on rank m a r u = rw (u, r, a, m)
 
   pub candidateOf-off : mode ≡ false → admitted ≡ isAdmitted priority locked
       → usable ≡ isUsable mode floor (record { 0 = 0 }) passed
       → record { quality = notTold; rank = record { 0 = 0 }; priority = priority; admitted = admitted; usable = usable }
-      ≡ candidateOf place floor passed priority locked mode
+      ≡ candidateOf provplace floor passed priority locked mode
   unfolding candidateOf rankedQuality rankOf isPlaced
   candidateOf-off m a u = rw (u, a, m)
 

@@ -27,20 +27,20 @@ use Rattle.choice.proofs.ChoiceLaws.{isBetter-rank, isBetter-priority, 
 
 -- ---- isEligible
 
-module _ (place floor : ℕ) (passed : Quality) (priority : Priority) (locked : Bool) where
+module _ (provplace floor : ℕ) (passed : Quality) (priority : Priority) (locked : Bool) where
   abbrev usableIn : Bool → Bool
-  usableIn mode = isUsable mode floor (rankOf place (rankedQuality mode passed)) passed
+  usableIn mode = isUsable mode floor (rankOf provplace (rankedQuality mode passed)) passed
 
   usable-parts : (mode : Bool) → usableIn mode ≡ true
-      → (passed .0 ≡ failed .0 → ⊥) × (mode ≡ true → Within place floor passed)
+      → (passed .0 ≡ failed .0 → ⊥) × (mode ≡ true → Within provplace floor passed)
   unfolding isUsable rankedQuality
   usable-parts true x =
       let good = not (eqb (passed .0) (failed .0)) in
-      let rank = rankOf place passed .0 in
+      let rank = rankOf provplace passed .0 in
       let within = leb 1 rank && leb rank (floorRank floor) in
       let ranks : within ≡ true = both-second good within x in (
         eqb-false (passed .0) (failed .0) (not-true (eqb (passed .0) (failed .0)) (both-first good within x)),
-        λ m. within-exact place floor passed .0 (
+        λ m. within-exact provplace floor passed .0 (
           leb-true 1 rank (both-first (leb 1 rank) (leb rank (floorRank floor)) ranks),
           leb-true rank (floorRank floor) (both-second (leb 1 rank) (leb rank (floorRank floor)) ranks),
         ),
@@ -51,30 +51,31 @@ module _ (place floor : ℕ) (passed : Quality) (priority : Priority) (locked : 
     λ m. absurd (false≢true m),
   )
 
-  usable-whole : (mode : Bool) → (passed .0 ≡ failed .0 → ⊥) → (mode ≡ true → Within place floor passed)
+  usable-whole : (mode : Bool) → (passed .0 ≡ failed .0 → ⊥) → (mode ≡ true → Within provplace floor passed)
       → usableIn mode ≡ true
   unfolding isUsable rankedQuality
   usable-whole true n u =
-      let h = within-exact place floor passed .1 (u refl) in
+      let h = within-exact provplace floor passed .1 (u refl) in
       rw (
         ne-eqb (passed .0) (failed .0) n,
-        le-leb 1 (rankOf place passed .0) (h .0),
-        le-leb (rankOf place passed .0) (floorRank floor) (h .1),
+        le-leb 1 (rankOf provplace passed .0) (h .0),
+        le-leb (rankOf provplace passed .0) (floorRank floor) (h .1),
       )
   usable-whole false n u = rw (ne-eqb (passed .0) (failed .0) n)
 
   -- "Eligible: priority not 0, not locked, passed quality not 7, and with quality mode on passed quality" from 1 to the
   -- input's floor
   pub eligible-exact : (mode : Bool)
-      → (isEligible (candidateOf place floor passed priority locked mode) ≡ true)
-      ↔ EligibleCandidate place floor passed priority locked mode
+      → (isEligible (candidateOf provplace floor passed priority locked mode) ≡ true)
+      ↔ EligibleCandidate provplace floor passed priority locked mode
   unfolding isEligible candidateOf isAdmitted
   eligible-exact mode = (parts, whole)
     where
       on : Bool
       on = not (eqb (priority .0) 0)
 
-      parts : ((on && not locked) && usableIn mode) ≡ true → EligibleCandidate place floor passed priority locked mode
+      parts : ((on && not locked) && usableIn mode) ≡ true
+          → EligibleCandidate provplace floor passed priority locked mode
       parts x =
           let admitted : (on && not locked) ≡ true = both-first (on && not locked) (usableIn mode) x in
           let usable = usable-parts mode (both-second (on && not locked) (usableIn mode) x) in
@@ -85,7 +86,8 @@ module _ (place floor : ℕ) (passed : Quality) (priority : Priority) (locked : 
             within = usable .1;
           }
 
-      whole : EligibleCandidate place floor passed priority locked mode → ((on && not locked) && usableIn mode) ≡ true
+      whole : EligibleCandidate provplace floor passed priority locked mode
+          → ((on && not locked) && usableIn mode) ≡ true
       whole e =
           rw (ne-eqb (priority .0) 0 (e .notOff), e .notLocked) (usable-whole mode (e .notFailed) (e .within))
 

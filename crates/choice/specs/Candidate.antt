@@ -38,9 +38,9 @@ rankedQuality mode passed = cond mode passed notTold
 
 -- what a choice looks at of an input
 unfoldable pub candidateOf : ℕ → ℕ → Quality → Priority → Bool → Bool → Candidate
-candidateOf place floor passed priority locked mode =
+candidateOf provplace floor passed priority locked mode =
     let quality = rankedQuality mode passed in
-    let rank = rankOf place quality in
+    let rank = rankOf provplace quality in
     record {
       quality = quality;
       rank = rank;
@@ -55,12 +55,12 @@ unfoldable pub isEligible : Candidate → Bool
 isEligible candidate = candidate .admitted && candidate .usable
 
 -- the same, said of one input; `eligible-exact`: `isEligible (candidateOf ..)` exactly where it holds
-pub record EligibleCandidate (place floor : ℕ) (passed : Quality) (priority : Priority)
+pub record EligibleCandidate (provplace floor : ℕ) (passed : Quality) (priority : Priority)
     (locked mode : Bool) : Type 0 where
   pub notOff : priority .0 ≡ 0 → ⊥
   pub notLocked : locked ≡ false
   pub notFailed : passed .0 ≡ failed .0 → ⊥
-  pub within : mode ≡ true → Within place floor passed
+  pub within : mode ≡ true → Within provplace floor passed
 
 -- "Better: lower passed quality (mode on only), then lower priority number"
 unfoldable pub isBetter : Candidate → Candidate → Bool

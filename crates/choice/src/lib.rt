@@ -71,21 +71,21 @@ fn doubled(number: u8) -> u16
 }
 
 // Whether a quality is PROV, and has a place.
-fn is_placed(place: u8, quality: Quality) -> bool
-    ensures { λ answer. ⌜ answer ≡ isPlaced place quality ⌝ }
+fn is_placed(provplace: u8, quality: Quality) -> bool
+    ensures { λ answer. ⌜ answer ≡ isPlaced provplace quality ⌝ }
 {
     if quality.0 == PROV.0 {
-        return place != 0;
+        return provplace != 0;
     }
     false
 }
 
 // The rank of a quality: twice its number, and PROV between two where it is placed.
-pub fn rank_of(place: u8, quality: Quality) -> Rank
-    ensures { λ answer. ⌜ answer ≡ rankOf place quality ⌝ }
+pub fn rank_of(provplace: u8, quality: Quality) -> Rank
+    ensures { λ answer. ⌜ answer ≡ rankOf provplace quality ⌝ }
 {
-    if is_placed(place, quality) {
-        return Rank(2 * (place as u16) + 1);
+    if is_placed(provplace, quality) {
+        return Rank(2 * (provplace as u16) + 1);
     }
     Rank(2 * (quality.0 as u16))
 }
@@ -137,21 +137,21 @@ impl Seen {
     }
 }
 
-// An input as a choice sees it, where `place` is that of PROV and `floor` the one in force. With
+// An input as a choice sees it, where `provplace` is that of PROV and `floor` the one in force. With
 // quality mode off no quality is ranked: most of the work is for the other.
 pub fn candidate_of(
-    place: u8,
+    provplace: u8,
     floor: u8,
     passed: Quality,
     priority: Priority,
     locked: bool,
     mode: bool,
 ) -> Candidate
-    ensures { λ answer. ⌜ answer ≡ candidateOf place floor passed priority locked mode ⌝ }
+    ensures { λ answer. ⌜ answer ≡ candidateOf provplace floor passed priority locked mode ⌝ }
 {
     let admitted = is_admitted(priority, locked);
     if mode {
-        let rank = rank_of(place, passed);
+        let rank = rank_of(provplace, passed);
         let usable = is_usable(mode, floor, rank, passed);
         return Candidate {
             quality: passed,

@@ -33,14 +33,14 @@ module _ (one other : ℕ) where
 
 pub ruleset lesser-laws = (lesser-first, lesser-second)
 
-module _ (start length : ℕ) where
-  pub sumOrNever-sum : start + length ≤ never → start + length ≡ sumOrNever start length
+module _ (began length : ℕ) where
+  pub sumOrNever-sum : began + length ≤ never → began + length ≡ sumOrNever began length
   unfolding sumOrNever
-  sumOrNever-sum h = lesser-first (start + length) never h
+  sumOrNever-sum h = lesser-first (began + length) never h
 
-  pub sumOrNever-never : never < start + length → never ≡ sumOrNever start length
+  pub sumOrNever-never : never < began + length → never ≡ sumOrNever began length
   unfolding sumOrNever
-  sumOrNever-never h = lesser-second (start + length) never h
+  sumOrNever-never h = lesser-second (began + length) never h
 
 module _ (time due : ℕ) where
   pub ifLater-later : time < due → due ≡ ifLater time due
@@ -56,12 +56,12 @@ pub ruleset ifLater-laws = (ifLater-later, ifLater-never)
 -- ---- timerDue, frameDue, nextOf
 
 module _ (run : Run) (forecast : Forecast) (sum : ℕ) where
-  pub timerDue-holdoff : run .failed ≡ true → sum ≡ sumOrNever (run .start) (forecast .holdoff)
+  pub timerDue-holdoff : run .failed ≡ true → sum ≡ sumOrNever (run .began) (forecast .holdoff)
       → sum ≡ timerDue run forecast
   unfolding timerDue
   timerDue-holdoff f s = s ∙ (rw f)
 
-  pub timerDue-wait : run .failed ≡ false → sum ≡ sumOrNever (run .start) (forecast .wait)
+  pub timerDue-wait : run .failed ≡ false → sum ≡ sumOrNever (run .began) (forecast .wait)
       → sum ≡ timerDue run forecast
   unfolding timerDue
   timerDue-wait f s = s ∙ (rw f)

@@ -1,12 +1,12 @@
 -- L4: 48 due moments in one tick, by computation. Assumes nothing.
 use mathlib.Core.Path.{refl}
 use Rattle.numbers.specs.Codes.{saidBy, qualityOfCode, qualityOfWord, saidIn}
-use Rattle.numbers.specs.Profile.{limitsOf, placeOf, floorIn}
-use Rattle.numbers.specs.Kind.{rowOf, inputKindOf, isArgumentOut, isInputOut}
+use Rattle.numbers.specs.Profile.{limitsOf, provPlaceOf, floorIn}
+use Rattle.numbers.specs.Kind.{kindRowOf, inputKindOf, isArgumentOut, isInputOut}
 use Rattle.numbers.specs.Rows.{firstThatApplies}
 use Rattle.frame.specs.Octets.{same}
 use Rattle.frame.specs.Read.{rightLength, rightDestination, rightProtocol, rightOrganisation, rightVersion, rightTlv, frameNumber, readCode}
-use Rattle.run.specs.Run.{isExpired, rawAt, runStart, isUpAfter, lastGood, atMoment, upBefore, broughtTo, passedQuality}
+use Rattle.run.specs.Run.{isExpired, rawAt, beganAfter, isUpAfter, lastGood, atMoment, upBefore, broughtTo, passedQuality}
 use Rattle.input.specs.Record.{equalCount, lineAfter, heardAfter, settingsAfter, qualityNow, canExpire, forecast, inputAtMoment, inputBroughtTo, afterEvent, takes, recordAfter}
 use Rattle.choice.specs.Candidate.{isUsable, isAdmitted, rankedQuality, candidateOf, isEligible, isBetter, isLower, lowerAmong}
 use Rattle.choice.specs.Rank.{isPlaced, rankOf}
@@ -25,14 +25,14 @@ pub most-reached : MostReached
 unfolding
     S.countAfter S.stateAfter step
     stepRead atItsMoment commanded recordedArgument modeAfter inputsAfter inputAfter heldArgument isHeldInByte
-    lateRefusal isForcedSwitch earlyRefusal frameRefusal isWrongKind firstThatApplies isInputOut isArgumentOut rowOf
+    lateRefusal isForcedSwitch earlyRefusal frameRefusal isWrongKind firstThatApplies isInputOut isArgumentOut kindRowOf
     served servedFrom nextAmong nextOf frameDue timerDue ifLater sumOrNever lesser
     tickedOnce decided candidateFor decide wasLocked isClockLocked selectedBy judged manualMayStand
     choose scanned offered seeded lowerAmong isLower isBetter isEligible candidateOf rankedQuality isAdmitted isUsable
     isPlaced rankOf
     recordAfter takes afterEvent inputBroughtTo inputAtMoment forecast canExpire qualityNow settingsAfter heardAfter
     lineAfter equalCount
-    passedQuality broughtTo upBefore atMoment lastGood isUpAfter runStart rawAt isExpired
+    passedQuality broughtTo upBefore atMoment lastGood isUpAfter beganAfter rawAt isExpired
     readCode frameNumber rightLength rightDestination rightProtocol rightOrganisation rightVersion rightTlv same
-    saidIn qualityOfCode qualityOfWord saidBy limitsOf placeOf floorIn inputKindOf allFollowing
+    saidIn qualityOfCode qualityOfWord saidBy limitsOf provPlaceOf floorIn inputKindOf allFollowing
 most-reached = record { reached = refl }

@@ -12,14 +12,14 @@ use Rattle.numbers.specs.declared.kind.InputKind.{InputKind}
 use Rattle.numbers.specs.declared.InputNumber.{InputNumber}
 use Rattle.numbers.specs.declared.profile.Limits.{Limits}
 use Rattle.numbers.specs.declared.profile.Profile.{Profile}
-use Rattle.numbers.specs.declared.kind.Row.{Row}
+use Rattle.numbers.specs.declared.kind.KindRow.{KindRow}
 use Rattle.numbers.specs.declared.quality.Quality.{Quality}
 use Rattle.numbers.specs.Recorded.{Recorded, saidEvent}
 use Rattle.numbers.specs.Codes.{qualityOfCode, qualityOfWord, saidIn}
 use Rattle.numbers.specs.Profile.{limitsOf}
 use Rattle.numbers.specs.Quality.{notTold}
 use Rattle.numbers.specs.Inputs.{inputCount, timeLimit}
-use Rattle.numbers.specs.Kind.{rowOf, isInputOut, isArgumentOut, flag, inputKindOf, kindArgument, takesCodes, takesFrames, takesWords, kindSignal, kindFrame, kindLineCode, kindPriority, kindLockout, kindHoldoff, kindWait, kindFixedQuality, kindClearWait, kindForced, kindManual, kindClearSwitch, kindQualityMode, kindSending, kindInputKind, kindFloor, kindWord}
+use Rattle.numbers.specs.Kind.{kindRowOf, isInputOut, isArgumentOut, flag, inputKindOf, kindArgument, takesCodes, takesFrames, takesWords, kindSignal, kindFrame, kindLineCode, kindPriority, kindLockout, kindHoldoff, kindWait, kindFixedQuality, kindClearWait, kindForced, kindManual, kindClearSwitch, kindQualityMode, kindSending, kindInputKind, kindFloor, kindWord}
 use Rattle.numbers.specs.Refusal.{accepted, kindUnknown, timeTooLarge, timeBeforeState, inputOutOfRange, argumentOutOfRange, wrongInputKind, forcedBarred, manualForcedStands, manualNotEligible, manualLowerQuality}
 use Rattle.frame.specs.declared.FrameRead.{FrameRead}
 use Rattle.frame.specs.declared.FrameRead.the-variants as R
@@ -51,26 +51,27 @@ use Rattle.events.specs.Step.{kindAt, lowByte, isHeldInByte, heldArgumen
 
 -- ---- isWrongKind
 
-module _ (kind : ℕ) (at : InputKind) (takes : Bool) where
-  pub isWrongKind-code : kind ≡ kindLineCode → takes ≡ takesCodes at → not takes ≡ isWrongKind kind at
+module _ (kind : ℕ) (inputkind : InputKind) (takes : Bool) where
+  pub isWrongKind-code : kind ≡ kindLineCode → takes ≡ takesCodes inputkind → not takes ≡ isWrongKind kind inputkind
   unfolding isWrongKind
   isWrongKind-code e t = rw (eq-eqb _ _ e, ← t)
 
-  pub isWrongKind-frame : (kind ≡ kindLineCode → ⊥) → kind ≡ kindFrame → takes ≡ takesFrames at
-      → not takes ≡ isWrongKind kind at
+  pub isWrongKind-frame : (kind ≡ kindLineCode → ⊥) → kind ≡ kindFrame → takes ≡ takesFrames inputkind
+      → not takes ≡ isWrongKind kind inputkind
   unfolding isWrongKind
   isWrongKind-frame n e t = rw (ne-eqb _ _ n, eq-eqb _ _ e, ← t)
 
-  pub isWrongKind-word : (kind ≡ kindLineCode → ⊥) → (kind ≡ kindFrame → ⊥) → kind ≡ kindWord → takes ≡ takesWords at
-      → not takes ≡ isWrongKind kind at
+  pub isWrongKind-word : (kind ≡ kindLineCode → ⊥) → (kind ≡ kindFrame → ⊥) → kind ≡ kindWord
+      → takes ≡ takesWords inputkind
+      → not takes ≡ isWrongKind kind inputkind
   unfolding isWrongKind
   isWrongKind-word n m e t = rw (ne-eqb _ _ n, ne-eqb _ _ m, eq-eqb _ _ e, ← t)
 
-pub isWrongKind-other : (kind : ℕ) (at : InputKind) → (kind ≡ kindLineCode → ⊥) → (kind ≡ kindFrame → ⊥)
+pub isWrongKind-other : (kind : ℕ) (inputkind : InputKind) → (kind ≡ kindLineCode → ⊥) → (kind ≡ kindFrame → ⊥)
     → (kind ≡ kindWord → ⊥)
-    → false ≡ isWrongKind kind at
+    → false ≡ isWrongKind kind inputkind
 unfolding isWrongKind
-isWrongKind-other kind at n m w = rw (ne-eqb _ _ n, ne-eqb _ _ m, ne-eqb _ _ w)
+isWrongKind-other kind inputkind n m w = rw (ne-eqb _ _ n, ne-eqb _ _ m, ne-eqb _ _ w)
 
 pub ruleset isWrongKind-laws = (isWrongKind-code, isWrongKind-frame, isWrongKind-word, isWrongKind-other)
 
@@ -94,60 +95,63 @@ pub ruleset frameRefusal-laws = (frameRefusal-refused, frameRefusal-code, frameR
 
 -- ---- earlyRefusal
 
-module _ (profile : Profile) (limits : Limits) (time : ℕ) (at : InputKind) (event : Event) (read : FrameRead)
-    (row : Row) where
-  pub earlyRefusal-unknown : limits ≡ limitsOf profile → row ≡ rowOf limits (event .kind) → not (row .known) ≡ true
-      → kindUnknown ≡ earlyRefusal (limitsOf profile) time at event read
+module _ (profile : Profile) (limits : Limits) (time : ℕ) (inputkind : InputKind) (event : Event) (read : FrameRead)
+    (row : KindRow) where
+  pub earlyRefusal-unknown : limits ≡ limitsOf profile → row ≡ kindRowOf limits (event .kind) → not (row .known) ≡ true
+      → kindUnknown ≡ earlyRefusal (limitsOf profile) time inputkind event read
   unfolding earlyRefusal firstThatApplies
   earlyRefusal-unknown l n f = rw (← l, ← n, f)
 
-  pub earlyRefusal-late-time : limits ≡ limitsOf profile → row ≡ rowOf limits (event .kind) → not (row .known) ≡ false
+  pub earlyRefusal-late-time : limits ≡ limitsOf profile → row ≡ kindRowOf limits (event .kind)
+      → not (row .known) ≡ false
       → timeLimit ≤ event .time
-      → timeTooLarge ≡ earlyRefusal (limitsOf profile) time at event read
+      → timeTooLarge ≡ earlyRefusal (limitsOf profile) time inputkind event read
   unfolding earlyRefusal firstThatApplies
   earlyRefusal-late-time l n f t = rw (← l, ← n, f, le-leb _ _ t)
 
-  pub earlyRefusal-early-time : limits ≡ limitsOf profile → row ≡ rowOf limits (event .kind) → not (row .known) ≡ false
+  pub earlyRefusal-early-time : limits ≡ limitsOf profile → row ≡ kindRowOf limits (event .kind)
+      → not (row .known) ≡ false
       → event .time < timeLimit
-      → event .time < time → timeBeforeState ≡ earlyRefusal (limitsOf profile) time at event read
+      → event .time < time → timeBeforeState ≡ earlyRefusal (limitsOf profile) time inputkind event read
   unfolding earlyRefusal firstThatApplies
   earlyRefusal-early-time l n f t u = rw (← l, ← n, f, lt-leb _ _ t, lt-ltb _ _ u)
 
   module _ (out : Bool) where
-    pub earlyRefusal-input : limits ≡ limitsOf profile → row ≡ rowOf limits (event .kind) → not (row .known) ≡ false
+    pub earlyRefusal-input : limits ≡ limitsOf profile → row ≡ kindRowOf limits (event .kind) → not (row .known) ≡ false
         → event .time < timeLimit
         → time ≤ event .time → out ≡ isInputOut row (event .input) → out ≡ true
-        → inputOutOfRange ≡ earlyRefusal (limitsOf profile) time at event read
+        → inputOutOfRange ≡ earlyRefusal (limitsOf profile) time inputkind event read
     unfolding earlyRefusal firstThatApplies
     earlyRefusal-input l n f t u i o = rw (← l, ← n, f, lt-leb _ _ t, le-ltb _ _ u, ← i, o)
 
     module _ (argumentOut : Bool) where
-      pub earlyRefusal-argument : limits ≡ limitsOf profile → row ≡ rowOf limits (event .kind)
+      pub earlyRefusal-argument : limits ≡ limitsOf profile → row ≡ kindRowOf limits (event .kind)
           → not (row .known) ≡ false
           → event .time < timeLimit
           → time ≤ event .time → out ≡ isInputOut row (event .input) → out ≡ false
           → argumentOut ≡ isArgumentOut row (event .argument) → argumentOut ≡ true
-          → argumentOutOfRange ≡ earlyRefusal (limitsOf profile) time at event read
+          → argumentOutOfRange ≡ earlyRefusal (limitsOf profile) time inputkind event read
       unfolding earlyRefusal firstThatApplies
       earlyRefusal-argument l n f t u i o a p = rw (← l, ← n, f, lt-leb _ _ t, le-ltb _ _ u, ← i, o, ← a, p)
 
       module _ (wrong : Bool) where
-        pub earlyRefusal-kind : limits ≡ limitsOf profile → row ≡ rowOf limits (event .kind) → not (row .known) ≡ false
+        pub earlyRefusal-kind : limits ≡ limitsOf profile → row ≡ kindRowOf limits (event .kind)
+            → not (row .known) ≡ false
             → event .time < timeLimit
             → time ≤ event .time → out ≡ isInputOut row (event .input) → out ≡ false
             → argumentOut ≡ isArgumentOut row (event .argument) → argumentOut ≡ false
-            → wrong ≡ isWrongKind (event .kind) at
-            → wrong ≡ true → wrongInputKind ≡ earlyRefusal (limitsOf profile) time at event read
+            → wrong ≡ isWrongKind (event .kind) inputkind
+            → wrong ≡ true → wrongInputKind ≡ earlyRefusal (limitsOf profile) time inputkind event read
         unfolding earlyRefusal firstThatApplies
         earlyRefusal-kind l n f t u i o a p w q = rw (← l, ← n, f, lt-leb _ _ t, le-ltb _ _ u, ← i, o, ← a, p, ← w, q)
 
-        pub earlyRefusal-frame : (number : ℕ) → limits ≡ limitsOf profile → row ≡ rowOf limits (event .kind)
+        pub earlyRefusal-frame : (number : ℕ) → limits ≡ limitsOf profile → row ≡ kindRowOf limits (event .kind)
             → not (row .known) ≡ false
             → event .time < timeLimit → time ≤ event .time → out ≡ isInputOut row (event .input) → out ≡ false
             → argumentOut ≡ isArgumentOut row (event .argument) → argumentOut ≡ false
-            → wrong ≡ isWrongKind (event .kind) at
+            → wrong ≡ isWrongKind (event .kind) inputkind
             → wrong ≡ false → number ≡ frameRefusal (event .kind) read
-            → number ≡ earlyRefusal (limitsOf profile) time at event read
+            → number ≡ earlyRefusal (limitsOf profile) time inputkind event read
         unfolding earlyRefusal firstThatApplies
         earlyRefusal-frame number l n f t u i o a p w q r =
             rw (← l, ← n, f, lt-leb _ _ t, le-ltb _ _ u, ← i, o, ← a, p, ← w, q, ← r) (sym (first-own number))
@@ -608,15 +612,15 @@ pub ruleset stepTicked-laws = (stepTicked-late, stepTicked-accepted)
 
 -- ---- stepRead
 
-module _ (state : Selector) (event : Event) (read : FrameRead) (at : InputKind) (early : ℕ) where
-  pub stepRead-early : at ≡ kindAt (state .inputs) (event .input)
-      → early ≡ earlyRefusal (limitsOf (state .profile)) (state .time) at event read
+module _ (state : Selector) (event : Event) (read : FrameRead) (inputkind : InputKind) (early : ℕ) where
+  pub stepRead-early : inputkind ≡ kindAt (state .inputs) (event .input)
+      → early ≡ earlyRefusal (limitsOf (state .profile)) (state .time) inputkind event read
       → (early ≡ accepted → ⊥) → stepped early 0 state ≡ stepRead state event read
   unfolding stepRead
   stepRead-early i e n = rw (← i, ← e, ne-eqb _ _ n)
 
-  pub stepRead-late : (tick : Served) (after : Stepped) → at ≡ kindAt (state .inputs) (event .input)
-      → early ≡ earlyRefusal (limitsOf (state .profile)) (state .time) at event read
+  pub stepRead-late : (tick : Served) (after : Stepped) → inputkind ≡ kindAt (state .inputs) (event .input)
+      → early ≡ earlyRefusal (limitsOf (state .profile)) (state .time) inputkind event read
       → early ≡ accepted → tick ≡ served state (event .time)
       → after ≡ stepTicked (tick .state) (tick .count) event read
       → after ≡ stepRead state event read

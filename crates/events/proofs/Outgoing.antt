@@ -9,12 +9,12 @@ use lib.Dec.{eqb}
 use lib.ListN.{getD}
 use borrow.Author.Tests.{eqb-true, eqb-false}
 use Rattle.numbers.specs.declared.quality.Quality.{Quality}
-use Rattle.numbers.specs.declared.profile.Place.{Place}
+use Rattle.numbers.specs.declared.profile.ProvPlace.{ProvPlace}
 use Rattle.numbers.specs.declared.profile.Profile.{Profile}
 use Rattle.numbers.specs.declared.profile.Profile.the-variants as P
 use Rattle.numbers.specs.From.{profileOf}
 use Rattle.numbers.specs.Inputs.{inputCount}
-use Rattle.numbers.specs.Profile.{limitsOf, numberOfPlace, placeOf, lastPlace, marksOf, halved, isMarked, toldBy}
+use Rattle.numbers.specs.Profile.{limitsOf, numberOfProvPlace, provPlaceOf, lastProvPlace, marksOf, halved, isMarked, toldBy}
 use Rattle.numbers.specs.Quality.{quality, stu, tnc, st3e, st3, st4, prov}
 use Rattle.numbers.specs.Codes.{saidBy, signOf, qualityOfCode, codeOfQuality, qualityOfWord, wordOfQuality, wordStu, wordDus}
 use Rattle.numbers.proofs.Truth.{byBool, both-first}
@@ -66,13 +66,13 @@ code-back-one number h k =
     (λ h. absurd (omega arith))
     k
 
-code-back-two : (place : Place) (marks number : ℕ) → 1 ≤ number → number ≤ 9 → (number ≡ 8 → ⊥)
-    → qualityOfCode (P.OptionTwo place marks) (codeOfQuality (P.OptionTwo place marks) (quality number)) ≡ quality number
+code-back-two : (provplace : ProvPlace) (marks number : ℕ) → 1 ≤ number → number ≤ 9 → (number ≡ 8 → ⊥)
+    → qualityOfCode (P.OptionTwo provplace marks) (codeOfQuality (P.OptionTwo provplace marks) (quality number)) ≡ quality number
 unfolding qualityOfCode codeOfQuality saidBy signOf
-code-back-two place marks number h k other =
+code-back-two provplace marks number h k other =
     nine
     (λ number. (number ≡ 8 → ⊥)
-    → qualityOfCode (P.OptionTwo place marks) (codeOfQuality (P.OptionTwo place marks) (quality number)) ≡ quality number)
+    → qualityOfCode (P.OptionTwo provplace marks) (codeOfQuality (P.OptionTwo provplace marks) (quality number)) ≡ quality number)
     number h k
     (λ _. refl) (λ _. refl) (λ _. refl) (λ _. refl) (λ _. refl) (λ _. refl) (λ _. refl)
     (λ no. absurd (no refl))
@@ -93,47 +93,47 @@ unmarked port = rw (halved-zero port)
 -- what is told of a clock: a number from 1 to the last floor, or PROV's in option II
 abbrev Telling : Profile → ℕ → Type 0
 Telling P.OptionOne number = (1 ≤ number) × (number ≤ 4)
-Telling (P.OptionTwo place marks) number = (1 ≤ number) × (number ≤ 9)
+Telling (P.OptionTwo provplace marks) number = (1 ≤ number) × (number ≤ 9)
 
 -- what is within a floor is such a number
 within-telling : (profile : Profile) (floor : ℕ) (passed : Quality) → floor ≤ limitsOf profile .floor
-    → Within (placeOf profile) floor passed → Telling profile (passed .0)
-unfolding limitsOf placeOf isPlaced
+    → Within (provPlaceOf profile) floor passed → Telling profile (passed .0)
+unfolding limitsOf provPlaceOf isPlaced
 within-telling P.OptionOne floor passed most within =
     byBool (eqb (passed .0) (prov .0))
     (λ e. let h = within .numbered (rw e) in (h .0, omega (arith, h .1, most)))
     (λ e. let h = within .numbered (rw e) in (h .0, omega (arith, h .1, most)))
-within-telling (P.OptionTwo place marks) floor passed most within =
-    byBool (isPlaced (numberOfPlace place) passed)
+within-telling (P.OptionTwo provplace marks) floor passed most within =
+    byBool (isPlaced (numberOfProvPlace provplace) passed)
     (λ p.
-    let e : passed .0 ≡ 9 = eqb-true _ _ (both-first (eqb (passed .0) (prov .0)) (not (eqb (numberOfPlace place) 0)) p) in
+    let e : passed .0 ≡ 9 = eqb-true _ _ (both-first (eqb (passed .0) (prov .0)) (not (eqb (numberOfProvPlace provplace) 0)) p) in
     (omega arith, omega arith))
     (λ p. let h = within .numbered p in (h .0, omega (arith, h .1, most)))
 
 own-telling : (profile : Profile) → Telling profile (limitsOf profile .freerunning .0)
 unfolding limitsOf
 own-telling P.OptionOne = (omega arith, omega arith)
-own-telling (P.OptionTwo place marks) = (omega arith, omega arith)
+own-telling (P.OptionTwo provplace marks) = (omega arith, omega arith)
 
 -- a marked port tells ST3 for two of them
 toldBy-telling : (profile : Profile) (port : ℕ) (told : Quality) → Telling profile (told .0)
     → Telling profile (toldBy (isMarked (marksOf profile) port) told .0)
 unfolding toldBy marksOf
 toldBy-telling P.OptionOne port told h = rw (unmarked port) h
-toldBy-telling (P.OptionTwo place marks) port told h =
+toldBy-telling (P.OptionTwo provplace marks) port told h =
     byBool (isMarked marks port && (eqb (told .0) (tnc .0) || eqb (told .0) (st3e .0)))
     (λ e. rw e (omega arith, omega arith))
     (λ e. rw e h)
 
 nine-telling : (profile : Profile) (number : ℕ) → Telling profile number → (1 ≤ number) × (number ≤ 9)
 nine-telling P.OptionOne number h = (h .0, omega (arith, h .1))
-nine-telling (P.OptionTwo place marks) number h = h
+nine-telling (P.OptionTwo provplace marks) number h = h
 
 code-telling : (profile : Profile) (told : Quality) → Telling profile (told .0) → told ≢ st4
     → qualityOfCode profile (codeOfQuality profile told) ≡ told
 code-telling P.OptionOne told h other = code-back-one (told .0) (h .0) (h .1)
-code-telling (P.OptionTwo place marks) told h other =
-    code-back-two place marks (told .0) (h .0) (h .1) (λ e. other (λ j. record { 0 = e j }))
+code-telling (P.OptionTwo provplace marks) told h other =
+    code-back-two provplace marks (told .0) (h .0) (h .1) (λ e. other (λ j. record { 0 = e j }))
 
 -- ---- why 08FF goes out
 

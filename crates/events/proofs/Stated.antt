@@ -13,7 +13,7 @@ use Rattle.numbers.proofs.Truth.{byBool, both-first, both-second}
 use Rattle.numbers.specs.declared.quality.Quality.{Quality}
 use Rattle.numbers.specs.Inputs.{inputCount}
 use Rattle.numbers.specs.From.{profileOf}
-use Rattle.numbers.specs.Profile.{placeOf}
+use Rattle.numbers.specs.Profile.{provPlaceOf}
 use Rattle.numbers.specs.Quality.{notTold}
 use Rattle.run.proofs.Exact.{passed-unique, passed-exact}
 use Rattle.input.specs.Recorded.{History, modeOn, priorityOf, isLockedOut, floorOf, momentsUntil, PassedAt, passedAt}
@@ -54,13 +54,13 @@ module _ (history : History) (time : ℕ) where
   -- the quality that document 01 states is the one that the candidates are computed with
   pub candidate-stated : (number : ℕ) → number < inputCount → (quality : Quality) → PassedAt number history time quality
       → getD (candidatesBy history time) number nobody ≡
-      candidateOf (placeOf (profileOf history)) (floorOf number history) quality
+      candidateOf (provPlaceOf (profileOf history)) (floorOf number history) quality
       (record { 0 = priorityOf number history }) (isLockedOut number history) (modeOn history)
   unfolding candidateBy
   candidate-stated number inside quality states =
       shown-at number inside ∙
       ap
-      (λ (passes : Quality). candidateOf (placeOf (profileOf history)) (floorOf number history) passes
+      (λ (passes : Quality). candidateOf (provPlaceOf (profileOf history)) (floorOf number history) passes
       (record { 0 = priorityOf number history }) (isLockedOut number history) (modeOn history))
       (sym (passedAt-only history time number quality states))
 
@@ -118,9 +118,9 @@ module _ (history : History) (time : ℕ) where
           in
           let quality : Quality = passedAt number history time in
           let passes : PassedAt number history time quality = passedAt-passes history time number in
-          let parts : Seen.EligibleCandidate (placeOf (profileOf history)) (floorOf number history) quality
+          let parts : Seen.EligibleCandidate (provPlaceOf (profileOf history)) (floorOf number history) quality
           (record { 0 = priorityOf number history }) (isLockedOut number history) (modeOn history) =
-          eligible-exact (placeOf (profileOf history)) (floorOf number history) quality
+          eligible-exact (provPlaceOf (profileOf history)) (floorOf number history) quality
           (record { 0 = priorityOf number history }) (isLockedOut number history) (modeOn history) .0
           (sym (ap isEligible (candidate-stated number (admitted .isInput) quality passes)) ∙ x)
           in
@@ -135,7 +135,7 @@ module _ (history : History) (time : ℕ) where
       from : Eligible history time number → eligibleAmong (candidatesBy history time) number ≡ true
       from e =
           ap isEligible (candidate-stated number (e .admitted .isInput) (e .quality) (e .passes)) ∙
-          eligible-exact (placeOf (profileOf history)) (floorOf number history) (e .quality)
+          eligible-exact (provPlaceOf (profileOf history)) (floorOf number history) (e .quality)
           (record { 0 = priorityOf number history }) (isLockedOut number history) (modeOn history) .1
           (record {
             notOff = e .admitted .notOff;
@@ -147,12 +147,12 @@ module _ (history : History) (time : ℕ) where
   -- ---- better
 
   -- the place of PROV
-  abbrev place : ℕ
-  place = placeOf (profileOf history)
+  abbrev provplace : ℕ
+  provplace = provPlaceOf (profileOf history)
 
   -- the rank and the priority that a choice compares
   ranked-at : (number : ℕ) → number < inputCount → (quality : Quality) → PassedAt number history time quality
-      → getD (candidatesBy history time) number nobody .rank ≡ rankOf place (rankedQuality (modeOn history) quality)
+      → getD (candidatesBy history time) number nobody .rank ≡ rankOf provplace (rankedQuality (modeOn history) quality)
   unfolding candidateOf
   ranked-at number inside quality passes =
       ap (λ (candidate : Candidate). candidate .rank) (candidate-stated number inside quality passes)
@@ -167,13 +167,13 @@ module _ (history : History) (time : ℕ) where
   -- with mode on it is the passed quality's, with mode off the same for all
   ranked-on : (number : ℕ) → number < inputCount → modeOn history ≡ true → (quality : Quality)
       → PassedAt number history time quality
-      → getD (candidatesBy history time) number nobody .rank .0 ≡ rankOf place quality .0
+      → getD (candidatesBy history time) number nobody .rank .0 ≡ rankOf provplace quality .0
   unfolding rankedQuality
   ranked-on number inside on quality passes =
       ap (λ (ranked : Rank). ranked .0) (ranked-at number inside quality passes) ∙ rw on refl
 
   ranked-off : (number : ℕ) → number < inputCount → modeOn history ≡ false
-      → getD (candidatesBy history time) number nobody .rank .0 ≡ rankOf place notTold .0
+      → getD (candidatesBy history time) number nobody .rank .0 ≡ rankOf provplace notTold .0
   unfolding rankedQuality
   ranked-off number inside off =
       ap (λ (ranked : Rank). ranked .0)
@@ -221,7 +221,7 @@ module _ (history : History) (time : ℕ) where
         to : ranked number ≡ ranked other → SameQuality history time number other
         to x on =
             let same : passedAt other history time .0 ≡ passedAt number history time .0 =
-            ranks place .injective (passedAt other history time) (passedAt number history time)
+            ranks provplace .injective (passedAt other history time) (passedAt number history time)
             (sym (ranked-on other inside' on _ (passedAt-passes history time other)) ∙ sym x ∙
             ranked-on number inside on _ (passedAt-passes history time number))
             in (

@@ -12,10 +12,10 @@ use borrow.Author.Tests.{eqb-true, ne-eqb, not-false}
 use Rattle.numbers.specs.declared.quality.Quality.{Quality}
 use Rattle.numbers.specs.declared.profile.Profile.{Profile}
 use Rattle.numbers.specs.declared.profile.Profile.the-variants as P
-use Rattle.numbers.specs.declared.kind.Row.{Row}
+use Rattle.numbers.specs.declared.kind.KindRow.{KindRow}
 use Rattle.numbers.specs.From.{started, _following_, profileOf}
-use Rattle.numbers.specs.Kind.{rowOf, kindFrame, kindTick, kindFixedQuality, kindFloor}
-use Rattle.numbers.specs.Profile.{limitsOf, floorIn, placeOf, lastPlace}
+use Rattle.numbers.specs.Kind.{kindRowOf, kindFrame, kindTick, kindFixedQuality, kindFloor}
+use Rattle.numbers.specs.Profile.{limitsOf, floorIn, provPlaceOf, lastProvPlace}
 use Rattle.numbers.specs.Quality.{prov, dus, invalid}
 use Rattle.numbers.specs.Refusal.{accepted}
 use Rattle.numbers.proofs.Truth.{byBool, both-second}
@@ -49,10 +49,10 @@ use Rattle.events.proofs.Demand3.{demand-3}
 
 -- ---- what is computed is what is stated
 
-module _ (place floor : ℕ) (passed : Quality) (mode : Bool) where
+module _ (provplace floor : ℕ) (passed : Quality) (mode : Bool) where
   -- an input that is neither off nor locked is eligible exactly if its passed quality is usable
-  unbarred : isEligible (candidateOf place floor passed (record { 0 = 1 }) false mode) ≡
-      candidateOf place floor passed (record { 0 = 1 }) false mode .usable
+  unbarred : isEligible (candidateOf provplace floor passed (record { 0 = 1 }) false mode) ≡
+      candidateOf provplace floor passed (record { 0 = 1 }) false mode .usable
   unfolding isEligible candidateOf isAdmitted
   unbarred = refl
 
@@ -60,8 +60,8 @@ module _ (past : Past) where
   abbrev history : History
   history = past .history
 
-  abbrev place : ℕ
-  place = placeOf (profileOf history)
+  abbrev provplace : ℕ
+  provplace = provPlaceOf (profileOf history)
 
   abbrev candidate : Candidate
   candidate = candidateSelected past
@@ -69,14 +69,14 @@ module _ (past : Past) where
   -- the selected input as a choice sees it, by the passed quality that document 01 states
   selected-stated : (number : ℕ) (passed : Quality) → SelectedPasses past number passed
       → candidate ≡
-      candidateOf place (floorOf number history) passed (record { 0 = priorityOf number history })
+      candidateOf provplace (floorOf number history) passed (record { 0 = priorityOf number history })
       (isLockedOut number history)
       (modeOn history)
   unfolding candidateBy
   selected-stated number passed here =
       ap (shown past) (here .isSelected) ∙
       ap
-      (λ (passes : Quality). candidateOf place (floorOf number history) passes
+      (λ (passes : Quality). candidateOf provplace (floorOf number history) passes
       (record { 0 = priorityOf number history })
       (isLockedOut number history)
       (modeOn history))
@@ -85,11 +85,11 @@ module _ (past : Past) where
   -- usable depends on neither priority nor lockout
   usable-stated : (number : ℕ) (passed : Quality) → SelectedPasses past number passed
       → candidate .usable ≡
-      isEligible (candidateOf place (floorOf number history) passed (record { 0 = 1 }) false (modeOn history))
+      isEligible (candidateOf provplace (floorOf number history) passed (record { 0 = 1 }) false (modeOn history))
   unfolding candidateOf
   usable-stated number passed here =
       ap (λ (seen : Candidate). seen .usable) (selected-stated number passed here) ∙
-      sym (unbarred place (floorOf number history) passed (modeOn history))
+      sym (unbarred provplace (floorOf number history) passed (modeOn history))
 
   -- what is told of it with mode on is its passed quality
   pub quality-stated : (number : ℕ) (passed : Quality) → SelectedPasses past number passed → modeOn history ≡ true
@@ -116,11 +116,11 @@ module _ (past : Past) where
   usable-from number passed here = (to, from)
     where
       seen : Candidate
-      seen = candidateOf place (floorOf number history) passed (record { 0 = 1 }) false (modeOn history)
+      seen = candidateOf provplace (floorOf number history) passed (record { 0 = 1 }) false (modeOn history)
 
       exact : (isEligible seen ≡ true) ↔
-          Seen.EligibleCandidate place (floorOf number history) passed (record { 0 = 1 }) false (modeOn history)
-      exact = eligible-exact place (floorOf number history) passed (record { 0 = 1 }) false (modeOn history)
+          Seen.EligibleCandidate provplace (floorOf number history) passed (record { 0 = 1 }) false (modeOn history)
+      exact = eligible-exact provplace (floorOf number history) passed (record { 0 = 1 }) false (modeOn history)
 
       to : candidate .usable ≡ true → UsableFrom history number passed
       to usable =
@@ -224,7 +224,7 @@ module _ (sequence : Sequence) where
             same
             (some .isSelected .passes))
             (subst
-            (λ (number : ℕ). Within (placeOf (profileOf (recorded sequence))) (floorOf number (recorded sequence))
+            (λ (number : ℕ). Within (provPlaceOf (profileOf (recorded sequence))) (floorOf number (recorded sequence))
             (some .passed))
             same
             (some .usable .within mode));
@@ -233,7 +233,7 @@ module _ (sequence : Sequence) where
 -- ---- settings stay in their ranges
 
 -- an argument is in a row's range
-abbrev InRow : Row → ℕ → Type 0
+abbrev InRow : KindRow → ℕ → Type 0
 InRow row argument = (row .least ≤ argument) × (argument ≤ row .most)
 
 module _ (kind number fresh : ℕ) (notTick : eqb kindTick kind ≡ false) (notFrame : eqb kind kindFrame ≡ false) where
@@ -241,7 +241,7 @@ module _ (kind number fresh : ℕ) (notTick : eqb kindTick kind ≡ false) (notF
   abbrev Ranged : History → Type 0
   Ranged history =
       (lastArgument number kind fresh history ≡ fresh) ⊎
-      InRow (rowOf (limitsOf (profileOf history)) kind) (lastArgument number kind fresh history)
+      InRow (kindRowOf (limitsOf (profileOf history)) kind) (lastArgument number kind fresh history)
 
   tick-off : (time : ℕ) → isOn number kind (tickEvent time) ≡ false
   unfolding isOn
@@ -254,7 +254,7 @@ module _ (kind number fresh : ℕ) (notTick : eqb kindTick kind ≡ false) (notF
   module _ (past : Past) (given : Given) (none : earlyBy past given ≡ accepted) where
     -- an accepted event of that kind has an argument in its row
     own-ranged : given .event .kind ≡ kind
-        → InRow (rowOf (limitsOf (profileOf (past .history))) kind)
+        → InRow (kindRowOf (limitsOf (profileOf (past .history))) kind)
         (recordedArgument (given .event .kind) (given .event .argument) (readCode (given .frame)))
     unfolding recordedArgument
     own-ranged same =
@@ -268,7 +268,7 @@ module _ (kind number fresh : ℕ) (notTick : eqb kindTick kind ≡ false) (notF
         (inputKind (given .event .input) (past .history)) (given .event) (readCode (given .frame)) early
         in
         rw (same, notFrame)
-        (subst (λ (known : ℕ). InRow (rowOf (limitsOf (profileOf (past .history))) known) (given .event .argument))
+        (subst (λ (known : ℕ). InRow (kindRowOf (limitsOf (profileOf (past .history))) known) (given .event .argument))
         same
         (least, most))
 
@@ -299,54 +299,55 @@ module _ (kind number fresh : ℕ) (notTick : eqb kindTick kind ≡ false) (notF
       go false true e ranged = ticked-ranged (given .event .time) (recorded earlier) ranged
       go false false e ranged = taken-ranged (pastOf earlier) given (eqb-true _ _ (not-false _ e)) ranged
 
-pub floor-last : (profile : Profile) → limitsOf profile .floor ≤ lastPlace
+pub floor-last : (profile : Profile) → limitsOf profile .floor ≤ lastProvPlace
 unfolding limitsOf
 floor-last P.OptionOne = omega arith
-floor-last (P.OptionTwo place marks) = omega arith
+floor-last (P.OptionTwo provplace marks) = omega arith
 
 -- a fresh floor is in the range
 own-ranged-floor : (profile : Profile)
     → (1 ≤ limitsOf profile .freerunning .0) × (limitsOf profile .freerunning .0 ≤ limitsOf profile .floor)
 unfolding limitsOf
 own-ranged-floor P.OptionOne = (omega arith, omega arith)
-own-ranged-floor (P.OptionTwo place marks) = (omega arith, omega arith)
+own-ranged-floor (P.OptionTwo provplace marks) = (omega arith, omega arith)
 
-floor-ranged : (profile : Profile) (set : ℕ) → (set ≡ 0) ⊎ InRow (rowOf (limitsOf profile) kindFloor) set
+floor-ranged : (profile : Profile) (set : ℕ) → (set ≡ 0) ⊎ InRow (kindRowOf (limitsOf profile) kindFloor) set
     → (1 ≤ floorIn (limitsOf profile .freerunning) set) × (floorIn (limitsOf profile .freerunning) set ≤ limitsOf profile .floor)
-unfolding floorIn rowOf
+unfolding floorIn kindRowOf
 floor-ranged profile set (inl e) = rw e (own-ranged-floor profile)
 floor-ranged profile set (inr h) = rw (ne-eqb set 0 (λ e. omega (arith, e, h .0))) h
 
-fixed-ranged : (profile : Profile) (fixed : ℕ) → (fixed ≡ 0) ⊎ InRow (rowOf (limitsOf profile) kindFixedQuality) fixed
+fixed-ranged : (profile : Profile) (fixed : ℕ)
+    → (fixed ≡ 0) ⊎ InRow (kindRowOf (limitsOf profile) kindFixedQuality) fixed
     → fixed ≤ limitsOf profile .fixed
-unfolding rowOf
+unfolding kindRowOf
 fixed-ranged profile fixed (inl e) = omega (arith, e)
 fixed-ranged profile fixed (inr h) = h .1
 
 -- ---- what is never usable
 
-module _ (place floor : ℕ) (passed : Quality) where
-  above-floor : isPlaced place passed ≡ false → floor < passed .0 → Within place floor passed → ⊥
+module _ (provplace floor : ℕ) (passed : Quality) where
+  above-floor : isPlaced provplace passed ≡ false → floor < passed .0 → Within provplace floor passed → ⊥
   above-floor p h within = omega (arith, h, within .numbered p .1)
 
-  placed-last : isPlaced place passed ≡ true → floor ≤ place → Within place floor passed → ⊥
+  placed-last : isPlaced provplace passed ≡ true → floor ≤ provplace → Within provplace floor passed → ⊥
   placed-last p h within = omega (arith, h, within .placed p)
 
-prov-unplaced : (place : ℕ) → place ≡ 0 → isPlaced place prov ≡ false
+prov-unplaced : (provplace : ℕ) → provplace ≡ 0 → isPlaced provplace prov ≡ false
 unfolding isPlaced
-prov-unplaced place e = rw e
+prov-unplaced provplace e = rw e
 
-prov-placed : (place : ℕ) → lastPlace ≤ place → isPlaced place prov ≡ true
+prov-placed : (provplace : ℕ) → lastProvPlace ≤ provplace → isPlaced provplace prov ≡ true
 unfolding isPlaced
-prov-placed place h = rw (ne-eqb place 0 (λ e. omega (arith, e, h)))
+prov-placed provplace h = rw (ne-eqb provplace 0 (λ e. omega (arith, e, h)))
 
-dus-unplaced : (place : ℕ) → isPlaced place dus ≡ false
+dus-unplaced : (provplace : ℕ) → isPlaced provplace dus ≡ false
 unfolding isPlaced
-dus-unplaced place = refl
+dus-unplaced provplace = refl
 
-invalid-unplaced : (place : ℕ) → isPlaced place invalid ≡ false
+invalid-unplaced : (provplace : ℕ) → isPlaced provplace invalid ≡ false
 unfolding isPlaced
-invalid-unplaced place = refl
+invalid-unplaced provplace = refl
 
 module _ (sequence : Sequence) (number : ℕ) where
   abbrev own-profile : Profile
@@ -356,7 +357,7 @@ module _ (sequence : Sequence) (number : ℕ) where
       (floorOf number (recorded sequence) ≤ limitsOf own-profile .floor)
   floor-range = floor-ranged own-profile _ (setting-ranged kindFloor number 0 refl refl sequence)
 
-  below-last : floorOf number (recorded sequence) ≤ lastPlace
+  below-last : floorOf number (recorded sequence) ≤ lastProvPlace
   below-last = omega (arith, floor-range .1, floor-last own-profile)
 
   -- L10: floors and fixed qualities stay in their ranges, and PROV that is not placed or placed at 8, DUS and invalid
@@ -373,11 +374,11 @@ module _ (sequence : Sequence) (number : ℕ) where
             subst (λ (profile : Profile). fixedOf number (recorded sequence) ≤ limitsOf profile .fixed) same
             (fixed-ranged own-profile _ (setting-ranged kindFixedQuality number 0 refl refl sequence));
         unplaced = λ on none usable.
-            above-floor _ _ prov (prov-unplaced _ (ap placeOf same ∙ none)) (omega (arith, below-last))
+            above-floor _ _ prov (prov-unplaced _ (ap provPlaceOf same ∙ none)) (omega (arith, below-last))
             (usable .within on);
         placedLast = λ on last usable.
-            let high : lastPlace ≤ placeOf own-profile =
-            subst (λ (profile : Profile). lastPlace ≤ placeOf profile) (sym same) last
+            let high : lastProvPlace ≤ provPlaceOf own-profile =
+            subst (λ (profile : Profile). lastProvPlace ≤ provPlaceOf profile) (sym same) last
             in
             placed-last _ _ prov (prov-placed _ high) (omega (arith, below-last, high)) (usable .within on);
         doNotUse = λ on usable.

@@ -12,7 +12,7 @@ use Rattle.numbers.specs.declared.quality.Quality.{Quality}
 use Rattle.numbers.specs.Inputs.{inputCount}
 use Rattle.numbers.specs.Kind.{kindForced, kindManual}
 use Rattle.numbers.specs.From.{profileOf}
-use Rattle.numbers.specs.Profile.{placeOf}
+use Rattle.numbers.specs.Profile.{provPlaceOf}
 use Rattle.numbers.specs.Quality.{failed}
 use Rattle.input.specs.Recorded.{History, modeOn, priorityOf, isLockedOut, floorOf, PassedAt}
 use Rattle.choice.specs.declared.Selection.{Selection}
@@ -41,7 +41,7 @@ pub record Eligible (history : History) (time number : ℕ) : Type 0 where
   pub quality : Quality
   pub passes : PassedAt number history time quality
   pub notFailed : quality ≢ failed
-  pub usable : modeOn history ≡ true → Within (placeOf (profileOf history)) (floorOf number history) quality
+  pub usable : modeOn history ≡ true → Within (provPlaceOf (profileOf history)) (floorOf number history) quality
 
 -- "lower passed quality (mode on only)", by the ranking: by number, with PROV where it is placed
 pub record LowerQuality (history : History) (time number other : ℕ) : Type 0 where
@@ -50,7 +50,8 @@ pub record LowerQuality (history : History) (time number other : ℕ) : Type 0 w
   pub otherQuality : Quality
   pub passes : PassedAt number history time quality
   pub otherPasses : PassedAt other history time otherQuality
-  pub lower : rankOf (placeOf (profileOf history)) quality .0 < rankOf (placeOf (profileOf history)) otherQuality .0
+  pub lower : rankOf (provPlaceOf (profileOf history)) quality .0
+      < rankOf (provPlaceOf (profileOf history)) otherQuality .0
 
 -- the same passed quality, mode on; with mode off any two are alike
 abbrev pub SameQuality : History → ℕ → ℕ → ℕ → Type 0

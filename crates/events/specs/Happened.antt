@@ -6,7 +6,7 @@ use mathlib.Core.Path.{_≡_}
 use lib.ListN.{getD}
 use Rattle.numbers.specs.declared.quality.Quality.{Quality}
 use Rattle.numbers.specs.From.{started, profileOf}
-use Rattle.numbers.specs.Profile.{placeOf}
+use Rattle.numbers.specs.Profile.{provPlaceOf}
 use Rattle.numbers.specs.Inputs.{inputCount}
 use Rattle.input.specs.Recorded.{History, modeOn, timeOf, priorityOf, isLockedOut, floorOf, PassedAt, Ordered}
 use Rattle.choice.specs.Candidate.{nobody, candidateOf}
@@ -41,7 +41,7 @@ pub record Happened (sequence : Sequence) : Type 0 where
   pub eligibility : (time number : ℕ) → number < inputCount → (quality : Quality)
       → PassedAt number (recorded sequence) time quality
       → getD (candidatesBy (recorded sequence) time) number nobody ≡
-      candidateOf (placeOf (profileOf (recorded sequence))) (floorOf number (recorded sequence)) quality
+      candidateOf (provPlaceOf (profileOf (recorded sequence))) (floorOf number (recorded sequence)) quality
       (record { 0 = priorityOf number (recorded sequence) })
       (isLockedOut number (recorded sequence))
       (modeOn (recorded sequence))

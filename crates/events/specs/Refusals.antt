@@ -10,7 +10,7 @@ use Rattle.numbers.specs.declared.Event.{Event}
 use Rattle.numbers.specs.declared.kind.InputKind.{InputKind}
 use Rattle.numbers.specs.declared.profile.Limits.{Limits}
 use Rattle.numbers.specs.Inputs.{timeLimit}
-use Rattle.numbers.specs.Kind.{rowOf, isInputOut, isArgumentOut, takesCodes, takesFrames, takesWords, kindFrame, kindLineCode, kindWord, kindForced, kindManual}
+use Rattle.numbers.specs.Kind.{kindRowOf, isInputOut, isArgumentOut, takesCodes, takesFrames, takesWords, kindFrame, kindLineCode, kindWord, kindForced, kindManual}
 use Rattle.numbers.specs.Refusal.{accepted, kindUnknown, timeTooLarge, timeBeforeState, inputOutOfRange, argumentOutOfRange, wrongInputKind, forcedBarred, manualForcedStands, manualNotEligible, manualLowerQuality}
 use Rattle.numbers.specs.Rows.{Refusal, refusal, firstThatApplies}
 use Rattle.frame.specs.declared.FrameRead.{FrameRead}
@@ -25,21 +25,21 @@ use Rattle.switch.specs.OneChoice.{forcedMayStand}
 -- "code for an Ethernet input, frame for a line input"; document 02, L12: "A word sent to an input of another kind is
 -- refusal 7, a code or frame sent to this kind too"
 unfoldable pub isWrongKind : ℕ → InputKind → Bool
-isWrongKind kind at =
-    cond (eqb kind kindLineCode) (not (takesCodes at))
-    (cond (eqb kind kindFrame) (not (takesFrames at))
-    (cond (eqb kind kindWord) (not (takesWords at))
+isWrongKind kind inputkind =
+    cond (eqb kind kindLineCode) (not (takesCodes inputkind))
+    (cond (eqb kind kindFrame) (not (takesFrames inputkind))
+    (cond (eqb kind kindWord) (not (takesWords inputkind))
     false))
 
 -- rows 2 to 7, by an option's limits, for a state at a time, whose input has a kind
 abbrev pub earlyRows : Limits → ℕ → InputKind → Event → List Refusal
-earlyRows limits time at event =
-    refusal kindUnknown (not (rowOf limits (event .kind) .known)) ∷
+earlyRows limits time inputkind event =
+    refusal kindUnknown (not (kindRowOf limits (event .kind) .known)) ∷
     refusal timeTooLarge (leb timeLimit (event .time)) ∷
     refusal timeBeforeState (ltb (event .time) time) ∷
-    refusal inputOutOfRange (isInputOut (rowOf limits (event .kind)) (event .input)) ∷
-    refusal argumentOutOfRange (isArgumentOut (rowOf limits (event .kind)) (event .argument)) ∷
-    refusal wrongInputKind (isWrongKind (event .kind) at) ∷
+    refusal inputOutOfRange (isInputOut (kindRowOf limits (event .kind)) (event .input)) ∷
+    refusal argumentOutOfRange (isArgumentOut (kindRowOf limits (event .kind)) (event .argument)) ∷
+    refusal wrongInputKind (isWrongKind (event .kind) inputkind) ∷
     []
 
 -- rows 8 to 13, of a frame event alone
@@ -56,8 +56,8 @@ readRow kind read = refusal (frameRefusal kind read) (not (eqb (frameRefusal kin
 
 -- the number of an event that is refused before the tick, by its frame's reading
 unfoldable pub earlyRefusal : Limits → ℕ → InputKind → Event → FrameRead → ℕ
-earlyRefusal limits time at event read =
-    firstThatApplies (earlyRows limits time at event ++ readRow (event .kind) read ∷ [])
+earlyRefusal limits time inputkind event read =
+    firstThatApplies (earlyRows limits time inputkind event ++ readRow (event .kind) read ∷ [])
 
 -- "a forced switch stands"
 unfoldable pub isForcedSwitch : Switch → Bool

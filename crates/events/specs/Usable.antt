@@ -7,7 +7,7 @@ use mathlib.Core.List.{List, map}
 use mathlib.Core.Path.{_≡_}
 use Rattle.numbers.specs.declared.quality.Quality.{Quality}
 use Rattle.numbers.specs.From.{profileOf}
-use Rattle.numbers.specs.Profile.{limitsOf, placeOf, lastPlace}
+use Rattle.numbers.specs.Profile.{limitsOf, provPlaceOf, lastProvPlace}
 use Rattle.numbers.specs.Quality.{prov, dus, invalid, failed}
 use Rattle.numbers.specs.Refusal.{accepted}
 use Rattle.input.specs.Recorded.{History, modeOn, floorOf, fixedOf, timeOf, PassedAt}
@@ -30,7 +30,7 @@ pub record SelectedPasses (past : Past) (number : ℕ) (passed : Quality) : Type
 -- "usable": "1 to 4 with mode on, not 7 with mode off"; L9: to the input's floor; L10: with PROV at its place
 pub record UsableFrom (history : History) (number : ℕ) (passed : Quality) : Type 0 where
   pub notFailed : passed ≢ failed
-  pub within : modeOn history ≡ true → Within (placeOf (profileOf history)) (floorOf number history) passed
+  pub within : modeOn history ≡ true → Within (provPlaceOf (profileOf history)) (floorOf number history) passed
 
 -- "an input is selected and its passed quality is usable"
 pub record SomethingUsable (past : Past) : Type 0 where
@@ -64,7 +64,7 @@ pub record LockedExactly (sequence : Sequence) : Type 0 where
   -- L9: "so a forced switch onto an input below its floor gives holdover", with mode on: nothing usable is selected
   pub below : (on : ℕ) → StandsForced on (madeIn sequence) → modeOn (recorded sequence) ≡ true
       → ((passed : Quality) → PassedAt on (recorded sequence) (timeOf (recorded sequence)) passed
-      → Within (placeOf (profileOf (recorded sequence))) (floorOf on (recorded sequence)) passed → ⊥)
+      → Within (provPlaceOf (profileOf (recorded sequence))) (floorOf on (recorded sequence)) passed → ⊥)
       → NothingUsable (pastOf sequence)
 
 -- ---- what is never usable
@@ -76,11 +76,11 @@ pub record NeverUsable (sequence : Sequence) (number : ℕ) : Type 0 where
   pub floorMost : floorOf number (recorded sequence) ≤ limitsOf (profileOf sequence) .floor
   pub fixedMost : fixedOf number (recorded sequence) ≤ limitsOf (profileOf sequence) .fixed
   -- "PROV is not usable unless the operator places it"; so it is with mode on
-  pub unplaced : modeOn (recorded sequence) ≡ true → placeOf (profileOf sequence) ≡ 0
+  pub unplaced : modeOn (recorded sequence) ≡ true → provPlaceOf (profileOf sequence) ≡ 0
       → UsableFrom (recorded sequence) number prov
       → ⊥
   -- "is usable if that number is smaller than the input's floor": no floor is above 8
-  pub placedLast : modeOn (recorded sequence) ≡ true → lastPlace ≤ placeOf (profileOf sequence)
+  pub placedLast : modeOn (recorded sequence) ≡ true → lastProvPlace ≤ provPlaceOf (profileOf sequence)
       → UsableFrom (recorded sequence) number prov
       → ⊥
   -- DUS and invalid are above every floor

@@ -99,17 +99,17 @@ module _ (count at : ℕ) (small : at < 16) where
 
 -- the input whose fields were stored
 abbrev pub stored : List ℕ → List ℕ → List ℕ → ℕ → List (ℕ × ℕ) → List (ℕ × ℕ) → List (ℕ × ℕ) → Input
-stored times small words at ts ss ws =
-    inputIn (puts (column times at) ts) (puts (column small at) ss) (puts (column words at) ws)
+stored times small wider at ts ss ws =
+    inputIn (puts (column times at) ts) (puts (column small at) ss) (puts (column wider at) ws)
 
-module _ (times small words : List ℕ) (at : ℕ) (h : at < 16) (ts ss ws : List (ℕ × ℕ))
+module _ (times small wider : List ℕ) (at : ℕ) (h : at < 16) (ts ss ws : List (ℕ × ℕ))
     (tb : allBelow 2 ts ≡ true) (sb : allBelow 14 ss ≡ true) (wb : allBelow 2 ws ≡ true)
     (tsame : column (writes times at ts) at ≡ puts (column times at) ts)
     (ssame : column (writes small at ss) at ≡ puts (column small at) ss)
-    (wsame : column (writes words at ws) at ≡ puts (column words at) ws) where
+    (wsame : column (writes wider at ws) at ≡ puts (column wider at) ws) where
   each : (port : ℕ) → port < 16
-      → inputAt (writes times at ts) (writes small at ss) (writes words at ws) port
-      ≡ butAt (inputAt times small words) (stored times small words at ts ss ws) at port
+      → inputAt (writes times at ts) (writes small at ss) (writes wider at ws) port
+      ≡ butAt (inputAt times small wider) (stored times small wider at ts ss ws) at port
   unfolding inputAt
   each port k =
       byBool (eqb port at)
@@ -123,21 +123,21 @@ module _ (times small words : List ℕ) (at : ℕ) (h : at < 16) (ts ss ws : Lis
       rw e
       (λ j.
       inputIn (writes-other 2 at h ts times port k differ j) (writes-other 14 at h ss small port k differ j)
-      (writes-other 2 at h ws words port k differ j)))
+      (writes-other 2 at h ws wider port k differ j)))
 
-  pub selector-stored : selectorAt (writes times at ts) (writes small at ss) (writes words at ws)
-      ≡ withInput (selectorAt times small words) at (stored times small words at ts ss ws)
+  pub selector-stored : selectorAt (writes times at ts) (writes small at ss) (writes wider at ws)
+      ≡ withInput (selectorAt times small wider) at (stored times small wider at ts ss ws)
   unfolding selectorAt
   selector-stored = λ j.
       selectorIn
-      ((ports-same (inputAt (writes times at ts) (writes small at ss) (writes words at ws))
-      (butAt (inputAt times small words) (stored times small words at ts ss ws) at)
+      ((ports-same (inputAt (writes times at ts) (writes small at ss) (writes wider at ws))
+      (butAt (inputAt times small wider) (stored times small wider at ts ss ws) at)
       each ∙
-      sym (set-ports (inputAt times small words) (stored times small words at ts ss ws) at h))
+      sym (set-ports (inputAt times small wider) (stored times small wider at ts ss ws) at h))
       j)
       (writes-rest 2 at h ts times tb j)
       (writes-rest 14 at h ss small sb j)
-      (writes-rest 2 at h ws words wb j)
+      (writes-rest 2 at h ws wider wb j)
 
 -- a yes or no stored, read again
 pub isSet-byte : (test : Bool) → isSet (boolByte test) ≡ test
@@ -146,33 +146,33 @@ isSet-byte false = refl
 
 -- ---- what is stored together
 
-pub run-stored : (times small words : List ℕ) (at : ℕ) (run : Run) → at < 16
+pub run-stored : (times small wider : List ℕ) (at : ℕ) (run : Run) → at < 16
     → length times ≡ 33 → length small ≡ 232
-    → selectorAt (set times (at + 16) (run .start))
+    → selectorAt (set times (at + 16) (run .began))
     (set (set (set small (at + 64) (run .good .0)) (at + 80) (boolByte (run .failed))) (at + 96) (boolByte (run .up)))
-    words
-    ≡ withInput (selectorAt times small words) at (withRun (inputAt times small words at) run)
+    wider
+    ≡ withInput (selectorAt times small wider) at (withRun (inputAt times small wider at) run)
 unfolding inputAt
-run-stored times small words at run h long wide =
-    let ts : List (ℕ × ℕ) = (1, run .start) ∷ [] in
+run-stored times small wider at run h long wide =
+    let ts : List (ℕ × ℕ) = (1, run .began) ∷ [] in
     let ss : List (ℕ × ℕ) = (4, run .good .0) ∷ (5, boolByte (run .failed)) ∷ (6, boolByte (run .up)) ∷ [] in
-    selector-stored times small words at h ts ss [] refl refl refl
+    selector-stored times small wider at h ts ss [] refl refl refl
     (writes-same 2 at h ts times refl (omega arith))
     (writes-same 14 at h ss small refl (omega arith))
     refl ∙
-    ap (λ (input : Input). withInput (selectorAt times small words) at input)
+    ap (λ (input : Input). withInput (selectorAt times small wider) at input)
     (rw (isSet-byte (run .failed), isSet-byte (run .up)))
 
 -- the numbers of an input, beside that of its kind
 abbrev pub timesOf : Input → List (ℕ × ℕ)
-timesOf input = (0, input .heard .framed) ∷ (1, input .run .start) ∷ []
+timesOf input = (0, input .heard .framed) ∷ (1, input .run .began) ∷ []
 
-abbrev pub wordsOf : Input → List (ℕ × ℕ)
-wordsOf input = (0, input .heard .last) ∷ (1, input .settings .holdoff) ∷ []
+abbrev pub widerOf : Input → List (ℕ × ℕ)
+widerOf input = (0, input .heard .last) ∷ (1, input .settings .holdoff) ∷ []
 
 abbrev pub smallOf : Input → ℕ → List (ℕ × ℕ)
 smallOf input kind =
-    (0, input .heard .frame .0) ∷ (1, input .heard .linequality .0) ∷ (2, input .heard .count) ∷
+    (0, input .heard .frame .0) ∷ (1, input .heard .linequality .0) ∷ (2, input .heard .reports) ∷
     (3, boolByte (input .heard .signal)) ∷
     (4, input .run .good .0) ∷
     (5, boolByte (input .run .failed)) ∷
@@ -186,18 +186,18 @@ smallOf input kind =
     (13, boolByte (input .settings .sending)) ∷
     []
 
-pub input-stored : (times small words : List ℕ) (at : ℕ) (input : Input) (kind : ℕ) → at < 16
-    → length times ≡ 33 → length small ≡ 232 → length words ≡ 33
+pub input-stored : (times small wider : List ℕ) (at : ℕ) (input : Input) (kind : ℕ) → at < 16
+    → length times ≡ 33 → length small ≡ 232 → length wider ≡ 33
     → kind ≡ kindArgument (input .settings .kind)
     → selectorAt (writes times at (timesOf input)) (writes small at (smallOf input kind))
-    (writes words at (wordsOf input))
-    ≡ withInput (selectorAt times small words) at input
-input-stored times small words at input kind h long wide high k =
-    selector-stored times small words at h (timesOf input) (smallOf input kind) (wordsOf input) refl refl refl
+    (writes wider at (widerOf input))
+    ≡ withInput (selectorAt times small wider) at input
+input-stored times small wider at input kind h long wide high k =
+    selector-stored times small wider at h (timesOf input) (smallOf input kind) (widerOf input) refl refl refl
     (writes-same 2 at h (timesOf input) times refl (omega arith))
     (writes-same 14 at h (smallOf input kind) small refl (omega arith))
-    (writes-same 2 at h (wordsOf input) words refl (omega arith)) ∙
-    ap (λ (one : Input). withInput (selectorAt times small words) at one)
+    (writes-same 2 at h (widerOf input) wider refl (omega arith)) ∙
+    ap (λ (one : Input). withInput (selectorAt times small wider) at one)
     (rw (
       isSet-byte (input .heard .signal),
       isSet-byte (input .run .failed),

@@ -27,9 +27,9 @@ use Rattle.inplace.specs.Lists.{switchOf, selectionOf, isSelected, selec
 use Rattle.inplace.proofs.Named.{On, switchOf-on, choice-again}
 
 -- the switch that lists hold is on an input
-pub switch-on : (times small words : List ℕ) → On (selectorAt times small words .switch)
+pub switch-on : (times small wider : List ℕ) → On (selectorAt times small wider .switch)
 unfolding selectorAt
-switch-on times small words = switchOf-on _ _
+switch-on times small wider = switchOf-on _ _
 
 -- what a choice sees of a switch's input
 switch-seen : (candidates : List Candidate) (switch : Switch) (own : Candidate)

@@ -10,12 +10,12 @@ use lib.ListN.{getD, set, length, length-set}
 use lib.Seq.{getD-set-same, getD-set-other}
 use borrow.Author.Tests.{eqb-true, eqb-false, ltb-true, eq-eqb, ne-eqb}
 use Rattle.numbers.proofs.Truth.{byBool, both-first, both-second}
-use Rattle.numbers.proofs.Places.{place-read}
+use Rattle.numbers.proofs.Places.{provplace-read}
 use Rattle.numbers.specs.declared.InputNumber.{InputNumber}
-use Rattle.numbers.specs.declared.profile.Place.{Place}
+use Rattle.numbers.specs.declared.profile.ProvPlace.{ProvPlace}
 use Rattle.numbers.specs.declared.profile.Profile.{Profile}
 use Rattle.numbers.specs.declared.profile.Profile.the-variants as P
-use Rattle.numbers.specs.Profile.{profileWith, profileIn, optionOf, placeOf, marksOf}
+use Rattle.numbers.specs.Profile.{profileWith, profileIn, optionOf, provPlaceOf, marksOf}
 use Rattle.choice.specs.declared.Selection.{Selection}
 use Rattle.choice.specs.declared.Selection.the-variants as S
 use Rattle.switch.specs.declared.AfterChoice.{AfterChoice}
@@ -87,23 +87,23 @@ onces-rest from room (pair ∷ pairs) list below long =
 
 -- ---- the state
 
-module _ (times small words : List ℕ) (ts ss ws : List (ℕ × ℕ))
+module _ (times small wider : List ℕ) (ts ss ws : List (ℕ × ℕ))
     (tsame : rest (onces times 32 ts) 32 ≡ puts (rest times 32) ts)
     (ssame : rest (onces small 224 ss) 224 ≡ puts (rest small 224) ss)
-    (wsame : rest (onces words 32 ws) 32 ≡ puts (rest words 32) ws) where
+    (wsame : rest (onces wider 32 ws) 32 ≡ puts (rest wider 32) ws) where
   each : (port : ℕ) → port < 16
-      → inputAt (onces times 32 ts) (onces small 224 ss) (onces words 32 ws) port ≡ inputAt times small words port
+      → inputAt (onces times 32 ts) (onces small 224 ss) (onces wider 32 ws) port ≡ inputAt times small wider port
   unfolding inputAt
   each port h = λ j.
-      inputIn (onces-column 2 ts times port h j) (onces-column 14 ss small port h j) (onces-column 2 ws words port h j)
+      inputIn (onces-column 2 ts times port h j) (onces-column 14 ss small port h j) (onces-column 2 ws wider port h j)
 
-  pub selector-once : selectorAt (onces times 32 ts) (onces small 224 ss) (onces words 32 ws)
-      ≡ selectorIn (selectorAt times small words .inputs) (puts (rest times 32) ts) (puts (rest small 224) ss)
-      (puts (rest words 32) ws)
+  pub selector-once : selectorAt (onces times 32 ts) (onces small 224 ss) (onces wider 32 ws)
+      ≡ selectorIn (selectorAt times small wider .inputs) (puts (rest times 32) ts) (puts (rest small 224) ss)
+      (puts (rest wider 32) ws)
   unfolding selectorAt
   selector-once = λ j.
       selectorIn
-      (ports-same (inputAt (onces times 32 ts) (onces small 224 ss) (onces words 32 ws)) (inputAt times small words) each j)
+      (ports-same (inputAt (onces times 32 ts) (onces small 224 ss) (onces wider 32 ws)) (inputAt times small wider) each j)
       (tsame j)
       (ssame j)
       (wsame j)
@@ -111,11 +111,11 @@ module _ (times small words : List ℕ) (ts ss ws : List (ℕ × ℕ))
 -- ---- what is stored together
 
 pub time-stored : (times : List ℕ) (time : ℕ) → length times ≡ 33
-    → (small words : List ℕ) → selectorAt (set times 32 time) small words ≡ withTime (selectorAt times small words) time
+    → (small wider : List ℕ) → selectorAt (set times 32 time) small wider ≡ withTime (selectorAt times small wider) time
 unfolding selectorAt
-time-stored times time long small words =
+time-stored times time long small wider =
     let ts : List (ℕ × ℕ) = (0, time) ∷ [] in
-    selector-once times small words ts [] [] (onces-rest 32 1 ts times refl (omega arith)) refl refl
+    selector-once times small wider ts [] [] (onces-rest 32 1 ts times refl (omega arith)) refl refl
 
 -- the numbers of a choice stored
 abbrev pub choiceIn : List ℕ → Bool → ℕ → ℕ → ℕ → ℕ → List ℕ
@@ -126,14 +126,14 @@ pub choice-stored : (small : List ℕ) (choice : AfterChoice) (kind on selection
     → kind ≡ switchNumber (choice .switch) → on ≡ switchInput (choice .switch)
     → selection ≡ isSelected (choice .selection)
     → number ≡ selectedNumber (choice .selection)
-    → (times words : List ℕ)
-    → selectorAt times (choiceIn small (choice .waslocked) kind on selection number) words
-    ≡ withChoice (selectorAt times small words) (heldChoice choice)
+    → (times wider : List ℕ)
+    → selectorAt times (choiceIn small (choice .waslocked) kind on selection number) wider
+    ≡ withChoice (selectorAt times small wider) (heldChoice choice)
 unfolding selectorAt
-choice-stored small choice kind on selection number wide k o s n times words =
+choice-stored small choice kind on selection number wide k o s n times wider =
     let ss : List (ℕ × ℕ) =
     (1, boolByte (choice .waslocked)) ∷ (2, kind) ∷ (3, on) ∷ (4, selection) ∷ (5, number) ∷ [] in
-    selector-once times small words [] ss [] refl (onces-rest 224 8 ss small refl (omega arith)) refl ∙
+    selector-once times small wider [] ss [] refl (onces-rest 224 8 ss small refl (omega arith)) refl ∙
     rw (isSet-byte (choice .waslocked), k, o, s, n)
 
 -- the numbers of a command stored
@@ -142,31 +142,33 @@ commandIn small mode kind on = set (set (set small 224 (boolByte mode)) 226 kind
 
 pub command-stored : (small : List ℕ) (mode : Bool) (switch : Switch) (kind on : ℕ) → length small ≡ 232
     → kind ≡ switchNumber switch → on ≡ switchInput switch
-    → (times words : List ℕ)
-    → selectorAt times (commandIn small mode kind on) words
-    ≡ withCommand (selectorAt times small words) mode (heldSwitch switch)
+    → (times wider : List ℕ)
+    → selectorAt times (commandIn small mode kind on) wider
+    ≡ withCommand (selectorAt times small wider) mode (heldSwitch switch)
 unfolding selectorAt
-command-stored small mode switch kind on wide k o times words =
+command-stored small mode switch kind on wide k o times wider =
     let ss : List (ℕ × ℕ) = (0, boolByte mode) ∷ (2, kind) ∷ (3, on) ∷ [] in
-    selector-once times small words [] ss [] refl (onces-rest 224 8 ss small refl (omega arith)) refl ∙
+    selector-once times small wider [] ss [] refl (onces-rest 224 8 ss small refl (omega arith)) refl ∙
     rw (isSet-byte mode, k, o)
 
 -- a profile of its numbers
-pub profileIn-back : (profile : Profile) → profileIn (optionOf profile) (placeOf profile) (marksOf profile) ≡ profile
-unfolding profileIn profileWith optionOf placeOf marksOf
+pub profileIn-back : (profile : Profile)
+    → profileIn (optionOf profile) (provPlaceOf profile) (marksOf profile) ≡ profile
+unfolding profileIn profileWith optionOf provPlaceOf marksOf
 profileIn-back P.OptionOne = refl
-profileIn-back (P.OptionTwo place marks) = ap (λ (read : Place). P.OptionTwo read marks) (place-read place)
+profileIn-back (P.OptionTwo provplace marks) = ap (λ (read : ProvPlace). P.OptionTwo read marks)
+    (provplace-read provplace)
 
-pub profile-stored : (small words : List ℕ) (profile : Profile) (option place marks : ℕ) → length small ≡ 232
-    → length words ≡ 33
-    → option ≡ optionOf profile → place ≡ placeOf profile → marks ≡ marksOf profile
+pub profile-stored : (small wider : List ℕ) (profile : Profile) (option provplace marks : ℕ) → length small ≡ 232
+    → length wider ≡ 33
+    → option ≡ optionOf profile → provplace ≡ provPlaceOf profile → marks ≡ marksOf profile
     → (times : List ℕ)
-    → selectorAt times (set (set small 230 option) 231 place) (set words 32 marks)
-    ≡ withProfile (selectorAt times small words) profile
+    → selectorAt times (set (set small 230 option) 231 provplace) (set wider 32 marks)
+    ≡ withProfile (selectorAt times small wider) profile
 unfolding selectorAt
-profile-stored small words profile option place marks wide high o p m times =
-    let ss : List (ℕ × ℕ) = (6, option) ∷ (7, place) ∷ [] in
+profile-stored small wider profile option provplace marks wide high o p m times =
+    let ss : List (ℕ × ℕ) = (6, option) ∷ (7, provplace) ∷ [] in
     let ws : List (ℕ × ℕ) = (0, marks) ∷ [] in
-    selector-once times small words [] ss ws refl (onces-rest 224 8 ss small refl (omega arith))
-    (onces-rest 32 1 ws words refl (omega arith)) ∙
+    selector-once times small wider [] ss ws refl (onces-rest 224 8 ss small refl (omega arith))
+    (onces-rest 32 1 ws wider refl (omega arith)) ∙
     rw (o, p, m, profileIn-back profile)

@@ -13,7 +13,7 @@ use borrow.Author.Tests.{eqb-true, leb-true, leb-false, ltb-true, ltb-false, le-
 use Rattle.numbers.specs.declared.quality.Quality.{Quality}
 use Rattle.numbers.specs.declared.profile.Profile.{Profile}
 use Rattle.numbers.specs.Inputs.{frameLife}
-use Rattle.numbers.specs.Profile.{placeOf, limitsOf, floorIn}
+use Rattle.numbers.specs.Profile.{provPlaceOf, limitsOf, floorIn}
 use Rattle.numbers.specs.Quality.{isFailed}
 use Rattle.numbers.proofs.Truth.{byBool, and-both, both-first, both-second, or-cases, or-left, or-right}
 use Rattle.run.specs.declared.Forecast.{Forecast}
@@ -123,7 +123,7 @@ pub brought-stays : (input : Input) (mode : Bool) (from time : ℕ) → isTimely
 unfolding inputBroughtTo forecast nextOf
 brought-stays input mode from time timely later lt =
     ap (λ (run : Run). withRun input run)
-    (stays-any (frameDue (input .heard)) (input .heard .framed) _ _ _ _ (input .run .start) (input .run .good)
+    (stays-any (frameDue (input .heard)) (input .heard .framed) _ _ _ _ (input .run .began) (input .run .good)
     (input .run .failed)
     (input .run .up)
     from
@@ -182,8 +182,8 @@ timerDue-ever : (run : Run) (forecast : Forecast) → timerDue run forecast ≤ 
 unfolding timerDue sumOrNever
 timerDue-ever run forecast =
     byBool (run .failed)
-    (λ e. rw e (lesser-other (run .start + forecast .holdoff) never))
-    (λ e. rw e (lesser-other (run .start + forecast .wait) never))
+    (λ e. rw e (lesser-other (run .began + forecast .holdoff) never))
+    (λ e. rw e (lesser-other (run .began + forecast .wait) never))
 
 nextOf-ever : (input : Input) (mode : Bool) (time : ℕ) → nextOf input mode time ≤ never
 unfolding nextOf
@@ -329,15 +329,15 @@ filled-past f (suc count) (x ∷ from) (y ∷ into) d = filled-past f count from
 
 -- ---- a loop that asks one input after another whether it is timely
 
-module _ (times small words : List ℕ) (mode : Bool) (at : ℕ) where
-  module _ (input : Input) (timely : Bool) (seen : input ≡ inputAt times small words at)
+module _ (times small wider : List ℕ) (mode : Bool) (at : ℕ) where
+  module _ (input : Input) (timely : Bool) (seen : input ≡ inputAt times small wider at)
       (told : timely ≡ isTimely input mode) where
-    asked : isTimely (inputAt times small words at) mode ≡ timely
+    asked : isTimely (inputAt times small wider at) mode ≡ timely
     asked = ap (λ (one : Input). isTimely one mode) (sym seen) ∙ sym told
 
     pub timely-one-more : timely ≡ true
-        → ((number : ℕ) → number < at → isTimely (inputAt times small words number) mode ≡ true)
-        → (number : ℕ) → number < at + 1 → isTimely (inputAt times small words number) mode ≡ true
+        → ((number : ℕ) → number < at → isTimely (inputAt times small wider number) mode ≡ true)
+        → (number : ℕ) → number < at + 1 → isTimely (inputAt times small wider number) mode ≡ true
     timely-one-more e before number h =
         byBool (leb at number)
         (λ k. let same : number ≡ at = omega (arith, leb-true at number k) in
@@ -345,40 +345,40 @@ module _ (times small words : List ℕ) (mode : Bool) (at : ℕ) where
         (λ k. before number (leb-false at number k))
 
     pub timely-one-not : timely ≡ false → at < 16
-        → false ≡ allTimely (selectorAt times small words .inputs) mode
+        → false ≡ allTimely (selectorAt times small wider .inputs) mode
     timely-one-not e h =
-        let l : length (selectorAt times small words .inputs) ≡ 16 = inputs-length times small words in
-        sym (timely-not (selectorAt times small words .inputs) mode freshInput at (omega arith)
-        (ap (λ (one : Input). isTimely one mode) (inputs-at times small words at freshInput h) ∙ asked ∙ e))
+        let l : length (selectorAt times small wider .inputs) ≡ 16 = inputs-length times small wider in
+        sym (timely-not (selectorAt times small wider .inputs) mode freshInput at (omega arith)
+        (ap (λ (one : Input). isTimely one mode) (inputs-at times small wider at freshInput h) ∙ asked ∙ e))
 
   pub timely-all : 16 ≤ at
-      → ((number : ℕ) → number < at → isTimely (inputAt times small words number) mode ≡ true)
-      → true ≡ allTimely (selectorAt times small words .inputs) mode
+      → ((number : ℕ) → number < at → isTimely (inputAt times small wider number) mode ≡ true)
+      → true ≡ allTimely (selectorAt times small wider .inputs) mode
   timely-all h each =
-      let l : length (selectorAt times small words .inputs) ≡ 16 = inputs-length times small words in
-      sym (timely-from (selectorAt times small words .inputs) mode freshInput
+      let l : length (selectorAt times small wider .inputs) ≡ 16 = inputs-length times small wider in
+      sym (timely-from (selectorAt times small wider .inputs) mode freshInput
       (λ number k. let few : number < 16 = omega arith in
-      ap (λ (one : Input). isTimely one mode) (inputs-at times small words number freshInput few) ∙
+      ap (λ (one : Input). isTimely one mode) (inputs-at times small wider number freshInput few) ∙
       each number (omega arith)))
 
 -- ---- one input of the state
 
-module _ (times small words : List ℕ) (at : ℕ) (h : at < 16) where
+module _ (times small wider : List ℕ) (at : ℕ) (h : at < 16) where
   -- an input that stays is stored already
-  pub same-stored : (input : Input) → input ≡ inputAt times small words at
-      → selectorAt times small words ≡ withInput (selectorAt times small words) at input
+  pub same-stored : (input : Input) → input ≡ inputAt times small wider at
+      → selectorAt times small wider ≡ withInput (selectorAt times small wider) at input
   same-stored input e =
-      ap (λ (inputs : List Input). withInputs (selectorAt times small words) inputs)
+      ap (λ (inputs : List Input). withInputs (selectorAt times small wider) inputs)
       (sym
-      (ap (λ (one : Input). set (selectorAt times small words .inputs) at one)
-      (e ∙ sym (inputs-at times small words at freshInput h)) ∙
-      set-getD (selectorAt times small words .inputs) at freshInput))
+      (ap (λ (one : Input). set (selectorAt times small wider .inputs) at one)
+      (e ∙ sym (inputs-at times small wider at freshInput h)) ∙
+      set-getD (selectorAt times small wider .inputs) at freshInput))
 
-  module _ (f : Input → Input) (first : Selector) (now : selectorAt times small words ≡ changed f at first) where
+  module _ (f : Input → Input) (first : Selector) (now : selectorAt times small wider ≡ changed f at first) where
     -- what a turn reads has not been changed yet
-    pub untouched : inputAt times small words at ≡ getD (first .inputs) at freshInput
+    pub untouched : inputAt times small wider at ≡ getD (first .inputs) at freshInput
     untouched =
-        sym (inputs-at times small words at freshInput h) ∙
+        sym (inputs-at times small wider at freshInput h) ∙
         ap (λ (state : Selector). getD (state .inputs) at freshInput) now ∙
         filled-at f at (first .inputs) freshInput
 
@@ -387,12 +387,12 @@ module _ (times small words : List ℕ) (at : ℕ) (h : at < 16) where
         → Awaiting (first .inputs) mode time until own₀
         → own ≡ filled g at (first .inputs) own₀
         → until < getD own at 0
-        → Awaits (inputAt times small words at) mode time (getD own at 0)
+        → Awaits (inputAt times small wider at) mode time (getD own at 0)
     awaits-still g mode time until own₀ own awaiting e lt =
         let same : getD own at 0 ≡ getD own₀ at 0 =
         ap (λ (list : List ℕ). getD list at 0) e ∙ filled-past g at (first .inputs) own₀ 0 in
         let before : until < getD own₀ at 0 = omega arith in
-        subst (λ (one : ℕ). Awaits (inputAt times small words at) mode time one) (sym same)
+        subst (λ (one : ℕ). Awaits (inputAt times small wider at) mode time one) (sym same)
         (subst (λ (input : Input). Awaits input mode time (getD own₀ at 0)) (sym untouched) (awaiting at h before))
 
 -- the own time of one that awaits it
@@ -422,18 +422,18 @@ passes-alike input before after time mode old new p q o n e =
     ap passedOf (sym q) ∙ sym n ∙ sym equal ∙ o ∙ ap passedOf p
 
 -- which is stored by its run
-pub brought-stored : (times small words : List ℕ) (at : ℕ) (state : Selector) (before after : Input) (time : ℕ)
+pub brought-stored : (times small wider : List ℕ) (at : ℕ) (state : Selector) (before after : Input) (time : ℕ)
     (mode : Bool)
     → state
-    ≡ withInput (selectorAt times small words) at (withRun (inputAt times small words at) (after .run))
-    → before ≡ inputAt times small words at
+    ≡ withInput (selectorAt times small wider) at (withRun (inputAt times small wider at) (after .run))
+    → before ≡ inputAt times small wider at
     → after ≡ inputBroughtTo before time mode
     → state
-    ≡ withInput (selectorAt times small words) at (inputBroughtTo (inputAt times small words at) time mode)
-brought-stored times small words at state before after time mode s p q =
+    ≡ withInput (selectorAt times small wider) at (inputBroughtTo (inputAt times small wider at) time mode)
+brought-stored times small wider at state before after time mode s p q =
     s ∙
-    ap (λ (one : Input). withInput (selectorAt times small words) at one)
-    (Turn.brought (inputAt times small words at) before after time mode p q)
+    ap (λ (one : Input). withInput (selectorAt times small wider) at one)
+    (Turn.brought (inputAt times small wider at) before after time mode p q)
 
 -- ---- a loop that brings the inputs to a time, one after another
 
@@ -485,7 +485,7 @@ pub alike-turn : (inputs : List Input) (mode : Bool) (time at : ℕ) (input : In
 alike-turn inputs mode time at input alike one i before this e number h =
     byBool (leb at number)
     (λ k. let same : number ≡ at = omega (arith, leb-true at number k) in
-    subst (λ (place : ℕ). PassesAlike (getD inputs place freshInput) mode time) (sym same)
+    subst (λ (index : ℕ). PassesAlike (getD inputs index freshInput) mode time) (sym same)
     (subst (λ (found : Input). PassesAlike found mode time) i (this (both-second alike one e))))
     (λ k. before (both-first alike one e) number (leb-false at number k))
 
@@ -524,7 +524,7 @@ candidates-alike : (profile : Profile) (inputs : List Input) (mode : Bool) (time
 unfolding candidateFor inputBroughtTo
 candidates-alike profile [] mode time all = refl
 candidates-alike profile (input ∷ inputs) mode time all = λ j.
-    candidateOf (placeOf profile) (floorIn (limitsOf profile .freerunning) (input .settings .floor)) (all .0 j)
+    candidateOf (provPlaceOf profile) (floorIn (limitsOf profile .freerunning) (input .settings .floor)) (all .0 j)
     (input .settings .priority)
     (input .settings .locked)
     mode

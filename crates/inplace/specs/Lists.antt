@@ -38,26 +38,26 @@ rest list from field = getD list (from + field) 0
 
 -- what an input heard, by its fields
 abbrev pub heardIn : (ℕ → ℕ) → (ℕ → ℕ) → (ℕ → ℕ) → Heard
-heardIn times small words =
+heardIn times small wider =
     record {
       framed = times 0;
       frame = quality (small 0);
       linequality = quality (small 1);
-      last = words 0;
-      count = small 2;
+      last = wider 0;
+      reports = small 2;
       signal = isSet (small 3);
     }
 
 -- the run of an input, by its fields
 abbrev pub runIn : (ℕ → ℕ) → (ℕ → ℕ) → Run
 runIn times small =
-    record { start = times 1; good = quality (small 4); failed = isSet (small 5); up = isSet (small 6) }
+    record { began = times 1; good = quality (small 4); failed = isSet (small 5); up = isSet (small 6) }
 
 -- the settings of an input, by their fields
 abbrev pub settingsIn : (ℕ → ℕ) → (ℕ → ℕ) → Settings
-settingsIn small words =
+settingsIn small wider =
     record {
-      holdoff = words 1;
+      holdoff = wider 1;
       wait = small 7;
       priority = record { 0 = small 8 };
       fixed = quality (small 9);
@@ -69,12 +69,12 @@ settingsIn small words =
 
 -- an input, by its fields
 abbrev pub inputIn : (ℕ → ℕ) → (ℕ → ℕ) → (ℕ → ℕ) → Input
-inputIn times small words =
-    record { heard = heardIn times small words; run = runIn times small; settings = settingsIn small words }
+inputIn times small wider =
+    record { heard = heardIn times small wider; run = runIn times small; settings = settingsIn small wider }
 
 -- an input of the state
 unfoldable pub inputAt : List ℕ → List ℕ → List ℕ → ℕ → Input
-inputAt times small words at = inputIn (column times at) (column small at) (column words at)
+inputAt times small wider at = inputIn (column times at) (column small at) (column wider at)
 
 -- "switch (00 none, 01 forced, 02 manual), its input", read back; any other kind is none, and one on no input too
 unfoldable pub switchOf : ℕ → InputNumber → Switch
@@ -98,21 +98,21 @@ isSelected (S.At number) = 1
 
 -- a state, of its inputs and what stands once
 abbrev pub selectorIn : List Input → (ℕ → ℕ) → (ℕ → ℕ) → (ℕ → ℕ) → Selector
-selectorIn inputs times small words =
+selectorIn inputs times small wider =
     record {
       inputs = inputs;
       time = times 0;
       switch = switchOf (small 2) (record { 0 = small 3 });
       selection = selectionOf (small 4) (record { 0 = small 5 });
-      profile = profileIn (small 6) (small 7) (words 0);
+      profile = profileIn (small 6) (small 7) (wider 0);
       mode = isSet (small 0);
       waslocked = isSet (small 1);
     }
 
 -- the state that three lists hold
 unfoldable pub selectorAt : List ℕ → List ℕ → List ℕ → Selector
-selectorAt times small words =
-    selectorIn (map (inputAt times small words) ports) (rest times 32) (rest small 224) (rest words 32)
+selectorAt times small wider =
+    selectorIn (map (inputAt times small wider) ports) (rest times 32) (rest small 224) (rest wider 32)
 
 -- a state with other inputs
 abbrev pub withInputs : Selector → List Input → Selector
@@ -141,7 +141,7 @@ framedAt input framed =
             frame = input .heard .frame;
             linequality = input .heard .linequality;
             last = input .heard .last;
-            count = input .heard .count;
+            reports = input .heard .reports;
             signal = input .heard .signal;
           };
       run = input .run;

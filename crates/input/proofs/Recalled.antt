@@ -52,7 +52,7 @@ heardBy input history =
       frame = frameSaid (heard input isFrame history);
       linequality = lineSaid (heard input isCounted history);
       last = lastCode (heard input isCounted history);
-      count = codeCount (heard input isCounted history);
+      reports = codeCount (heard input isCounted history);
       signal = signalGood input history;
     }
 
@@ -120,7 +120,7 @@ module _ (input : ℕ) (event : Recorded) (earlier : History) where
         frame = split frameSaid g f event frames j;
         linequality = split lineSaid g c event codes j;
         last = split lastCode g c event codes j;
-        count = split codeCount g c event codes j;
+        reports = split codeCount g c event codes j;
         signal = good-cond (eqb kind kindSignal) (event .argument) (lastArgument input kindSignal 1 earlier) j;
       })
 
@@ -215,24 +215,25 @@ settings-recalled input (event following earlier) =
 
 -- ---- three in a row is a count of three
 
-equalCount-least : (code before count : ℕ) → 1 ≤ equalCount code before count
+equalCount-least : (code before reports : ℕ) → 1 ≤ equalCount code before reports
 unfolding equalCount
-equalCount-least code before count =
+equalCount-least code before reports =
     byBool (eqb code before)
-    (λ e. rw e (byBool (ltb count reportsNeeded) (λ k. rw k (omega arith)) (λ k. rw k (omega arith))))
+    (λ e. rw e (byBool (ltb reports reportsNeeded) (λ k. rw k (omega arith)) (λ k. rw k (omega arith))))
     (λ e. rw e (omega arith))
 
-equalCount-other : (code before count : ℕ) → eqb code before ≡ false → equalCount code before count ≡ 1
+equalCount-other : (code before reports : ℕ) → eqb code before ≡ false → equalCount code before reports ≡ 1
 unfolding equalCount
-equalCount-other code before count e = rw e
+equalCount-other code before reports e = rw e
 
-equalCount-again : (code before count : ℕ) → eqb code before ≡ true → equalCount code before count ≡ min 3 (suc count)
+equalCount-again : (code before reports : ℕ) → eqb code before ≡ true
+    → equalCount code before reports ≡ min 3 (suc reports)
 unfolding equalCount
-equalCount-again code before count e =
+equalCount-again code before reports e =
     rw e
-    (byBool (ltb count reportsNeeded)
-    (λ k. let h : count < 3 = ltb-true _ _ k in rw k (omega arith))
-    (λ k. let h : 3 ≤ count = ltb-false _ _ k in rw k (omega arith)))
+    (byBool (ltb reports reportsNeeded)
+    (λ k. let h : reports < 3 = ltb-true _ _ k in rw k (omega arith))
+    (λ k. let h : 3 ≤ reports = ltb-false _ _ k in rw k (omega arith)))
 
 -- the second report in a row cannot be the third
 count-second : (code before : ℕ) → ltb (equalCount code before 1) 3 ≡ true
@@ -242,15 +243,15 @@ count-second code before =
 count-first : (code : ℕ) → equalCount code 0 0 ≡ 1
 count-first code = byBool (eqb code 0) (λ e. rw (equalCount-again code 0 0 e)) (λ e. rw (equalCount-other code 0 0 e))
 
-count-third : (third second first count : ℕ) → 1 ≤ count
-    → ltb (equalCount third second (equalCount second first count)) 3 ≡ not (eqb third second && eqb second first)
-count-third third second first count least =
+count-third : (third second first reports : ℕ) → 1 ≤ reports
+    → ltb (equalCount third second (equalCount second first reports)) 3 ≡ not (eqb third second && eqb second first)
+count-third third second first reports least =
     byBool (eqb third second)
     (λ e. byBool (eqb second first)
-    (λ k. rw (equalCount-again second first count k, equalCount-again third second (min 3 (suc count)) e, e, k)
-    (le-ltb (min 3 (suc (min 3 (suc count)))) 3 (omega arith)))
-    (λ k. rw (equalCount-other second first count k, e, k) (count-second third second)))
-    (λ e. rw (equalCount-other third second (equalCount second first count) e, e))
+    (λ k. rw (equalCount-again second first reports k, equalCount-again third second (min 3 (suc reports)) e, e, k)
+    (le-ltb (min 3 (suc (min 3 (suc reports)))) 3 (omega arith)))
+    (λ k. rw (equalCount-other second first reports k, e, k) (count-second third second)))
+    (λ e. rw (equalCount-other third second (equalCount second first reports) e, e))
 
 counted : (report : Recorded) (earlier : List Recorded)
     → ltb (codeCount (report ∷ earlier)) 3 ≡ not (isThird report earlier)

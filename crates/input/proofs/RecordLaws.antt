@@ -61,16 +61,16 @@ withSettings input settings = record { heard = input .heard; run = input .run; s
 
 -- ---- countAfter
 
-module _ (code before count : ℕ) where
-  pub equalCount-more : code ≡ before → count < reportsNeeded → count + 1 ≡ equalCount code before count
+module _ (code before reports : ℕ) where
+  pub equalCount-more : code ≡ before → reports < reportsNeeded → reports + 1 ≡ equalCount code before reports
   unfolding equalCount
   equalCount-more e h = rw (eq-eqb _ _ e, lt-ltb _ _ h)
 
-  pub equalCount-full : code ≡ before → reportsNeeded ≤ count → reportsNeeded ≡ equalCount code before count
+  pub equalCount-full : code ≡ before → reportsNeeded ≤ reports → reportsNeeded ≡ equalCount code before reports
   unfolding equalCount
   equalCount-full e h = rw (eq-eqb _ _ e, le-ltb _ _ h)
 
-  pub equalCount-other : (code ≡ before → ⊥) → 1 ≡ equalCount code before count
+  pub equalCount-other : (code ≡ before → ⊥) → 1 ≡ equalCount code before reports
   unfolding equalCount
   equalCount-other e = rw (ne-eqb _ _ e)
 
@@ -78,12 +78,12 @@ pub ruleset equalCount-laws = (equalCount-more, equalCount-full, equalCount-othe
 
 -- ---- lineAfter
 
-module _ (said : Quality) (count : ℕ) (line : Quality) where
-  pub lineAfter-kept : count < reportsNeeded → line ≡ lineAfter said count line
+module _ (said : Quality) (reports : ℕ) (linequality : Quality) where
+  pub lineAfter-kept : reports < reportsNeeded → linequality ≡ lineAfter said reports linequality
   unfolding lineAfter
   lineAfter-kept h = rw (lt-ltb _ _ h)
 
-  pub lineAfter-settled : reportsNeeded ≤ count → said ≡ lineAfter said count line
+  pub lineAfter-settled : reportsNeeded ≤ reports → said ≡ lineAfter said reports linequality
   unfolding lineAfter
   lineAfter-settled h = rw (le-ltb _ _ h)
 
@@ -98,18 +98,18 @@ withSignal heard =
       frame = heard .frame;
       linequality = heard .linequality;
       last = heard .last;
-      count = heard .count;
+      reports = heard .reports;
       signal = true;
     }
 
 abbrev pub withCounted : Heard → Quality → ℕ → ℕ → Heard
-withCounted heard line last count =
+withCounted heard linequality last reports =
     record {
       framed = heard .framed;
       frame = heard .frame;
-      linequality = line;
+      linequality = linequality;
       last = last;
-      count = count;
+      reports = reports;
       signal = heard .signal;
     }
 
@@ -120,7 +120,7 @@ withFrame heard framed frame =
       frame = frame;
       linequality = heard .linequality;
       last = heard .last;
-      count = heard .count;
+      reports = heard .reports;
       signal = heard .signal;
     }
 
@@ -142,12 +142,12 @@ module _ (heard : Heard) (fail : Bool) where
 pub ruleset heardAfter-signal-laws = (heardAfter-fails, heardAfter-fails-again, heardAfter-good)
 
 module _ (heard : Heard) (number : ℕ) (said : Quality) where
-  pub heardAfter-counted : (count : ℕ) (line : Quality) → heard .signal ≡ true
-      → count ≡ equalCount number (heard .last) (heard .count)
-      → line ≡ lineAfter said count (heard .linequality)
-      → withCounted heard line number count ≡ heardAfter heard kindLineCode number said 0
+  pub heardAfter-counted : (reports : ℕ) (linequality : Quality) → heard .signal ≡ true
+      → reports ≡ equalCount number (heard .last) (heard .reports)
+      → linequality ≡ lineAfter said reports (heard .linequality)
+      → withCounted heard linequality number reports ≡ heardAfter heard kindLineCode number said 0
   unfolding heardAfter
-  heardAfter-counted count line g c l = rw (l, c, g)
+  heardAfter-counted reports linequality g c l = rw (l, c, g)
 
   pub heardAfter-counted-unheard : heard .signal ≡ false → heard ≡ heardAfter heard kindLineCode number said 0
   unfolding heardAfter

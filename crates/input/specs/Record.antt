@@ -20,7 +20,7 @@ use Rattle.input.specs.Recorded.{History, modeOn}
 
 -- "forget the codes heard, the count of equal ones and the frames heard"
 abbrev pub forgotten : Bool → Heard
-forgotten signal = record { framed = 0; frame = failed; linequality = failed; last = 0; count = 0; signal = signal }
+forgotten signal = record { framed = 0; frame = failed; linequality = failed; last = 0; reports = 0; signal = signal }
 
 -- "signal failing"
 abbrev pub freshHeard : Heard
@@ -46,11 +46,11 @@ freshInput = record { heard = freshHeard; run = freshRun; settings = freshSettin
 
 -- the count of equal codes or words, one report later; three stands for any more
 unfoldable pub equalCount : ℕ → ℕ → ℕ → ℕ
-equalCount code before count = cond (eqb code before) (cond (ltb count reportsNeeded) (count + 1) reportsNeeded) 1
+equalCount code before reports = cond (eqb code before) (cond (ltb reports reportsNeeded) (reports + 1) reportsNeeded) 1
 
 -- what codes or words say, once one that says `said` has come so many times in a row
 unfoldable pub lineAfter : Quality → ℕ → Quality → Quality
-lineAfter said count line = cond (ltb count reportsNeeded) line said
+lineAfter said reports linequality = cond (ltb reports reportsNeeded) linequality said
 
 -- what was heard, after an event on this input
 unfoldable pub heardAfter : Heard → ℕ → ℕ → Quality → ℕ → Heard
@@ -58,13 +58,14 @@ heardAfter heard kind argument said time =
     let forgets = eqb kind kindInputKind || (eqb kind kindSignal && not (eqb argument 0) && heard .signal) in
     let frame = isFrame kind && heard .signal in
     let counted = isCounted kind && heard .signal in
-    let count = equalCount argument (heard .last) (heard .count) in
+    let reports = equalCount argument (heard .last) (heard .reports) in
     record {
       framed = cond forgets 0 (cond frame time (heard .framed));
       frame = cond forgets failed (cond frame said (heard .frame));
-      linequality = cond forgets failed (cond counted (lineAfter said count (heard .linequality)) (heard .linequality));
+      linequality =
+          cond forgets failed (cond counted (lineAfter said reports (heard .linequality)) (heard .linequality));
       last = cond forgets 0 (cond counted argument (heard .last));
-      count = cond forgets 0 (cond counted count (heard .count));
+      reports = cond forgets 0 (cond counted reports (heard .reports));
       signal = cond (eqb kind kindSignal) (eqb argument 0) (heard .signal);
     }
 

@@ -38,7 +38,7 @@ pub struct Heard {
     pub frame: Quality,
     pub linequality: Quality,
     pub last: u16,
-    pub count: u8,
+    pub reports: u8,
     pub signal: bool,
 }
 
@@ -62,24 +62,24 @@ pub struct Input {
 }
 
 // How many equal codes have come in a row, three for any more.
-fn equal_count(code: u16, last: u16, count: u8) -> u8
-    ensures { λ answer. ⌜ answer ≡ equalCount code last count ⌝ }
+fn equal_count(code: u16, last: u16, reports: u8) -> u8
+    ensures { λ answer. ⌜ answer ≡ equalCount code last reports ⌝ }
 {
     if code == last {
-        if count < REPORTS_NEEDED {
-            return count + 1;
+        if reports < REPORTS_NEEDED {
+            return reports + 1;
         }
         return REPORTS_NEEDED;
     }
     1
 }
 
-// What codes or words say, once one that says `said` has come `count` times in a row.
-fn line_after(said: Quality, count: u8, line: Quality) -> Quality
-    ensures { λ answer. ⌜ answer ≡ lineAfter said count line ⌝ }
+// What codes or words say, once one that says `said` has come `reports` times in a row.
+fn line_after(said: Quality, reports: u8, linequality: Quality) -> Quality
+    ensures { λ answer. ⌜ answer ≡ lineAfter said reports linequality ⌝ }
 {
-    if count < REPORTS_NEEDED {
-        return line;
+    if reports < REPORTS_NEEDED {
+        return linequality;
     }
     said
 }
@@ -93,7 +93,7 @@ fn forgotten(signal: bool) -> Heard
         frame: FAILED,
         linequality: FAILED,
         last: 0,
-        count: 0,
+        reports: 0,
         signal,
     }
 }
@@ -118,12 +118,12 @@ impl Heard {
         ensures { λ answer. ⌜ answer ≡ heardAfter self kindLineCode number said 0 ⌝ }
     {
         if self.signal {
-            let count = equal_count(number, self.last, self.count);
+            let reports = equal_count(number, self.last, self.reports);
             let old = self.linequality;
-            let line = line_after(said, count, old);
-            self.linequality = line;
+            let linequality = line_after(said, reports, old);
+            self.linequality = linequality;
             self.last = number;
-            self.count = count;
+            self.reports = reports;
             return self;
         }
         self

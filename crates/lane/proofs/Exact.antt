@@ -67,7 +67,7 @@ goes-joined stretch from g =
 
 module _ (lane : Lane) (from until value : ℕ) where
   marked-kept : {A : Type 0} (part : Lane → A)
-      → ((stretch : Stretch) (count : ℕ) → part (withStretch lane stretch count) ≡ part lane)
+      → ((stretch : Stretch) (wrongms : ℕ) → part (withStretch lane stretch wrongms) ≡ part lane)
       → part (marked lane from until value .lane) ≡ part lane
   unfolding marked
   marked-kept part keeps =
@@ -174,7 +174,7 @@ mark-ends lane from until value before after e b u =
 record Tidy (lane : Lane) (rest : List Stretch) : Type 0 where
   over : OverBefore rest (lane .stretch .from)
   apart : Apart rest
-  counted : lane .count ≡ lengths rest
+  counted : lane .wrongms ≡ lengths rest
   most : lengths rest ≤ lane .stretch .from
 
 over-later : (rest : List Stretch) (time later : ℕ) → time ≤ later → OverBefore rest time → OverBefore rest later
@@ -182,7 +182,7 @@ over-later [] time later h o = tt
 over-later (stretch ∷ rest) time later h o =
     (λ n. let k = o .0 n in omega arith, over-later rest time later h (o .1))
 
-tidy-same : (lane other : Lane) {rest : List Stretch} → lane .stretch ≡ other .stretch → lane .count ≡ other .count
+tidy-same : (lane other : Lane) {rest : List Stretch} → lane .stretch ≡ other .stretch → lane .wrongms ≡ other .wrongms
     → Tidy lane rest
     → Tidy other rest
 tidy-same lane other {rest} s c t =
@@ -193,7 +193,7 @@ tidy-same lane other {rest} s c t =
       most = subst (λ (x : Stretch). lengths rest ≤ x .from) s (t .most);
     }
 
-tidy-none : (lane other : Lane) {rest : List Stretch} → lane .stretch ≡ other .stretch → lane .count ≡ other .count
+tidy-none : (lane other : Lane) {rest : List Stretch} → lane .stretch ≡ other .stretch → lane .wrongms ≡ other .wrongms
     → Tidy lane rest
     → Tidy other (none ∷ rest)
 tidy-none lane other {rest} s c t =
@@ -211,7 +211,7 @@ tidy-count : (lane : Lane) (rest : List Stretch) (limit : ℕ) → Ends (lane .s
 tidy-count lane rest limit e l t =
     let some = e .some in
     let end = e .most in
-    let count = t .counted in
+    let wrongms = t .counted in
     let most = t .most in
     omega arith
 
@@ -279,7 +279,7 @@ shown-valued Has tolerance lane last when shown rest old v new =
 
 module _ (tolerance : Tolerance) (lane : Lane) (last from to value : ℕ) where
   rightNext-kept : {A : Type 0} (part : Lane → A)
-      → ((given : Lane) (stretch : Stretch) (count : ℕ) → part (withStretch given stretch count) ≡ part given)
+      → ((given : Lane) (stretch : Stretch) (wrongms : ℕ) → part (withStretch given stretch wrongms) ≡ part given)
       → part (rightNext tolerance lane last from to value .lane) ≡ part (knownLane lane to)
   unfolding rightNext
   rightNext-kept part keeps =
@@ -301,7 +301,7 @@ module _ (tolerance : Tolerance) (lane : Lane) (last from to value : ℕ) where
 
 module _ (tolerance : Tolerance) (lane : Lane) (last time value : ℕ) where
   shownNext-kept : {A : Type 0} (part : Lane → A)
-      → ((given : Lane) (stretch : Stretch) (count : ℕ) → part (withStretch given stretch count) ≡ part given)
+      → ((given : Lane) (stretch : Stretch) (wrongms : ℕ) → part (withStretch given stretch wrongms) ≡ part given)
       → part (shownNext tolerance lane last time value .lane) ≡ part (toldLane lane time (capped time 1) value)
   unfolding shownNext
   shownNext-kept part keeps =
@@ -1091,7 +1091,7 @@ module _ (tolerance : Tolerance) (near : Near tolerance) where
         wrong = λ time.
             (λ w. let e = w .0 in a .accused time (omega arith) e (w .1), λ i. (a .within time i .1, a .guilty time i));
         apart = (λ n. t .over, t .apart);
-        count = tidy-count (laneAfter tolerance happenings) (endedAfter tolerance happenings) _ (a .ends)
+        wrongms = tidy-count (laneAfter tolerance happenings) (endedAfter tolerance happenings) _ (a .ends)
             (omega arith) t;
         value = valued happenings o;
         silent = (

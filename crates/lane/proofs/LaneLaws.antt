@@ -38,20 +38,20 @@ module _ (lane : Lane) (from until value : ℕ) where
       → record {
         lane =
             withStretch lane (record { from = lane .stretch .from; until = end; value = lane .stretch .value })
-            (lane .count);
+            (lane .wrongms);
         ended = none;
       } ≡ marked lane from until value
   unfolding marked
   marked-on on end h g t e = rw (lt-leb until from h, ← g, t, e)
 
-  pub marked-anew : (on : Bool) (size count : ℕ) → from < until → on ≡ goesOn (lane .stretch) from → on ≡ false
-      → size ≡ lane .stretch .until - lane .stretch .from → count ≡ capped (lane .count) size
+  pub marked-anew : (on : Bool) (size wrongms : ℕ) → from < until → on ≡ goesOn (lane .stretch) from → on ≡ false
+      → size ≡ lane .stretch .until - lane .stretch .from → wrongms ≡ capped (lane .wrongms) size
       → record {
-        lane = withStretch lane (record { from = from; until = until; value = value }) count;
+        lane = withStretch lane (record { from = from; until = until; value = value }) wrongms;
         ended = lane .stretch;
       } ≡ marked lane from until value
   unfolding marked
-  marked-anew on size count h g f s e = rw (lt-leb until from h, ← g, f, e, s)
+  marked-anew on size wrongms h g f s e = rw (lt-leb until from h, ← g, f, e, s)
 
 module _ (lane : Lane) (time : ℕ) where
   pub firstAfter-first : lane .after ≡ 0 → time ≡ firstAfter lane time
@@ -107,7 +107,7 @@ pub toldLane-made : (lane : Lane) (time after value first : ℕ) → first ≡ f
       value = value;
       reached = lane .reached;
       stretch = lane .stretch;
-      count = lane .count;
+      wrongms = lane .wrongms;
     } ≡ toldLane lane time after value
 toldLane-made lane time after value first e = rw e
 

@@ -59,7 +59,7 @@ pub record Exact (tolerance : Tolerance) (happenings : Happenings) : Type 0 wher
   -- of which none could be longer
   pub apart : Apart (stretchesAfter tolerance happenings)
   -- and which are counted
-  pub count : wrongCount (laneAfter tolerance happenings) ≡ lengths (stretchesAfter tolerance happenings)
+  pub wrongms : wrongCount (laneAfter tolerance happenings) ≡ lengths (stretchesAfter tolerance happenings)
   -- what a stretch tells stood in its first millisecond and was not good
   pub value : Valued (WrongShown tolerance happenings) (stretchesAfter tolerance happenings)
   -- nothing shown is no verdict

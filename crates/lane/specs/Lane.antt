@@ -21,7 +21,7 @@ none = record { from = 0; until = 0; value = 0 }
 
 -- a lane of which nothing is known
 abbrev pub freshLane : Lane
-freshLane = record { first = 0; after = 0; value = 0; reached = 0; stretch = none; count = 0 }
+freshLane = record { first = 0; after = 0; value = 0; reached = 0; stretch = none; wrongms = 0 }
 
 -- the first millisecond at which a value is not good any more: 0 where it never was right
 unfoldable pub badFrom : ℕ → ℕ → ℕ
@@ -45,26 +45,26 @@ longer stretch until = record { from = stretch .from; until = max (stretch .unti
 
 -- a lane with another latest stretch
 abbrev pub withStretch : Lane → Stretch → ℕ → Lane
-withStretch lane stretch count =
+withStretch lane stretch wrongms =
     record {
       first = lane .first;
       after = lane .after;
       value = lane .value;
       reached = lane .reached;
       stretch = stretch;
-      count = count;
+      wrongms = wrongms;
     }
 
 -- how many milliseconds are wrong, the latest stretch included
 abbrev pub wrongCount : Lane → ℕ
-wrongCount lane = capped (lane .count) (lane .stretch .until - lane .stretch .from)
+wrongCount lane = capped (lane .wrongms) (lane .stretch .until - lane .stretch .from)
 
 -- a lane after wrong milliseconds from `from` to before `until`
 unfoldable pub marked : Lane → ℕ → ℕ → ℕ → Judged
 marked lane from until value =
     cond (leb until from) (record { lane = lane; ended = none })
     (cond (goesOn (lane .stretch) from)
-    (record { lane = withStretch lane (longer (lane .stretch) until) (lane .count); ended = none })
+    (record { lane = withStretch lane (longer (lane .stretch) until) (lane .wrongms); ended = none })
     (record {
       lane = withStretch lane (record { from = from; until = until; value = value }) (wrongCount lane);
       ended = lane .stretch;
@@ -83,7 +83,7 @@ toldLane lane time after value =
       value = value;
       reached = lane .reached;
       stretch = lane .stretch;
-      count = lane .count;
+      wrongms = lane .wrongms;
     }
 
 -- a lane after a value was shown; `last` is that value's
@@ -101,7 +101,7 @@ knownLane lane to =
       value = lane .value;
       reached = to;
       stretch = lane .stretch;
-      count = lane .count;
+      wrongms = lane .wrongms;
     }
 
 -- up to where the value that stands can be wrong: to where it is right itself

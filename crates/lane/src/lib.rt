@@ -36,7 +36,7 @@ pub struct Lane {
     pub value: u64,
     pub reached: u64,
     pub stretch: Stretch,
-    pub count: u64,
+    pub wrongms: u64,
 }
 
 // A lane after it was told something, and the stretch that is over by that.
@@ -151,7 +151,7 @@ fn marked(lane: Lane, from: u64, until: u64, value: u64) -> Judged
             value: lane.value,
             reached: lane.reached,
             stretch: longer,
-            count: lane.count,
+            wrongms: lane.wrongms,
         };
         return Judged {
             lane: same,
@@ -159,7 +159,7 @@ fn marked(lane: Lane, from: u64, until: u64, value: u64) -> Judged
         };
     }
     let length = less(stretch.until, stretch.from);
-    let count = capped(lane.count, length);
+    let wrongms = capped(lane.wrongms, length);
     let latest = Stretch { from, until, value };
     let next = Lane {
         first: lane.first,
@@ -167,7 +167,7 @@ fn marked(lane: Lane, from: u64, until: u64, value: u64) -> Judged
         value: lane.value,
         reached: lane.reached,
         stretch: latest,
-        count,
+        wrongms,
     };
     Judged {
         lane: next,
@@ -185,7 +185,7 @@ pub fn fresh_lane() -> Lane
         value: 0,
         reached: 0,
         stretch: NONE,
-        count: 0,
+        wrongms: 0,
     }
 }
 
@@ -211,7 +211,7 @@ fn told_lane(lane: Lane, time: u64, after: u64, value: u64) -> Lane
         value,
         reached: lane.reached,
         stretch,
-        count: lane.count,
+        wrongms: lane.wrongms,
     }
 }
 
@@ -238,7 +238,7 @@ fn known_lane(lane: Lane, to: u64) -> Lane
         value: lane.value,
         reached: to,
         stretch,
-        count: lane.count,
+        wrongms: lane.wrongms,
     }
 }
 
@@ -279,5 +279,5 @@ pub fn wrong_count(lane: Lane) -> u64
 {
     let stretch = lane.stretch;
     let length = less(stretch.until, stretch.from);
-    capped(lane.count, length)
+    capped(lane.wrongms, length)
 }

@@ -1,4 +1,4 @@
--- Values, places and spans: a law for each way through. Assumes nothing.
+-- Values, indexes and spans: a law for each way through. Assumes nothing.
 use Prim.Native.Nat.{ℕ, _+_, _-_, _*_, _/_, _%_, _≤_, _<_, min}
 use mathlib.Core.Bool.{Bool, true, false}
 use mathlib.Core.List.{List}
@@ -14,7 +14,7 @@ use Rattle.selector.specs.State.{tickedOnce}
 use Rattle.due.specs.Next.{nextDue}
 use Rattle.lanes.specs.declared.View.{View}
 use Rattle.lanes.specs.declared.Span.{Span}
-use Rattle.lanes.specs.Value.{answerValue, codeValue, valueOf, placeCount, inputPlace, noSwitchPlace, switchPlace, fourPlace, answerPlace, codePlace, placeOf, Placed}
+use Rattle.lanes.specs.Value.{answerValue, codeValue, valueOf, indexCount, inputIndex, noSwitchIndex, switchIndex, fourIndex, answerIndex, codeIndex, valueIndex, Indexed}
 use Rattle.lanes.specs.Span.{spanOf, nextSpan}
 
 module _ (view : View) (state : Selector) (lane value : ℕ) where
@@ -39,117 +39,117 @@ module _ (codes : List ℕ) (lane : ℕ) where
   codeValue-none h = rw (le-ltb lane 16 h)
 
 module _ (number : ℕ) where
-  pub inputPlace-none : number ≡ 255 → Placed (inputPlace number) 17 16
-  unfolding inputPlace
-  inputPlace-none e = record { value = rw (eq-eqb number 255 e); bound = omega arith }
+  pub inputIndex-none : number ≡ 255 → Indexed (inputIndex number) 17 16
+  unfolding inputIndex
+  inputIndex-none e = record { value = rw (eq-eqb number 255 e); bound = omega arith }
 
-  pub inputPlace-input : (number ≡ 255 → ⊥) → number < 16 → Placed (inputPlace number) 17 number
-  unfolding inputPlace
-  inputPlace-input n h = record { value = rw (ne-eqb number 255 n, lt-ltb number 16 h); bound = omega arith }
+  pub inputIndex-input : (number ≡ 255 → ⊥) → number < 16 → Indexed (inputIndex number) 17 number
+  unfolding inputIndex
+  inputIndex-input n h = record { value = rw (ne-eqb number 255 n, lt-ltb number 16 h); bound = omega arith }
 
-  pub inputPlace-other : (number ≡ 255 → ⊥) → 16 ≤ number → Placed (inputPlace number) 17 17
-  unfolding inputPlace
-  inputPlace-other n h = record { value = rw (ne-eqb number 255 n, le-ltb number 16 h); bound = omega arith }
+  pub inputIndex-other : (number ≡ 255 → ⊥) → 16 ≤ number → Indexed (inputIndex number) 17 17
+  unfolding inputIndex
+  inputIndex-other n h = record { value = rw (ne-eqb number 255 n, le-ltb number 16 h); bound = omega arith }
 
-  pub noSwitchPlace-none : number ≡ 255 → Placed (noSwitchPlace number) 34 33
-  unfolding noSwitchPlace
-  noSwitchPlace-none e = record { value = rw (eq-eqb number 255 e); bound = omega arith }
+  pub noSwitchIndex-none : number ≡ 255 → Indexed (noSwitchIndex number) 34 33
+  unfolding noSwitchIndex
+  noSwitchIndex-none e = record { value = rw (eq-eqb number 255 e); bound = omega arith }
 
-  pub noSwitchPlace-unjudged : (number ≡ 255 → ⊥) → number ≡ 0 → Placed (noSwitchPlace number) 34 0
-  unfolding noSwitchPlace
-  noSwitchPlace-unjudged n e = record { value = rw (ne-eqb number 255 n, eq-eqb number 0 e); bound = omega arith }
+  pub noSwitchIndex-unjudged : (number ≡ 255 → ⊥) → number ≡ 0 → Indexed (noSwitchIndex number) 34 0
+  unfolding noSwitchIndex
+  noSwitchIndex-unjudged n e = record { value = rw (ne-eqb number 255 n, eq-eqb number 0 e); bound = omega arith }
 
-  pub noSwitchPlace-other : (number ≡ 255 → ⊥) → (number ≡ 0 → ⊥) → Placed (noSwitchPlace number) 34 34
-  unfolding noSwitchPlace
-  noSwitchPlace-other n m = record { value = rw (ne-eqb number 255 n, ne-eqb number 0 m); bound = omega arith }
+  pub noSwitchIndex-other : (number ≡ 255 → ⊥) → (number ≡ 0 → ⊥) → Indexed (noSwitchIndex number) 34 34
+  unfolding noSwitchIndex
+  noSwitchIndex-other n m = record { value = rw (ne-eqb number 255 n, ne-eqb number 0 m); bound = omega arith }
 
 module _ (switch on : ℕ) where
-  pub switchPlace-none : (place : ℕ) → switch ≡ 0 → Placed (noSwitchPlace on) 34 place
-      → Placed (switchPlace switch on) 34 place
-  unfolding switchPlace
-  switchPlace-none place e p = record { value = rw (eq-eqb switch 0 e) (p .value); bound = p .bound }
+  pub switchIndex-none : (index : ℕ) → switch ≡ 0 → Indexed (noSwitchIndex on) 34 index
+      → Indexed (switchIndex switch on) 34 index
+  unfolding switchIndex
+  switchIndex-none index e p = record { value = rw (eq-eqb switch 0 e) (p .value); bound = p .bound }
 
-  pub switchPlace-other : (switch ≡ 0 → ⊥) → 2 < switch → Placed (switchPlace switch on) 34 34
-  unfolding switchPlace
-  switchPlace-other n h = record { value = rw (ne-eqb switch 0 n, lt-ltb 2 switch h); bound = omega arith }
+  pub switchIndex-other : (switch ≡ 0 → ⊥) → 2 < switch → Indexed (switchIndex switch on) 34 34
+  unfolding switchIndex
+  switchIndex-other n h = record { value = rw (ne-eqb switch 0 n, lt-ltb 2 switch h); bound = omega arith }
 
-  pub switchPlace-on : (switch ≡ 0 → ⊥) → switch ≤ 2 → on < 16
-      → Placed (switchPlace switch on) 34 (1 + (switch - 1) * 16 + on)
-  unfolding switchPlace
-  switchPlace-on n h o =
+  pub switchIndex-on : (switch ≡ 0 → ⊥) → switch ≤ 2 → on < 16
+      → Indexed (switchIndex switch on) 34 (1 + (switch - 1) * 16 + on)
+  unfolding switchIndex
+  switchIndex-on n h o =
       record { value = rw (ne-eqb switch 0 n, le-ltb 2 switch h, lt-ltb on 16 o); bound = omega arith }
 
-  pub switchPlace-outside : (switch ≡ 0 → ⊥) → switch ≤ 2 → 16 ≤ on → Placed (switchPlace switch on) 34 34
-  unfolding switchPlace
-  switchPlace-outside n h o =
+  pub switchIndex-outside : (switch ≡ 0 → ⊥) → switch ≤ 2 → 16 ≤ on → Indexed (switchIndex switch on) 34 34
+  unfolding switchIndex
+  switchIndex-outside n h o =
       record { value = rw (ne-eqb switch 0 n, le-ltb 2 switch h, le-ltb on 16 o); bound = omega arith }
 
 module _ (selected state quality switch : ℕ) where
-  pub fourPlace-selected : 16 < selected → Placed (fourPlace selected state quality switch) placeCount placeCount
-  unfolding fourPlace
-  fourPlace-selected h = record { value = rw (lt-ltb 16 selected h); bound = omega arith }
+  pub fourIndex-selected : 16 < selected → Indexed (fourIndex selected state quality switch) indexCount indexCount
+  unfolding fourIndex
+  fourIndex-selected h = record { value = rw (lt-ltb 16 selected h); bound = omega arith }
 
-  pub fourPlace-state : selected ≤ 16 → 3 < state
-      → Placed (fourPlace selected state quality switch) placeCount placeCount
-  unfolding fourPlace
-  fourPlace-state a h = record { value = rw (le-ltb 16 selected a, lt-ltb 3 state h); bound = omega arith }
+  pub fourIndex-state : selected ≤ 16 → 3 < state
+      → Indexed (fourIndex selected state quality switch) indexCount indexCount
+  unfolding fourIndex
+  fourIndex-state a h = record { value = rw (le-ltb 16 selected a, lt-ltb 3 state h); bound = omega arith }
 
-  pub fourPlace-quality : selected ≤ 16 → state ≤ 3 → 15 < quality
-      → Placed (fourPlace selected state quality switch) placeCount placeCount
-  unfolding fourPlace
-  fourPlace-quality a b h =
+  pub fourIndex-quality : selected ≤ 16 → state ≤ 3 → 15 < quality
+      → Indexed (fourIndex selected state quality switch) indexCount indexCount
+  unfolding fourIndex
+  fourIndex-quality a b h =
       record { value = rw (le-ltb 16 selected a, le-ltb 3 state b, lt-ltb 15 quality h); bound = omega arith }
 
-  pub fourPlace-switch : selected ≤ 16 → state ≤ 3 → quality ≤ 15 → 33 < switch
-      → Placed (fourPlace selected state quality switch) placeCount placeCount
-  unfolding fourPlace
-  fourPlace-switch a b c h =
+  pub fourIndex-switch : selected ≤ 16 → state ≤ 3 → quality ≤ 15 → 33 < switch
+      → Indexed (fourIndex selected state quality switch) indexCount indexCount
+  unfolding fourIndex
+  fourIndex-switch a b c h =
       record {
         value = rw (le-ltb 16 selected a, le-ltb 3 state b, le-ltb 15 quality c, lt-ltb 33 switch h);
         bound = omega arith;
       }
 
-  pub fourPlace-all : selected ≤ 16 → state ≤ 3 → quality ≤ 15 → switch ≤ 33
-      → Placed (fourPlace selected state quality switch) placeCount
+  pub fourIndex-all : selected ≤ 16 → state ≤ 3 → quality ≤ 15 → switch ≤ 33
+      → Indexed (fourIndex selected state quality switch) indexCount
       (((selected * 4 + state) * 16 + quality) * 34 + switch)
-  unfolding fourPlace
-  fourPlace-all a b c d =
+  unfolding fourIndex
+  fourIndex-all a b c d =
       record {
         value = rw (le-ltb 16 selected a, le-ltb 3 state b, le-ltb 15 quality c, le-ltb 33 switch d);
         bound = omega arith;
       }
 
-pub answerPlace-made : (value first last place : ℕ) → Placed (inputPlace (value / 4294967296 % 256)) 17 first
-    → Placed (switchPlace (value / 256 % 256) (value % 256)) 34 last
-    → Placed (fourPlace first (value / 16777216 % 256) (value / 65536 % 256) last) placeCount place
-    → Placed (answerPlace value) placeCount place
-unfolding answerPlace
-answerPlace-made value first last place f l p =
+pub answerIndex-made : (value first last index : ℕ) → Indexed (inputIndex (value / 4294967296 % 256)) 17 first
+    → Indexed (switchIndex (value / 256 % 256) (value % 256)) 34 last
+    → Indexed (fourIndex first (value / 16777216 % 256) (value / 65536 % 256) last) indexCount index
+    → Indexed (answerIndex value) indexCount index
+unfolding answerIndex
+answerIndex-made value first last index f l p =
     record { value = rw (← (f .value), ← (l .value)) (p .value); bound = p .bound }
 
 module _ (lane value : ℕ) where
-  pub codePlace-code : 15 < value → Placed (codePlace lane value) placeCount placeCount
-  unfolding codePlace
-  codePlace-code h = record { value = rw (lt-ltb 15 value h); bound = omega arith }
+  pub codeIndex-code : 15 < value → Indexed (codeIndex lane value) indexCount indexCount
+  unfolding codeIndex
+  codeIndex-code h = record { value = rw (lt-ltb 15 value h); bound = omega arith }
 
-  pub codePlace-lane : value ≤ 15 → 15 < lane → Placed (codePlace lane value) placeCount placeCount
-  unfolding codePlace
-  codePlace-lane a h = record { value = rw (le-ltb 15 value a, lt-ltb 15 lane h); bound = omega arith }
+  pub codeIndex-lane : value ≤ 15 → 15 < lane → Indexed (codeIndex lane value) indexCount indexCount
+  unfolding codeIndex
+  codeIndex-lane a h = record { value = rw (le-ltb 15 value a, lt-ltb 15 lane h); bound = omega arith }
 
-  pub codePlace-both : value ≤ 15 → lane ≤ 15 → Placed (codePlace lane value) placeCount (lane * 16 + value)
-  unfolding codePlace
-  codePlace-both a h = record { value = rw (le-ltb 15 value a, le-ltb 15 lane h); bound = omega arith }
+  pub codeIndex-both : value ≤ 15 → lane ≤ 15 → Indexed (codeIndex lane value) indexCount (lane * 16 + value)
+  unfolding codeIndex
+  codeIndex-both a h = record { value = rw (le-ltb 15 value a, le-ltb 15 lane h); bound = omega arith }
 
-module _ (view : View) (lane value place : ℕ) where
-  pub placeOf-code : view .codes ≡ true → Placed (codePlace lane value) placeCount place
-      → Placed (placeOf view lane value) placeCount place
-  unfolding placeOf
-  placeOf-code t p = record { value = rw t (p .value); bound = p .bound }
+module _ (view : View) (lane value index : ℕ) where
+  pub valueIndex-code : view .codes ≡ true → Indexed (codeIndex lane value) indexCount index
+      → Indexed (valueIndex view lane value) indexCount index
+  unfolding valueIndex
+  valueIndex-code t p = record { value = rw t (p .value); bound = p .bound }
 
-  pub placeOf-answer : view .codes ≡ false → Placed (answerPlace value) placeCount place
-      → Placed (placeOf view lane value) placeCount place
-  unfolding placeOf
-  placeOf-answer t p = record { value = rw t (p .value); bound = p .bound }
+  pub valueIndex-answer : view .codes ≡ false → Indexed (answerIndex value) indexCount index
+      → Indexed (valueIndex view lane value) indexCount index
+  unfolding valueIndex
+  valueIndex-answer t p = record { value = rw t (p .value); bound = p .bound }
 
 pub spanOf-made : (state : Selector) (until due before to : ℕ) → due ≡ nextDue state → before ≡ due - 1
     → to ≡ min until before
@@ -163,4 +163,4 @@ pub nextSpan-made : (span : Span) (until time : ℕ) (after : Selector) (answer 
     → answer ≡ nextSpan span until
 nextSpan-made span until time after answer t a e = e ∙ rw (a, t)
 
-pub ruleset lanes-laws = (valueOf-codes, valueOf-answer, codeValue-code, codeValue-none, inputPlace-none, inputPlace-input, inputPlace-other, noSwitchPlace-none, noSwitchPlace-unjudged, noSwitchPlace-other, switchPlace-none, switchPlace-other, switchPlace-on, switchPlace-outside, fourPlace-selected, fourPlace-state, fourPlace-quality, fourPlace-switch, fourPlace-all, answerPlace-made, codePlace-code, codePlace-lane, codePlace-both, placeOf-code, placeOf-answer, spanOf-made, nextSpan-made)
+pub ruleset lanes-laws = (valueOf-codes, valueOf-answer, codeValue-code, codeValue-none, inputIndex-none, inputIndex-input, inputIndex-other, noSwitchIndex-none, noSwitchIndex-unjudged, noSwitchIndex-other, switchIndex-none, switchIndex-other, switchIndex-on, switchIndex-outside, fourIndex-selected, fourIndex-state, fourIndex-quality, fourIndex-switch, fourIndex-all, answerIndex-made, codeIndex-code, codeIndex-lane, codeIndex-both, valueIndex-code, valueIndex-answer, spanOf-made, nextSpan-made)

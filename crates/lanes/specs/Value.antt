@@ -1,4 +1,4 @@
--- What is judged of an answer or of a port, as a number, and the place of a number among those that can be right. Cited
+-- What is judged of an answer or of a port, as a number, and the index of a number among those that can be right. Cited
 -- by `src/lib.rt`. Assumes nothing.
 use Prim.Native.Nat.{ℕ, _+_, _-_, _*_, _/_, _%_, _≤_}
 use mathlib.Core.Bool.{Bool, _&&_, _||_, cond}
@@ -39,50 +39,50 @@ unfoldable pub valueOf : View → Selector → ℕ → ℕ
 valueOf view state lane =
     cond (view .codes) (codeValue (outgoingCodes state) lane) (answerValue view (answerOf 0 state))
 
--- how many numbers have a place
-abbrev pub placeCount : ℕ
-placeCount = 36992
+-- how many numbers have an index
+abbrev pub indexCount : ℕ
+indexCount = 36992
 
--- the place of a selected input among seventeen, 17 for any other number
-unfoldable pub inputPlace : ℕ → ℕ
-inputPlace number = cond (eqb number 255) 16 (cond (ltb number 16) number 17)
+-- the index of a selected input among seventeen, 17 for any other number
+unfoldable pub inputIndex : ℕ → ℕ
+inputIndex number = cond (eqb number 255) 16 (cond (ltb number 16) number 17)
 
--- the place of no switch, and of one that is not judged
-unfoldable pub noSwitchPlace : ℕ → ℕ
-noSwitchPlace on = cond (eqb on 255) 33 (cond (eqb on 0) 0 34)
+-- the index of no switch, and of one that is not judged
+unfoldable pub noSwitchIndex : ℕ → ℕ
+noSwitchIndex on = cond (eqb on 255) 33 (cond (eqb on 0) 0 34)
 
--- the place of a switch with its input among 34, 34 for any other numbers
-unfoldable pub switchPlace : ℕ → ℕ → ℕ
-switchPlace switch on =
-    cond (eqb switch 0) (noSwitchPlace on)
+-- the index of a switch with its input among 34, 34 for any other numbers
+unfoldable pub switchIndex : ℕ → ℕ → ℕ
+switchIndex switch on =
+    cond (eqb switch 0) (noSwitchIndex on)
     (cond (ltb 2 switch) 34
     (cond (ltb on 16) (1 + (switch - 1) * 16 + on)
     34))
 
--- the place of four of them, the count for what is never right
-unfoldable pub fourPlace : ℕ → ℕ → ℕ → ℕ → ℕ
-fourPlace selected state quality switch =
-    cond (ltb 16 selected) placeCount
-    (cond (ltb 3 state) placeCount
-    (cond (ltb 15 quality) placeCount
-    (cond (ltb 33 switch) placeCount
+-- the index of four of them, the count for what is never right
+unfoldable pub fourIndex : ℕ → ℕ → ℕ → ℕ → ℕ
+fourIndex selected state quality switch =
+    cond (ltb 16 selected) indexCount
+    (cond (ltb 3 state) indexCount
+    (cond (ltb 15 quality) indexCount
+    (cond (ltb 33 switch) indexCount
     (((selected * 4 + state) * 16 + quality) * 34 + switch))))
 
--- the place of what is judged of an answer
-unfoldable pub answerPlace : ℕ → ℕ
-answerPlace value =
-    fourPlace (inputPlace (value / 4294967296 % 256)) (value / 16777216 % 256) (value / 65536 % 256)
-    (switchPlace (value / 256 % 256) (value % 256))
+-- the index of what is judged of an answer
+unfoldable pub answerIndex : ℕ → ℕ
+answerIndex value =
+    fourIndex (inputIndex (value / 4294967296 % 256)) (value / 16777216 % 256) (value / 65536 % 256)
+    (switchIndex (value / 256 % 256) (value % 256))
 
--- the place of a port's code
-unfoldable pub codePlace : ℕ → ℕ → ℕ
-codePlace lane value = cond (ltb 15 value) placeCount (cond (ltb 15 lane) placeCount (lane * 16 + value))
+-- the index of a port's code
+unfoldable pub codeIndex : ℕ → ℕ → ℕ
+codeIndex lane value = cond (ltb 15 value) indexCount (cond (ltb 15 lane) indexCount (lane * 16 + value))
 
--- the place of a value of a lane
-unfoldable pub placeOf : View → ℕ → ℕ → ℕ
-placeOf view lane value = cond (view .codes) (codePlace lane value) (answerPlace value)
+-- the index of a value of a lane
+unfoldable pub valueIndex : View → ℕ → ℕ → ℕ
+valueIndex view lane value = cond (view .codes) (codeIndex lane value) (answerIndex value)
 
 -- a number and its bound
-pub record Placed (is most answer : ℕ) : Type 0 where
+pub record Indexed (is most answer : ℕ) : Type 0 where
   pub value : answer ≡ is
   pub bound : answer ≤ most

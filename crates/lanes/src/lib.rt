@@ -8,14 +8,14 @@ use numbers::Answer;
 use selector::Selector;
 ghost use mathlib.Core.Path.{_≡_};
 ghost use Prim.Native.Nat.{_≤_, _-_, _+_, min};
-ghost use Rattle.lanes.specs.Value.{Judging, answerValue, codeValue, valueOf, placeCount, inputPlace, noSwitchPlace, switchPlace, fourPlace, answerPlace, codePlace, placeOf, Placed};
+ghost use Rattle.lanes.specs.Value.{Judging, answerValue, codeValue, valueOf, indexCount, inputIndex, noSwitchIndex, switchIndex, fourIndex, answerIndex, codeIndex, valueIndex, Indexed};
 ghost use Rattle.lanes.specs.Span.{spanOf, nextSpan};
 
-// How many values have a place.
+// How many values have an index.
 pub const ROOM: usize = 36_992;
 
 // The same as a wider number.
-const PLACES: u64 = 36_992;
+const INDEXES: u64 = 36_992;
 
 // What is judged: the codes of the sixteen ports; or of an answer the selected input, the clock
 // state, the clock quality, the switch with its input.
@@ -78,9 +78,9 @@ pub fn value_of(view: View, state: Selector, lane: usize) -> u64
     answer_value(view, answer)
 }
 
-// The place of a selected input among seventeen; 17 for any other number.
-fn input_place(number: u64) -> u64
-    ensures { λ place. ⌜ Placed (inputPlace number) 17 place ⌝ }
+// The index of a selected input among seventeen; 17 for any other number.
+fn input_index(number: u64) -> u64
+    ensures { λ index. ⌜ Indexed (inputIndex number) 17 index ⌝ }
 {
     if number == 255 {
         return 16;
@@ -91,9 +91,9 @@ fn input_place(number: u64) -> u64
     17
 }
 
-// The place of no switch, and of one that is not judged; 34 for any other number.
-fn no_switch_place(on: u64) -> u64
-    ensures { λ place. ⌜ Placed (noSwitchPlace on) 34 place ⌝ }
+// The index of no switch, and of one that is not judged; 34 for any other number.
+fn no_switch_index(on: u64) -> u64
+    ensures { λ index. ⌜ Indexed (noSwitchIndex on) 34 index ⌝ }
 {
     if on == 255 {
         return 33;
@@ -104,12 +104,12 @@ fn no_switch_place(on: u64) -> u64
     34
 }
 
-// The place of a switch with its input among 34; 34 for any other numbers.
-fn switch_place(switch: u64, on: u64) -> u64
-    ensures { λ place. ⌜ Placed (switchPlace switch on) 34 place ⌝ }
+// The index of a switch with its input among 34; 34 for any other numbers.
+fn switch_index(switch: u64, on: u64) -> u64
+    ensures { λ index. ⌜ Indexed (switchIndex switch on) 34 index ⌝ }
 {
     if switch == 0 {
-        return no_switch_place(on);
+        return no_switch_index(on);
     }
     if 2 < switch {
         return 34;
@@ -120,55 +120,55 @@ fn switch_place(switch: u64, on: u64) -> u64
     34
 }
 
-// The place of four of them; the count of places for what is never right.
-fn four_place(selected: u64, state: u64, quality: u64, switch: u64) -> u64
-    ensures { λ place. ⌜ Placed (fourPlace selected state quality switch) placeCount place ⌝ }
+// The index of four of them; the count of indexes for what is never right.
+fn four_index(selected: u64, state: u64, quality: u64, switch: u64) -> u64
+    ensures { λ index. ⌜ Indexed (fourIndex selected state quality switch) indexCount index ⌝ }
 {
     if 16 < selected {
-        return PLACES;
+        return INDEXES;
     }
     if 3 < state {
-        return PLACES;
+        return INDEXES;
     }
     if 15 < quality {
-        return PLACES;
+        return INDEXES;
     }
     if 33 < switch {
-        return PLACES;
+        return INDEXES;
     }
     ((selected * 4 + state) * 16 + quality) * 34 + switch
 }
 
-// The place of what is judged of an answer.
-fn answer_place(value: u64) -> u64
-    ensures { λ place. ⌜ Placed (answerPlace value) placeCount place ⌝ }
+// The index of what is judged of an answer.
+fn answer_index(value: u64) -> u64
+    ensures { λ index. ⌜ Indexed (answerIndex value) indexCount index ⌝ }
 {
-    let first = input_place(value / 4_294_967_296 % 256);
-    let last = switch_place(value / 256 % 256, value % 256);
-    four_place(first, value / 16_777_216 % 256, value / 65_536 % 256, last)
+    let first = input_index(value / 4_294_967_296 % 256);
+    let last = switch_index(value / 256 % 256, value % 256);
+    four_index(first, value / 16_777_216 % 256, value / 65_536 % 256, last)
 }
 
-// The place of a port's code.
-fn code_place(lane: usize, value: u64) -> u64
-    ensures { λ place. ⌜ Placed (codePlace lane value) placeCount place ⌝ }
+// The index of a port's code.
+fn code_index(lane: usize, value: u64) -> u64
+    ensures { λ index. ⌜ Indexed (codeIndex lane value) indexCount index ⌝ }
 {
     if 15 < value {
-        return PLACES;
+        return INDEXES;
     }
     if 15 < lane {
-        return PLACES;
+        return INDEXES;
     }
     lane as u64 * 16 + value
 }
 
-// The place of a value of a lane; the count of places for a value that is never right.
-pub fn place_of(view: View, lane: usize, value: u64) -> usize
-    ensures { λ place. ⌜ Placed (placeOf view lane value) placeCount place ⌝ }
+// The index of a value of a lane; the count of indexes for a value that is never right.
+pub fn value_index(view: View, lane: usize, value: u64) -> usize
+    ensures { λ index. ⌜ Indexed (valueIndex view lane value) indexCount index ⌝ }
 {
     if view.codes {
-        return code_place(lane, value) as usize;
+        return code_index(lane, value) as usize;
     }
-    answer_place(value) as usize
+    answer_index(value) as usize
 }
 
 // The lesser of two times.

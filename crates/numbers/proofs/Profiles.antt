@@ -6,13 +6,13 @@ use mathlib.Core.Path.{_≡_, _∙_}
 use borrow.Author.Tests.{eq-eqb, ne-eqb, lt-ltb, le-ltb}
 use Rattle.numbers.specs.declared.quality.Quality.{Quality}
 use Rattle.numbers.specs.declared.profile.Limits.{Limits}
-use Rattle.numbers.specs.declared.profile.Place.{Place}
-use Rattle.numbers.specs.declared.profile.Place.the-variants as L
+use Rattle.numbers.specs.declared.profile.ProvPlace.{ProvPlace}
+use Rattle.numbers.specs.declared.profile.ProvPlace.the-variants as L
 use Rattle.numbers.specs.declared.profile.Profile.{Profile}
 use Rattle.numbers.specs.declared.profile.Profile.the-variants as P
 use Rattle.numbers.specs.Refusal.{accepted, argumentOutOfRange}
 use Rattle.numbers.specs.Quality.{tnc, st3e, st3, invalid, failed}
-use Rattle.numbers.specs.Profile.{optionOne, optionTwo, placeIn, numberOfPlace, profileWith, profileIn, optionOf, limitsOf, placeOf, lastPlace, startNumber, marksOf, floorIn, toldBy, numberInOne, paperNumber}
+use Rattle.numbers.specs.Profile.{optionOne, optionTwo, provPlaceIn, numberOfProvPlace, profileWith, profileIn, optionOf, limitsOf, provPlaceOf, lastProvPlace, startNumber, marksOf, floorIn, toldBy, numberInOne, paperNumber}
 use Rattle.numbers.specs.declared.kind.InputKind.{InputKind}
 use Rattle.numbers.specs.declared.kind.InputKind.the-variants as N
 use Rattle.numbers.specs.Kind.{inputKindOf, kindArgument}
@@ -20,22 +20,23 @@ use Rattle.numbers.specs.Codes.{codesOne, codesTwo, codeDnu, saidBy, sig
 
 -- ---- a profile by its option's number, and back
 
-module _ (option : ℕ) (place : Place) (marks : ℕ) where
-  pub profileWith-two : option ≡ optionTwo → P.OptionTwo place marks ≡ profileWith option place marks
+module _ (option : ℕ) (provplace : ProvPlace) (marks : ℕ) where
+  pub profileWith-two : option ≡ optionTwo → P.OptionTwo provplace marks ≡ profileWith option provplace marks
   unfolding profileWith
   profileWith-two two = rw (eq-eqb option optionTwo two)
 
-  pub profileWith-one : (option ≡ optionTwo → ⊥) → P.OptionOne ≡ profileWith option place marks
+  pub profileWith-one : (option ≡ optionTwo → ⊥) → P.OptionOne ≡ profileWith option provplace marks
   unfolding profileWith
   profileWith-one other = rw (ne-eqb option optionTwo other)
 
 pub ruleset profileWith-laws = (profileWith-two, profileWith-one)
 
-pub profileIn-with : (option number marks : ℕ) (place : Place) (profile : Profile) → place ≡ placeIn number
-    → profile ≡ profileWith option place marks
+pub profileIn-with : (option number marks : ℕ) (provplace : ProvPlace) (profile : Profile)
+    → provplace ≡ provPlaceIn number
+    → profile ≡ profileWith option provplace marks
     → profile ≡ profileIn option number marks
 unfolding profileIn
-profileIn-with option number marks place profile said is = is ∙ (rw said)
+profileIn-with option number marks provplace profile said is = is ∙ (rw said)
 
 pub ruleset profileIn-laws = (profileIn-with)
 
@@ -44,9 +45,10 @@ module _ (profile : Profile) where
   unfolding optionOf
   optionOf-one p = rw p
 
-  pub optionOf-two : (place : Place) (marks : ℕ) → profile ≡ P.OptionTwo place marks → optionTwo ≡ optionOf profile
+  pub optionOf-two : (provplace : ProvPlace) (marks : ℕ) → profile ≡ P.OptionTwo provplace marks
+      → optionTwo ≡ optionOf profile
   unfolding optionOf
-  optionOf-two place marks p = rw p
+  optionOf-two provplace marks p = rw p
 
 pub ruleset optionOf-laws = (optionOf-one, optionOf-two)
 
@@ -57,10 +59,11 @@ module _ (profile : Profile) (code : ℕ) (said : Quality) where
   unfolding qualityOfCode
   qualityOfCode-one p s = rw (p, s)
 
-  pub qualityOfCode-two : (place : Place) (marks : ℕ) → profile ≡ P.OptionTwo place marks → said ≡ saidBy codesTwo code
+  pub qualityOfCode-two : (provplace : ProvPlace) (marks : ℕ) → profile ≡ P.OptionTwo provplace marks
+      → said ≡ saidBy codesTwo code
       → said ≡ qualityOfCode profile code
   unfolding qualityOfCode
-  qualityOfCode-two place marks p s = rw (p, s)
+  qualityOfCode-two provplace marks p s = rw (p, s)
 
 pub ruleset qualityOfCode-laws = (qualityOfCode-one, qualityOfCode-two)
 
@@ -70,25 +73,25 @@ module _ (profile : Profile) (told : Quality) (code : ℕ) where
   unfolding codeOfQuality
   codeOfQuality-one p s = rw (p, s)
 
-  pub codeOfQuality-two : (place : Place) (marks : ℕ) → profile ≡ P.OptionTwo place marks → code ≡ signOf codesTwo codeDnu told
+  pub codeOfQuality-two : (provplace : ProvPlace) (marks : ℕ) → profile ≡ P.OptionTwo provplace marks → code ≡ signOf codesTwo codeDnu told
       → code ≡ codeOfQuality profile told
   unfolding codeOfQuality
-  codeOfQuality-two place marks p s = rw (p, s)
+  codeOfQuality-two provplace marks p s = rw (p, s)
 
 pub ruleset codeOfQuality-laws = (codeOfQuality-one, codeOfQuality-two)
 
 module _ (profile : Profile) where
-  pub placeOf-one : profile ≡ P.OptionOne → 0 ≡ placeOf profile
-  unfolding placeOf
-  placeOf-one p = rw p
+  pub provPlaceOf-one : profile ≡ P.OptionOne → 0 ≡ provPlaceOf profile
+  unfolding provPlaceOf
+  provPlaceOf-one p = rw p
 
-  module _ (place : Place) (marks : ℕ) where
-    pub placeOf-two : (number : ℕ) → profile ≡ P.OptionTwo place marks → number ≡ numberOfPlace place
-        → number ≡ placeOf profile
-    unfolding placeOf
-    placeOf-two number p n = rw (p, n)
+  module _ (provplace : ProvPlace) (marks : ℕ) where
+    pub provPlaceOf-two : (number : ℕ) → profile ≡ P.OptionTwo provplace marks → number ≡ numberOfProvPlace provplace
+        → number ≡ provPlaceOf profile
+    unfolding provPlaceOf
+    provPlaceOf-two number p n = rw (p, n)
 
-    pub marksOf-two : profile ≡ P.OptionTwo place marks → marks ≡ marksOf profile
+    pub marksOf-two : profile ≡ P.OptionTwo provplace marks → marks ≡ marksOf profile
     unfolding marksOf
     marksOf-two p = rw p
 
@@ -98,7 +101,7 @@ module _ (profile : Profile) where
 
 pub ruleset marksOf-laws = (marksOf-one, marksOf-two)
 
-pub ruleset placeOf-laws = (placeOf-one, placeOf-two)
+pub ruleset provPlaceOf-laws = (provPlaceOf-one, provPlaceOf-two)
 
 -- what was found for a profile is its row, once the profile is told
 pub limitsOf-told : (profile told : Profile) (found : Limits) → profile ≡ told → found ≡ limitsOf told
@@ -162,26 +165,27 @@ module _ (profile : Profile) (told : Quality) where
   unfolding paperNumber
   paperNumber-one number p n = rw (p, n)
 
-  pub paperNumber-two : (place : Place) (marks : ℕ) → profile ≡ P.OptionTwo place marks → told .0 ≡ paperNumber profile told
+  pub paperNumber-two : (provplace : ProvPlace) (marks : ℕ) → profile ≡ P.OptionTwo provplace marks → told .0 ≡ paperNumber profile told
   unfolding paperNumber
-  paperNumber-two place marks p = rw p
+  paperNumber-two provplace marks p = rw p
 
 pub ruleset paperNumber-laws = (paperNumber-one, paperNumber-two)
 
 -- ---- startNumber
 
-module _ (option place : ℕ) where
-  pub startNumber-one : (option ≡ optionTwo → ⊥) → accepted ≡ startNumber option place
+module _ (option provplace : ℕ) where
+  pub startNumber-one : (option ≡ optionTwo → ⊥) → accepted ≡ startNumber option provplace
   unfolding startNumber
   startNumber-one other = rw (ne-eqb option optionTwo other)
 
-  pub startNumber-refused : option ≡ optionTwo → lastPlace < place → argumentOutOfRange ≡ startNumber option place
+  pub startNumber-refused : option ≡ optionTwo → lastProvPlace < provplace
+      → argumentOutOfRange ≡ startNumber option provplace
   unfolding startNumber
-  startNumber-refused two above = rw (eq-eqb option optionTwo two, lt-ltb lastPlace place above)
+  startNumber-refused two above = rw (eq-eqb option optionTwo two, lt-ltb lastProvPlace provplace above)
 
-  pub startNumber-starts : option ≡ optionTwo → place ≤ lastPlace → accepted ≡ startNumber option place
+  pub startNumber-starts : option ≡ optionTwo → provplace ≤ lastProvPlace → accepted ≡ startNumber option provplace
   unfolding startNumber
-  startNumber-starts two within = rw (eq-eqb option optionTwo two, le-ltb lastPlace place within)
+  startNumber-starts two within = rw (eq-eqb option optionTwo two, le-ltb lastProvPlace provplace within)
 
 pub ruleset startNumber-laws = (startNumber-one, startNumber-refused, startNumber-starts)
 

@@ -31,7 +31,7 @@ table-told (row ∷ rows) none sign =
 code-told : (profile : Profile) (code : ℕ) → isFailed (qualityOfCode profile code) ≡ false
 unfolding qualityOfCode
 code-told P.OptionOne code = table-told codesOne (refl, (refl, (refl, (refl, (refl, tt))))) code
-code-told (P.OptionTwo place marks) code =
+code-told (P.OptionTwo provplace marks) code =
     table-told codesTwo (refl, (refl, (refl, (refl, (refl, (refl, (refl, (refl, (refl, tt))))))))) code
 
 word-told : (word : ℕ) → isFailed (qualityOfWord word) ≡ false

@@ -4,7 +4,7 @@ use mathlib.Core.Bool.{true}
 use mathlib.Core.List.{List, [], _∷_, map}
 use mathlib.Core.Path.{_≡_}
 use Rattle.numbers.specs.declared.quality.Quality.{Quality}
-use Rattle.numbers.specs.declared.profile.Place.{Place}
+use Rattle.numbers.specs.declared.profile.ProvPlace.{ProvPlace}
 use Rattle.numbers.specs.declared.profile.Profile.the-variants as P
 use Rattle.numbers.specs.Quality.{prc, ssuA, ssuB, sec, dnu, prs, stu, st2, tnc, st3e, st3, sic, st4, prov, dus, invalid}
 use Rattle.numbers.specs.Profile.{toldBy, paperNumber}
@@ -33,14 +33,16 @@ pub record CodeTable : Type 0 where
   pub back : map (λ (told : Quality). qualityOfCode P.OptionOne (codeOfQuality P.OptionOne told)) toldOne ≡ toldOne
 
 -- option II's, for any place and marks: 0000 as STU; all that have a code read back, and ST4 reads as DUS
-pub record CodeTableTwo (place : Place) (marks : ℕ) : Type 0 where
-  pub read : map (λ (code : ℕ). qualityOfCode (P.OptionTwo place marks) code) codes ≡
+pub record CodeTableTwo (provplace : ProvPlace) (marks : ℕ) : Type 0 where
+  pub read : map (λ (code : ℕ). qualityOfCode (P.OptionTwo provplace marks) code) codes ≡
       stu ∷ prs ∷ invalid ∷ invalid ∷ tnc ∷ invalid ∷ invalid ∷ st2 ∷
       invalid ∷ invalid ∷ st3 ∷ invalid ∷ sic ∷ st3e ∷ prov ∷ dus ∷ []
   pub back : map (λ (told : Quality).
-      qualityOfCode (P.OptionTwo place marks) (codeOfQuality (P.OptionTwo place marks) told)) toldTwo ≡ dus ∷ coded
+      qualityOfCode (P.OptionTwo provplace marks)
+      (codeOfQuality (P.OptionTwo provplace marks) told)) toldTwo ≡ dus ∷ coded
   -- "A port marked first generation sends TNC and ST3E as 1010"
-  pub marked : map (λ (told : Quality). codeOfQuality (P.OptionTwo place marks) (toldBy true told)) (tnc ∷ st3e ∷ []) ≡
+  pub marked : map (λ (told : Quality). codeOfQuality (P.OptionTwo provplace marks) (toldBy true told))
+      (tnc ∷ st3e ∷ []) ≡
       0b1010 ∷ 0b1010 ∷ []
 
 -- the ten words, in and out; "Each second-generation quality written reads back as itself"

@@ -15,8 +15,8 @@ pub record Sign : Type 0 where
   pub told : Quality
   pub sign : ℕ
 
-abbrev pub row : Quality → ℕ → Sign
-row told sign = record { told = told; sign = sign }
+abbrev pub codeRow : Quality → ℕ → Sign
+codeRow told sign = record { told = told; sign = sign }
 
 -- a table read from right to left; what it does not have is invalid
 unfoldable pub saidBy : List Sign → ℕ → Quality
@@ -38,17 +38,19 @@ codePrc = 0b0010
 
 -- document 01's table
 abbrev pub codesOne : List Sign
-codesOne = row prc codePrc ∷ row ssuA 0b0100 ∷ row ssuB 0b1000 ∷ row sec 0b1011 ∷ row dnu codeDnu ∷ []
+codesOne =
+    codeRow prc codePrc ∷ codeRow ssuA 0b0100 ∷ codeRow ssuB 0b1000 ∷ codeRow sec 0b1011 ∷ codeRow dnu codeDnu ∷ []
 
 -- "1 PRS 0001, 2 STU 0000, 3 ST2 0111, 4 TNC 0100, 5 ST3E 1101, 6 ST3 1010, 7 SIC 1100, .. 9 PROV 1110, 10 DUS 1111"
 abbrev pub codesTwo : List Sign
 codesTwo =
-    row prs 0b0001 ∷ row stu 0b0000 ∷ row st2 0b0111 ∷ row tnc 0b0100 ∷ row st3e 0b1101 ∷ row st3 0b1010 ∷
-    row sic 0b1100 ∷ row prov 0b1110 ∷ row dus codeDnu ∷ []
+    codeRow prs 0b0001 ∷ codeRow stu 0b0000 ∷ codeRow st2 0b0111 ∷ codeRow tnc 0b0100 ∷ codeRow st3e 0b1101
+    ∷ codeRow st3 0b1010 ∷
+    codeRow sic 0b1100 ∷ codeRow prov 0b1110 ∷ codeRow dus codeDnu ∷ []
 
 abbrev pub codesOf : Profile → List Sign
 codesOf P.OptionOne = codesOne
-codesOf (P.OptionTwo place marks) = codesTwo
+codesOf (P.OptionTwo provplace marks) = codesTwo
 
 abbrev pub wordStu : ℕ
 wordStu = 0x08ff
@@ -59,8 +61,9 @@ wordDus = 0x30ff
 -- "04FF PRS, 08FF STU, 0CFF ST2, 78FF TNC, 7CFF ST3E, 10FF ST3, 22FF SIC, 28FF ST4, 40FF PROV, 30FF DUS"
 abbrev pub words : List Sign
 words =
-    row prs 0x04ff ∷ row stu wordStu ∷ row st2 0x0cff ∷ row tnc 0x78ff ∷ row st3e 0x7cff ∷ row st3 0x10ff ∷
-    row sic 0x22ff ∷ row st4 0x28ff ∷ row prov 0x40ff ∷ row dus wordDus ∷ []
+    codeRow prs 0x04ff ∷ codeRow stu wordStu ∷ codeRow st2 0x0cff ∷ codeRow tnc 0x78ff ∷ codeRow st3e 0x7cff
+    ∷ codeRow st3 0x10ff ∷
+    codeRow sic 0x22ff ∷ codeRow st4 0x28ff ∷ codeRow prov 0x40ff ∷ codeRow dus wordDus ∷ []
 
 -- what a code says, "Any other of the sixteen codes reads as .. invalid"
 unfoldable pub qualityOfCode : Profile → ℕ → Quality

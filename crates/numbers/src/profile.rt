@@ -10,7 +10,7 @@ use crate::quality::TNC;
 use crate::refusal::ACCEPTED;
 use crate::refusal::ARGUMENT_OUT_OF_RANGE;
 ghost use mathlib.Core.Path.{_≡_};
-ghost use Rattle.numbers.specs.Profile.{placeIn, numberOfPlace, profileWith, profileIn, optionOf, limitsOf, placeOf, startNumber, marksOf, floorIn, toldBy, numberInOne, paperNumber};
+ghost use Rattle.numbers.specs.Profile.{provPlaceIn, numberOfProvPlace, profileWith, profileIn, optionOf, limitsOf, provPlaceOf, startNumber, marksOf, floorIn, toldBy, numberInOne, paperNumber};
 
 // The options, as a line's byte and C number them.
 pub const OPTION_ONE: u8 = 1;
@@ -18,10 +18,10 @@ pub const OPTION_ONE: u8 = 1;
 pub const OPTION_TWO: u8 = 2;
 
 // The last place of PROV.
-const LAST_PLACE: u8 = 8;
+const LAST_PROV_PLACE: u8 = 8;
 
 // The place of PROV: none, or just below a quality of 1 to 8. There is no other.
-pub enum Place {
+pub enum ProvPlace {
     Unplaced,
     Below1,
     Below2,
@@ -37,7 +37,7 @@ pub enum Place {
 // first-generation ports.
 pub enum Profile {
     OptionOne,
-    OptionTwo(Place, u16),
+    OptionTwo(ProvPlace, u16),
 }
 
 // What the options differ in: the last fixed quality, floor and kind of input, whether words come,
@@ -74,55 +74,55 @@ pub fn limits_of(profile: Profile) -> Limits
 
 // The place that a number says. A number above 8 says none, as 0 does: a start asks `start_number`
 // first, and numbers that nobody has asked about leave PROV unplaced.
-pub fn place_in(number: u8) -> Place
-    ensures { λ answer. ⌜ answer ≡ placeIn number ⌝ }
+pub fn prov_place_in(number: u8) -> ProvPlace
+    ensures { λ answer. ⌜ answer ≡ provPlaceIn number ⌝ }
 {
     match number {
-        1 => Place::Below1,
-        2 => Place::Below2,
-        3 => Place::Below3,
-        4 => Place::Below4,
-        5 => Place::Below5,
-        6 => Place::Below6,
-        7 => Place::Below7,
-        8 => Place::Below8,
-        _ => Place::Unplaced,
+        1 => ProvPlace::Below1,
+        2 => ProvPlace::Below2,
+        3 => ProvPlace::Below3,
+        4 => ProvPlace::Below4,
+        5 => ProvPlace::Below5,
+        6 => ProvPlace::Below6,
+        7 => ProvPlace::Below7,
+        8 => ProvPlace::Below8,
+        _ => ProvPlace::Unplaced,
     }
 }
 
 // The number of a place, 0 for none.
-pub fn number_of_place(place: Place) -> u8
-    ensures { λ answer. ⌜ answer ≡ numberOfPlace place ⌝ }
+pub fn number_of_prov_place(provplace: ProvPlace) -> u8
+    ensures { λ answer. ⌜ answer ≡ numberOfProvPlace provplace ⌝ }
 {
-    match place {
-        Place::Unplaced => 0,
-        Place::Below1 => 1,
-        Place::Below2 => 2,
-        Place::Below3 => 3,
-        Place::Below4 => 4,
-        Place::Below5 => 5,
-        Place::Below6 => 6,
-        Place::Below7 => 7,
-        Place::Below8 => 8,
+    match provplace {
+        ProvPlace::Unplaced => 0,
+        ProvPlace::Below1 => 1,
+        ProvPlace::Below2 => 2,
+        ProvPlace::Below3 => 3,
+        ProvPlace::Below4 => 4,
+        ProvPlace::Below5 => 5,
+        ProvPlace::Below6 => 6,
+        ProvPlace::Below7 => 7,
+        ProvPlace::Below8 => 8,
     }
 }
 
 // The profile of an option's number: 2 with the place and the marks; any other number is option I,
 // and neither is looked at.
-pub fn profile_with(option: u8, place: Place, marks: u16) -> Profile
-    ensures { λ answer. ⌜ answer ≡ profileWith option place marks ⌝ }
+pub fn profile_with(option: u8, provplace: ProvPlace, marks: u16) -> Profile
+    ensures { λ answer. ⌜ answer ≡ profileWith option provplace marks ⌝ }
 {
     if option == OPTION_TWO {
-        return Profile::OptionTwo(place, marks);
+        return Profile::OptionTwo(provplace, marks);
     }
     Profile::OptionOne
 }
 
 // The same, of a place's number.
-pub fn profile_in(option: u8, place: u8, marks: u16) -> Profile
-    ensures { λ answer. ⌜ answer ≡ profileIn option place marks ⌝ }
+pub fn profile_in(option: u8, provplace: u8, marks: u16) -> Profile
+    ensures { λ answer. ⌜ answer ≡ profileIn option provplace marks ⌝ }
 {
-    profile_with(option, place_in(place), marks)
+    profile_with(option, prov_place_in(provplace), marks)
 }
 
 // The number of a profile's option.
@@ -136,24 +136,24 @@ pub fn option_of(profile: Profile) -> u8
 }
 
 // The number of a profile's place of PROV, 0 for none.
-pub fn place_of(profile: Profile) -> u8
-    ensures { λ answer. ⌜ answer ≡ placeOf profile ⌝ }
+pub fn prov_place_of(profile: Profile) -> u8
+    ensures { λ answer. ⌜ answer ≡ provPlaceOf profile ⌝ }
 {
     match profile {
         Profile::OptionOne => 0,
-        Profile::OptionTwo(place, _) => number_of_place(place),
+        Profile::OptionTwo(provplace, _) => number_of_prov_place(provplace),
     }
 }
 
 // The number that a start with an option's number and a place's is answered with: 6 where option II
 // is given a place above 8, and then there is none.
-pub fn start_number(option: u8, place: u8) -> u8
-    ensures { λ answer. ⌜ answer ≡ startNumber option place ⌝ }
+pub fn start_number(option: u8, provplace: u8) -> u8
+    ensures { λ answer. ⌜ answer ≡ startNumber option provplace ⌝ }
 {
     if option != OPTION_TWO {
         return ACCEPTED;
     }
-    if LAST_PLACE < place {
+    if LAST_PROV_PLACE < provplace {
         return ARGUMENT_OUT_OF_RANGE;
     }
     ACCEPTED

@@ -37,7 +37,7 @@ use Rattle.quickstep.specs.declared.Own.{Own}
 use Rattle.quickstep.specs.declared.Watch.{Watch}
 use Rattle.quickstep.specs.Again.{ownOf, saysAgain, againInput, againOwn}
 use Rattle.quickstep.specs.Own.{isServed, seenAlike, ownTake, ownStep, isLeft}
-use Rattle.quickstep.specs.Watch.{watchOf, freshWatch, numbered, movedTo, dueAnew, dueAfter, servedWatch, completed, ownPlace, ownPut, ownAt, ownFrom, takeWith, dueAt, takeStep, isPutAtOnce, watchStep, isAnew}
+use Rattle.quickstep.specs.Watch.{watchOf, freshWatch, numbered, movedTo, dueAnew, dueAfter, servedWatch, completed, ownIndex, ownPut, ownAt, ownFrom, takeWith, dueAt, takeStep, isPutAtOnce, watchStep, isAnew}
 use Rattle.onestep.specs.Watched.{sixValues, answerIn, watchHeld, watchAt}
 
 -- ---- what was answered
@@ -74,10 +74,10 @@ told-answer due told next answer count one seven state =
 
 -- ---- the own input and the time
 
-pub own-moved : (state one after : Selector) (place : ℕ) (input : Input) (time : ℕ)
-    → one ≡ withInput state place input → after ≡ withTime one time
-    → after ≡ movedTo state (set (state .inputs) place input) time
-own-moved state one after place input time o a = a ∙ ap (λ (moved : Selector). withTime moved time) o
+pub own-moved : (state one after : Selector) (index : ℕ) (input : Input) (time : ℕ)
+    → one ≡ withInput state index input → after ≡ withTime one time
+    → after ≡ movedTo state (set (state .inputs) index input) time
+own-moved state one after index input time o a = a ∙ ap (λ (moved : Selector). withTime moved time) o
 
 -- ---- a start
 
@@ -163,7 +163,7 @@ module _ (watch : Watch) (next : ℕ) (event : Event) (read : FrameRead) (taking
 
   -- the state with that input in it
   abbrev moved : Selector
-  moved = movedTo (watch .state) (set (watch .state .inputs) (ownPlace event) (own .input)) (own .time)
+  moved = movedTo (watch .state) (set (watch .state .inputs) (ownIndex event) (own .input)) (own .time)
 
   -- the answer with the event's number
   abbrev told : Answer
@@ -234,7 +234,7 @@ module _ (watch : Watch) (next : ℕ) (event : Event) (read : FrameRead) (taking
         (kept .1) in
         let here : event .input % inputCount ≡ event .input = mod-eq-of-lt few in
         (λ j. earlyRefusal (limitsOf (sym (taking .isProfile) j)) (sym (taking .isTime) j)
-        ((ap (λ (place : ℕ). getD (watch .state .inputs) place freshInput) (sym here) ∙ sym (taking .isBefore)) j
+        ((ap (λ (index : ℕ). getD (watch .state .inputs) index freshInput) (sym here) ∙ sym (taking .isBefore)) j
         .settings .kind)
         event read) ∙
         kept .1
@@ -245,10 +245,10 @@ module _ (watch : Watch) (next : ℕ) (event : Event) (read : FrameRead) (taking
         let whole : own ≡ ownOf (taking .before) (taking .time) next accepted Service =
         taking .isOwn ∙ kept .0 in
         (λ j. movedTo (watch .state)
-        (set (watch .state .inputs) (ownPlace event)
+        (set (watch .state .inputs) (ownIndex event)
         ((ap (λ (one : Own). one .input) whole ∙ taking .isBefore) j))
         ((ap (λ (one : Own). one .time) whole ∙ taking .isTime) j)) ∙
-        (λ j. movedTo (watch .state) (set-getD (watch .state .inputs) (ownPlace event) freshInput j)
+        (λ j. movedTo (watch .state) (set-getD (watch .state .inputs) (ownIndex event) freshInput j)
         (watch .state .time))
 
     pub take-service : (held : Watch) → held ≡ servedWatch (watch .state) (own .due) event read → Took held true
@@ -302,21 +302,21 @@ module _ (watch : Watch) (event : Event) (read : FrameRead) (asking : Asking wat
   -- of the own input only the time of the last frame is stored
   pub step-again : (own : Own) (after : Selector) (held : Watch) → asking .again ≡ true
       → own ≡ againOwn (asking .before) (watch .due) event
-      → after ≡ withTime (withFramed (watch .state) (ownPlace event) (own .input .heard .framed)) (own .time)
+      → after ≡ withTime (withFramed (watch .state) (ownIndex event) (own .input .heard .framed)) (own .time)
       → held ≡ watchOf after (own .due) (numbered (own .number) (watch .answer)) 0
       → StepDone watch event read held false
   unfolding watchStep isAnew ownPut completed againOwn
   step-again own after held y o a h =
-      let moved : after ≡ movedTo (watch .state) (set (watch .state .inputs) (ownPlace event) (own .input)) (own .time) =
+      let moved : after ≡ movedTo (watch .state) (set (watch .state .inputs) (ownIndex event) (own .input)) (own .time) =
       a ∙
       ap
-      (λ (input : Input). movedTo (watch .state) (set (watch .state .inputs) (ownPlace event) input) (own .time))
+      (λ (input : Input). movedTo (watch .state) (set (watch .state .inputs) (ownIndex event) input) (own .time))
       (framed-own (ownAt (watch .state) event) (asking .before) (watch .due) event own (asking .isBefore) o) in (
         h ∙
             ap (λ (state : Selector). watchOf state (own .due) (numbered (own .number) (watch .answer)) 0) moved ∙
             ap
             (λ (one : Own). watchOf
-            (movedTo (watch .state) (set (watch .state .inputs) (ownPlace event) (one .input)) (one .time)) (one .due)
+            (movedTo (watch .state) (set (watch .state .inputs) (ownIndex event) (one .input)) (one .time)) (one .due)
             (numbered (one .number) (watch .answer)) 0)
             (o ∙ ap (λ (input : Input). againOwn input (watch .due) event) (asking .isBefore)) ∙
             rw (← says, y),

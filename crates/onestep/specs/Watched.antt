@@ -32,8 +32,8 @@ watchHeld state due told = watchOf state (getD due 0 0) (answerIn told) (getD to
 
 -- the watch that five lists hold
 unfoldable pub watchAt : List ℕ → List ℕ → List ℕ → List ℕ → List ℕ → Watch
-watchAt times small words due told = watchHeld (selectorAt times small words) due told
+watchAt times small wider due told = watchHeld (selectorAt times small wider) due told
 
 -- the watch that five arrays by value hold
 abbrev pub watchIn : Held → Watch
-watchIn held = watchAt (held .times) (held .small) (held .words) (held .due) (held .told)
+watchIn held = watchAt (held .times) (held .small) (held .wider) (held .due) (held .told)

@@ -18,7 +18,7 @@ use frame::FrameRead;
 use frame::read_code;
 use inplace::SMALL;
 use inplace::TIMES;
-use inplace::WORDS;
+use inplace::WIDER;
 use inplace::candidate_at;
 use inplace::input_at;
 use inplace::inputs_at_moment;
@@ -59,59 +59,59 @@ pub struct StepTold {
 fn inputs_after(
     times: &mut [u64; TIMES],
     small: &mut [u8; SMALL],
-    words: &mut [u16; WORDS],
+    wider: &mut [u16; WIDER],
     profile: Profile,
     event: Event,
     mode: bool,
 )
-    ensures { λ _. ⌜ selectorAt (now (times .exit)) (now (small .exit)) (now (words .exit)) ≡
-        withInputs (selectorAt (now (times .entry)) (now (small .entry)) (now (words .entry)))
+    ensures { λ _. ⌜ selectorAt (now (times .exit)) (now (small .exit)) (now (wider .exit)) ≡
+        withInputs (selectorAt (now (times .entry)) (now (small .entry)) (now (wider .entry)))
         (inputsAfter
-        (selectorAt (now (times .entry)) (now (small .entry)) (now (words .entry)) .inputs)
+        (selectorAt (now (times .entry)) (now (small .entry)) (now (wider .entry)) .inputs)
         (saidEvent profile event) mode) ⌝ }
 {
     if event.kind == KIND_QUALITY_MODE {
-        inputs_at_moment(times, small, words, event.time, mode);
+        inputs_at_moment(times, small, wider, event.time, mode);
         return;
     }
-    let before = input_at(times, small, words, InputNumber(event.input));
+    let before = input_at(times, small, wider, InputNumber(event.input));
     let after = input_after(before, profile, event, mode);
-    put_input(times, small, words, InputNumber(event.input), after);
+    put_input(times, small, wider, InputNumber(event.input), after);
 }
 
 // The state after an accepted event's own moment, once its tick has been made.
 fn at_its_moment(
     times: &mut [u64; TIMES],
     small: &mut [u8; SMALL],
-    words: &mut [u16; WORDS],
+    wider: &mut [u16; WIDER],
     event: Event,
 )
     requires { ⌜ event .input < inputCount ⌝ }
-    ensures { λ _. ⌜ selectorAt (now (times .exit)) (now (small .exit)) (now (words .exit)) ≡
-        atItsMoment (selectorAt (now (times .entry)) (now (small .entry)) (now (words .entry)))
+    ensures { λ _. ⌜ selectorAt (now (times .exit)) (now (small .exit)) (now (wider .exit)) ≡
+        atItsMoment (selectorAt (now (times .entry)) (now (small .entry)) (now (wider .entry)))
         (saidEvent
-        (selectorAt (now (times .entry)) (now (small .entry)) (now (words .entry)) .profile)
+        (selectorAt (now (times .entry)) (now (small .entry)) (now (wider .entry)) .profile)
         event) ⌝ }
 {
     let earlier = mode_at(small);
     let mode = mode_after(event.kind, event.argument, earlier);
     let before = switch_at(small);
     let switch = commanded(event.kind, InputNumber(event.input), before);
-    let profile = profile_at(small, words);
-    inputs_after(times, small, words, profile, event, mode);
+    let profile = profile_at(small, wider);
+    inputs_after(times, small, wider, profile, event, mode);
     put_command(small, mode, switch);
-    make_choice(times, small, words);
+    make_choice(times, small, wider);
 }
 
 // Refusals 14 to 17 of an event on a state that has been ticked to its time; 0 where none applies.
-fn late_at(times: &[u64; TIMES], small: &[u8; SMALL], words: &[u16; WORDS], event: Event) -> u8
+fn late_at(times: &[u64; TIMES], small: &[u8; SMALL], wider: &[u16; WIDER], event: Event) -> u8
     ensures { λ answer. ⌜ answer ≡
-        lateNumber (selectorAt (now (times .entry)) (now (small .entry)) (now (words .entry)))
+        lateNumber (selectorAt (now (times .entry)) (now (small .entry)) (now (wider .entry)))
         event ⌝ }
 {
     if is_judged_late(event.kind) {
-        let own = candidate_at(times, small, words, InputNumber(event.input));
-        let leader = leader_at(times, small, words, Selection::Nothing);
+        let own = candidate_at(times, small, wider, InputNumber(event.input));
+        let leader = leader_at(times, small, wider, Selection::Nothing);
         let best = leader.rank;
         let switch = switch_at(small);
         return late_refusal(own, best, switch, event.kind);
@@ -123,22 +123,22 @@ fn late_at(times: &[u64; TIMES], small: &[u8; SMALL], words: &[u16; WORDS], even
 fn step_ticked(
     times: &mut [u64; TIMES],
     small: &mut [u8; SMALL],
-    words: &mut [u16; WORDS],
+    wider: &mut [u16; WIDER],
     event: Event,
     read: FrameRead,
 ) -> u8
     requires { ⌜ event .input < inputCount ⌝ }
     ensures { λ number. ⌜ ((count : ℕ) → stepped number count
-        (selectorAt (now (times .exit)) (now (small .exit)) (now (words .exit))) ≡
-        stepTicked (selectorAt (now (times .entry)) (now (small .entry)) (now (words .entry)))
+        (selectorAt (now (times .exit)) (now (small .exit)) (now (wider .exit))) ≡
+        stepTicked (selectorAt (now (times .entry)) (now (small .entry)) (now (wider .entry)))
         count event read) ⌝ }
 {
-    let late = late_at(times, small, words, event);
+    let late = late_at(times, small, wider, event);
     if late != ACCEPTED {
         return late;
     }
     let recorded = recorded_event(event, read);
-    at_its_moment(times, small, words, recorded);
+    at_its_moment(times, small, wider, recorded);
     ACCEPTED
 }
 
@@ -147,19 +147,19 @@ fn step_ticked(
 fn step_accepted(
     times: &mut [u64; TIMES],
     small: &mut [u8; SMALL],
-    words: &mut [u16; WORDS],
+    wider: &mut [u16; WIDER],
     event: Event,
     read: FrameRead,
 ) -> StepTold
-    requires { ⌜ earlyNumber (selectorAt (now times) (now small) (now words)) event read ≡
+    requires { ⌜ earlyNumber (selectorAt (now times) (now small) (now wider)) event read ≡
         accepted ⌝ }
     ensures { λ told. ⌜ stepped (told .number) (told .count)
-        (selectorAt (now (times .exit)) (now (small .exit)) (now (words .exit))) ≡
-        stepRead (selectorAt (now (times .entry)) (now (small .entry)) (now (words .entry)))
+        (selectorAt (now (times .exit)) (now (small .exit)) (now (wider .exit))) ≡
+        stepRead (selectorAt (now (times .entry)) (now (small .entry)) (now (wider .entry)))
         event read ⌝ }
 {
-    let count = serve(times, small, words, event.time);
-    let number = step_ticked(times, small, words, event, read);
+    let count = serve(times, small, wider, event.time);
+    let number = step_ticked(times, small, wider, event, read);
     StepTold { number, count }
 }
 
@@ -168,19 +168,19 @@ fn step_accepted(
 pub fn step_read(
     times: &mut [u64; TIMES],
     small: &mut [u8; SMALL],
-    words: &mut [u16; WORDS],
+    wider: &mut [u16; WIDER],
     event: Event,
     read: FrameRead,
 ) -> StepTold
     ensures { λ told. ⌜ stepped (told .number) (told .count)
-        (selectorAt (now (times .exit)) (now (small .exit)) (now (words .exit))) ≡
-        stepRead (selectorAt (now (times .entry)) (now (small .entry)) (now (words .entry)))
+        (selectorAt (now (times .exit)) (now (small .exit)) (now (wider .exit))) ≡
+        stepRead (selectorAt (now (times .entry)) (now (small .entry)) (now (wider .entry)))
         event read ⌝ }
 {
-    let input = input_at(times, small, words, InputNumber(event.input));
+    let input = input_at(times, small, wider, InputNumber(event.input));
     let settings = input.settings;
     let at = settings.kind;
-    let profile = profile_at(small, words);
+    let profile = profile_at(small, wider);
     let time = time_at(times);
     let early = early_refusal(profile, time, at, event, read);
     if early != ACCEPTED {
@@ -189,22 +189,22 @@ pub fn step_read(
             count: NONE_SERVED,
         };
     }
-    step_accepted(times, small, words, event, read)
+    step_accepted(times, small, wider, event, read)
 }
 
 // One event with a lent frame, which counts for a frame event alone.
 pub fn step(
     times: &mut [u64; TIMES],
     small: &mut [u8; SMALL],
-    words: &mut [u16; WORDS],
+    wider: &mut [u16; WIDER],
     event: Event,
     frame: &[u8],
 ) -> StepTold
     ensures { λ told. ⌜ stepped (told .number) (told .count)
-        (selectorAt (now (times .exit)) (now (small .exit)) (now (words .exit))) ≡
-        step (selectorAt (now (times .entry)) (now (small .entry)) (now (words .entry)))
+        (selectorAt (now (times .exit)) (now (small .exit)) (now (wider .exit))) ≡
+        step (selectorAt (now (times .entry)) (now (small .entry)) (now (wider .entry)))
         event (now (frame .entry)) ⌝ }
 {
     let read = read_code(frame);
-    step_read(times, small, words, event, read)
+    step_read(times, small, wider, event, read)
 }

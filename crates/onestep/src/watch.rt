@@ -7,7 +7,7 @@ use due::lesser;
 use frame::FrameRead;
 use inplace::SMALL;
 use inplace::TIMES;
-use inplace::WORDS;
+use inplace::WIDER;
 use inplace::answer_at;
 use inplace::input_at;
 use inplace::make_choice;
@@ -143,24 +143,24 @@ pub fn tell(due: &mut [u64; DUE], told: &mut [u8; TOLD], next: u64, answer: Answ
 fn put_own(
     times: &mut [u64; TIMES],
     small: &mut [u8; SMALL],
-    words: &mut [u16; WORDS],
+    wider: &mut [u16; WIDER],
     number: InputNumber,
     input: Input,
     time: u64,
 )
-    ensures { λ _. ⌜ selectorAt (now (times .exit)) (now (small .exit)) (now (words .exit)) ≡
-        movedTo (selectorAt (now (times .entry)) (now (small .entry)) (now (words .entry)))
-        (set (selectorAt (now (times .entry)) (now (small .entry)) (now (words .entry)) .inputs)
+    ensures { λ _. ⌜ selectorAt (now (times .exit)) (now (small .exit)) (now (wider .exit)) ≡
+        movedTo (selectorAt (now (times .entry)) (now (small .entry)) (now (wider .entry)))
+        (set (selectorAt (now (times .entry)) (now (small .entry)) (now (wider .entry)) .inputs)
         (number .0) input) time ⌝ }
 {
-    put_input(times, small, words, number, input);
+    put_input(times, small, wider, number, input);
     put_time(times, time);
 }
 
 // When an input's last frame came stored, and the time.
 fn put_again(times: &mut [u64; TIMES], number: InputNumber, framed: u64, time: u64)
-    ensures { λ _. ⌜ ((small words : List ℕ) → selectorAt (now (times .exit)) small words ≡
-        withTime (withFramed (selectorAt (now (times .entry)) small words) (number .0) framed)
+    ensures { λ _. ⌜ ((small wider : List ℕ) → selectorAt (now (times .exit)) small wider ≡
+        withTime (withFramed (selectorAt (now (times .entry)) small wider) (number .0) framed)
         time) ⌝ }
 {
     put_framed(times, number, framed);
@@ -171,19 +171,19 @@ fn put_again(times: &mut [u64; TIMES], number: InputNumber, framed: u64, time: u
 pub fn start_watch(
     times: &mut [u64; TIMES],
     small: &mut [u8; SMALL],
-    words: &mut [u16; WORDS],
+    wider: &mut [u16; WIDER],
     due: &mut [u64; DUE],
     told: &mut [u8; TOLD],
     profile: Profile,
 )
     ensures { λ _. ⌜
-        watchAt (now (times .exit)) (now (small .exit)) (now (words .exit)) (now (due .exit))
+        watchAt (now (times .exit)) (now (small .exit)) (now (wider .exit)) (now (due .exit))
         (now (told .exit)) ≡
         freshWatch profile ⌝ }
 {
-    start(times, small, words, profile);
-    let next = next_due(times, small, words);
-    let answer = answer_at(times, small, words, ACCEPTED);
+    start(times, small, wider, profile);
+    let next = next_due(times, small, wider);
+    let answer = answer_at(times, small, wider, ACCEPTED);
     tell(due, told, next, answer, 0);
 }
 
@@ -192,14 +192,14 @@ pub fn start_watch(
 fn due_left(
     times: &[u64; TIMES],
     small: &[u8; SMALL],
-    words: &[u16; WORDS],
+    wider: &[u16; WIDER],
     due: u64,
     time: u64,
 ) -> u64
     ensures { λ answer. ⌜ answer ≡ dueAfter due time
-        (selectorAt (now (times .entry)) (now (small .entry)) (now (words .entry))) ⌝ }
+        (selectorAt (now (times .entry)) (now (small .entry)) (now (wider .entry))) ⌝ }
 {
-    let next = next_due(times, small, words);
+    let next = next_due(times, small, wider);
     if time < due {
         return lesser(due, next);
     }
@@ -210,24 +210,24 @@ fn due_left(
 fn choose(
     times: &[u64; TIMES],
     small: &mut [u8; SMALL],
-    words: &[u16; WORDS],
+    wider: &[u16; WIDER],
     due: &mut [u64; DUE],
     told: &mut [u8; TOLD],
     next: u64,
     number: u8,
 )
     ensures { λ _. ⌜
-        watchAt (now (times .entry)) (now (small .exit)) (now (words .entry)) (now (due .exit))
+        watchAt (now (times .entry)) (now (small .exit)) (now (wider .entry)) (now (due .exit))
         (now (told .exit)) ≡
         watchOf
-        (decided (selectorAt (now (times .entry)) (now (small .entry)) (now (words .entry))))
+        (decided (selectorAt (now (times .entry)) (now (small .entry)) (now (wider .entry))))
         next
         (answerOf number
-        (decided (selectorAt (now (times .entry)) (now (small .entry)) (now (words .entry)))))
+        (decided (selectorAt (now (times .entry)) (now (small .entry)) (now (wider .entry)))))
         0 ⌝ }
 {
-    make_choice(times, small, words);
-    let answer = answer_at(times, small, words, number);
+    make_choice(times, small, wider);
+    let answer = answer_at(times, small, wider, number);
     tell(due, told, next, answer, 0);
 }
 
@@ -235,24 +235,24 @@ fn choose(
 fn serve_event(
     times: &mut [u64; TIMES],
     small: &mut [u8; SMALL],
-    words: &mut [u16; WORDS],
+    wider: &mut [u16; WIDER],
     due: &mut [u64; DUE],
     told: &mut [u8; TOLD],
     next: u64,
     event: Event,
     read: FrameRead,
 )
-    requires { ⌜ earlyNumber (selectorAt (now times) (now small) (now words)) event read ≡
+    requires { ⌜ earlyNumber (selectorAt (now times) (now small) (now wider)) event read ≡
         accepted ⌝ }
     ensures { λ _. ⌜
-        watchAt (now (times .exit)) (now (small .exit)) (now (words .exit)) (now (due .exit))
+        watchAt (now (times .exit)) (now (small .exit)) (now (wider .exit)) (now (due .exit))
         (now (told .exit)) ≡
-        servedWatch (selectorAt (now (times .entry)) (now (small .entry)) (now (words .entry)))
+        servedWatch (selectorAt (now (times .entry)) (now (small .entry)) (now (wider .entry)))
         next event read ⌝ }
 {
-    let after = step_accepted(times, small, words, event, read);
-    let later = due_left(times, small, words, next, event.time);
-    let answer = answer_at(times, small, words, after.number);
+    let after = step_accepted(times, small, wider, event, read);
+    let later = due_left(times, small, wider, next, event.time);
+    let answer = answer_at(times, small, wider, after.number);
     tell(due, told, later, answer, after.count);
 }
 
@@ -275,7 +275,7 @@ fn handed(event: Event) -> Event
 fn take(
     times: &mut [u64; TIMES],
     small: &mut [u8; SMALL],
-    words: &mut [u16; WORDS],
+    wider: &mut [u16; WIDER],
     due: &mut [u64; DUE],
     told: &mut [u8; TOLD],
     next: u64,
@@ -283,20 +283,20 @@ fn take(
     read: FrameRead,
 ) -> bool
     ensures { λ anew. ⌜
-        (watchAt (now (times .exit)) (now (small .exit)) (now (words .exit)) (now (due .exit))
+        (watchAt (now (times .exit)) (now (small .exit)) (now (wider .exit)) (now (due .exit))
         (now (told .exit)) ≡
         takeWith
-        (watchAt (now (times .entry)) (now (small .entry)) (now (words .entry))
+        (watchAt (now (times .entry)) (now (small .entry)) (now (wider .entry))
         (now (due .entry)) (now (told .entry)))
         next event read) ×
         (anew ≡ isLeft (ownFrom
-        (watchAt (now (times .entry)) (now (small .entry)) (now (words .entry))
+        (watchAt (now (times .entry)) (now (small .entry)) (now (wider .entry))
         (now (due .entry)) (now (told .entry)) .state)
         next event read .left)) ⌝ }
 {
-    let place = InputNumber(event.input % INPUT_COUNT);
-    let before = input_at(times, small, words, place);
-    let profile = profile_at(small, words);
+    let index = InputNumber(event.input % INPUT_COUNT);
+    let before = input_at(times, small, wider, index);
+    let profile = profile_at(small, wider);
     let mode = mode_at(small);
     let time = time_at(times);
     let own = own_step(before, profile, mode, time, next, event, read);
@@ -304,17 +304,17 @@ fn take(
     let left = own.left;
     match left {
         Left::Nothing => {
-            put_own(times, small, words, place, input, own.time);
+            put_own(times, small, wider, index, input, own.time);
             put_number(due, told, own.due, own.number);
             false
         }
         Left::Choice => {
-            put_own(times, small, words, place, input, own.time);
-            choose(times, small, words, due, told, own.due, own.number);
+            put_own(times, small, wider, index, input, own.time);
+            choose(times, small, wider, due, told, own.due, own.number);
             true
         }
         Left::Service => {
-            serve_event(times, small, words, due, told, own.due, event, read);
+            serve_event(times, small, wider, due, told, own.due, event, read);
             true
         }
     }
@@ -326,40 +326,40 @@ fn take(
 pub fn step_watch(
     times: &mut [u64; TIMES],
     small: &mut [u8; SMALL],
-    words: &mut [u16; WORDS],
+    wider: &mut [u16; WIDER],
     due: &mut [u64; DUE],
     told: &mut [u8; TOLD],
     event: Event,
     read: FrameRead,
 ) -> bool
     ensures { λ anew. ⌜
-        (watchAt (now (times .exit)) (now (small .exit)) (now (words .exit)) (now (due .exit))
+        (watchAt (now (times .exit)) (now (small .exit)) (now (wider .exit)) (now (due .exit))
         (now (told .exit)) ≡
         watchStep
-        (watchAt (now (times .entry)) (now (small .entry)) (now (words .entry))
+        (watchAt (now (times .entry)) (now (small .entry)) (now (wider .entry))
         (now (due .entry)) (now (told .entry)))
         event read) ×
         (anew ≡ isAnew
-        (watchAt (now (times .entry)) (now (small .entry)) (now (words .entry))
+        (watchAt (now (times .entry)) (now (small .entry)) (now (wider .entry))
         (now (due .entry)) (now (told .entry)))
         event read) ⌝ }
 {
     let known = due[NEXT];
     if event.time < known {
-        let place = InputNumber(event.input % INPUT_COUNT);
-        let before = input_at(times, small, words, place);
-        let profile = profile_at(small, words);
+        let index = InputNumber(event.input % INPUT_COUNT);
+        let before = input_at(times, small, wider, index);
+        let profile = profile_at(small, wider);
         let time = time_at(times);
         if says_again(before, profile, time, known, event, read) {
             let own = again_own(before, known, event);
             let input = own.input;
             let heard = input.heard;
-            put_again(times, place, heard.framed, own.time);
+            put_again(times, index, heard.framed, own.time);
             put_number(due, told, own.due, own.number);
             return false;
         }
-        return take(times, small, words, due, told, known, handed(event), read);
+        return take(times, small, wider, due, told, known, handed(event), read);
     }
-    let next = next_due(times, small, words);
-    take(times, small, words, due, told, next, handed(event), read)
+    let next = next_due(times, small, wider);
+    take(times, small, wider, due, told, next, handed(event), read)
 }

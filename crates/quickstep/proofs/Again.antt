@@ -36,8 +36,8 @@ use Rattle.quickstep.specs.Own.{isCommand}
 -- ---- what was heard
 
 abbrev heardOf : ℕ → Quality → Quality → ℕ → ℕ → Bool → Heard
-heardOf framed frame line last count good =
-    record { framed = framed; frame = frame; linequality = line; last = last; count = count; signal = good }
+heardOf framed frame line last reports good =
+    record { framed = framed; frame = frame; linequality = line; last = last; reports = reports; signal = good }
 
 code-any : (framed : ℕ) (frame line : Quality) (last count : ℕ) (good : Bool) (said : Quality) (time : ℕ) → good ≡ true
     → count ≡ reportsNeeded → line ≡ said
@@ -99,7 +99,7 @@ reported kind time at argument said =
 code-again : (input : Input) (at argument : ℕ) (said : Quality) (time : ℕ) (mode : Bool) → SettledAt mode time input
     → argument ≡ input .heard .last
     → input .heard .signal ≡ true
-    → input .heard .count ≡ reportsNeeded
+    → input .heard .reports ≡ reportsNeeded
     → input .heard .linequality ≡ said
     → inputAfter input (reported kindLineCode time at argument said) mode ≡ input
 unfolding inputAfter heldArgument isHeldInByte afterEvent settingsAfter inputAtMoment
@@ -107,7 +107,7 @@ code-again input at argument said time mode settled same isGood three told =
     let h = input .heard in
     let heard : heardAfter h kindLineCode argument said time ≡ h =
     ap (λ (c : ℕ). heardAfter h kindLineCode c said time) same ∙
-    code-any (h .framed) (h .frame) (h .linequality) (h .last) (h .count) (h .signal) said time isGood three told
+    code-any (h .framed) (h .frame) (h .linequality) (h .last) (h .reports) (h .signal) said time isGood three told
     in
     ap (λ (x : Heard). inputAtMoment (record { heard = x; run = input .run; settings = input .settings }) time mode
     false) heard ∙
@@ -124,7 +124,7 @@ frame-again input at argument said time mode settled isGood told runs =
     let h = input .heard in
     ap (λ (x : Heard). inputAtMoment (record { heard = x; run = input .run; settings = input .settings })
     time mode false)
-    (frame-any (h .framed) (h .frame) (h .linequality) (h .last) (h .count) (h .signal) argument said time isGood told) ∙
+    (frame-any (h .framed) (h .frame) (h .linequality) (h .last) (h .reports) (h .signal) argument said time isGood told) ∙
     ap (λ (run : Run). withRun (framedInput input time) run)
     (atMoment-settled (input .run) (forecast (framedInput input time) mode) time
     (settled-framed (forecast input mode) (input .run) time settled runs))
@@ -138,7 +138,7 @@ module _ (input : Input) (profile : Profile) (event : Event) (mode : Bool)
       let h = input .heard in
       let good = h .signal in
       let same = eqb (h .last) argument in
-      let three = eqb (h .count) reportsNeeded in
+      let three = eqb (h .reports) reportsNeeded in
       let told = eqb (h .linequality .0) (qualityOfCode profile argument .0) in
       let first = both-first (good && same && three) told again in
       let second = both-first (good && same) three first in

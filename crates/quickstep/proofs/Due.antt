@@ -120,14 +120,14 @@ module _ (state : Selector) (due time : ℕ) (bound : due ≤ nextDue state) (la
   moved-due = nextAmong-from (state .inputs) (state .mode) due time 16 ever still-due
 
   -- nor does another input, but for what is due of itself
-  pub put-due : (place next : ℕ) (input : Input) → place < length (state .inputs) → next ≤ due
+  pub put-due : (index next : ℕ) (input : Input) → index < length (state .inputs) → next ≤ due
       → next ≤ nextOf input (state .mode) time
-      → next ≤ nextDue (movedTo state (set (state .inputs) place input) time)
-  put-due place next input inside least own =
-      nextAmong-from (set (state .inputs) place input) (state .mode) next time 16 (omega (arith, ever))
-      (λ number few. byBool (eqb number place)
-      (λ y. rw (eqb-true number place y, getD-set-same (state .inputs) place input freshInput inside) own)
-      (λ n. rw (getD-set-other (state .inputs) place number input freshInput (eqb-false number place n))
+      → next ≤ nextDue (movedTo state (set (state .inputs) index input) time)
+  put-due index next input inside least own =
+      nextAmong-from (set (state .inputs) index input) (state .mode) next time 16 (omega (arith, ever))
+      (λ number few. byBool (eqb number index)
+      (λ y. rw (eqb-true number index y, getD-set-same (state .inputs) index input freshInput inside) own)
+      (λ n. rw (getD-set-other (state .inputs) index number input freshInput (eqb-false number index n))
       (omega (arith, least, still-due number few))))
 
   -- a frame that was heard just now leaves the timer

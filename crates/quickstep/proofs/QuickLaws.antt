@@ -15,7 +15,7 @@ use Rattle.numbers.specs.Recorded.{saidEvent}
 use Rattle.numbers.specs.Profile.{limitsOf}
 use Rattle.numbers.specs.Inputs.{lastInput, frameLife, timeLimit, reportsNeeded}
 use Rattle.numbers.specs.Codes.{qualityOfCode}
-use Rattle.numbers.specs.Kind.{kindFrame, kindLineCode, kindForced, kindManual, kindClearSwitch, kindQualityMode, kindTick, rowOf, isArgumentOut, isInputOut, takesCodes, takesFrames}
+use Rattle.numbers.specs.Kind.{kindFrame, kindLineCode, kindForced, kindManual, kindClearSwitch, kindQualityMode, kindTick, kindRowOf, isArgumentOut, isInputOut, takesCodes, takesFrames}
 use Rattle.numbers.specs.Refusal.{accepted}
 use Rattle.numbers.specs.Rows.{firstThatApplies}
 use Rattle.numbers.proofs.Truth.{byBool}
@@ -43,7 +43,7 @@ use Rattle.quickstep.specs.declared.Left.the-variants.{Nothing, Choice, 
 use Rattle.quickstep.specs.declared.Own.{Own}
 use Rattle.quickstep.specs.declared.Watch.{Watch}
 use Rattle.quickstep.specs.Again.{codeAgain, frameAgain, readAgain, isAgain, saysAgain, repeats, framedInput, againInput, againDue, ownOf, againOwn}
-use Rattle.quickstep.specs.Own.{OwnPlace, isCommand, isServed, seenAlike, ownTake, ownStep}
+use Rattle.quickstep.specs.Own.{OwnIndex, isCommand, isServed, seenAlike, ownTake, ownStep}
 use Rattle.quickstep.specs.Watch.{watchOf, numbered, movedTo, dueAnew, dueAfter, servedWatch, completed, ownPut, ownAt, takeStep, watchStep}
 
 -- ---- dueAnew, dueAfter
@@ -128,12 +128,12 @@ module _ (profile : Profile) (heard : Heard) (code : ℕ) where
   unfolding codeAgain
   codeAgain-other g n = rw (g, ne-eqb _ _ n)
 
-  pub codeAgain-few : heard .signal ≡ true → heard .last ≡ code → (heard .count ≡ reportsNeeded → ⊥)
+  pub codeAgain-few : heard .signal ≡ true → heard .last ≡ code → (heard .reports ≡ reportsNeeded → ⊥)
       → false ≡ codeAgain profile heard code
   unfolding codeAgain
   codeAgain-few g c n = rw (g, eq-eqb _ _ c, ne-eqb _ _ n)
 
-  pub codeAgain-told : (told : Quality) → heard .signal ≡ true → heard .last ≡ code → heard .count ≡ reportsNeeded
+  pub codeAgain-told : (told : Quality) → heard .signal ≡ true → heard .last ≡ code → heard .reports ≡ reportsNeeded
       → told ≡ qualityOfCode profile code
       → eqb (heard .linequality .0) (told .0) ≡ codeAgain profile heard code
   unfolding codeAgain
@@ -270,7 +270,7 @@ module _ (before : Input) (profile : Profile) (time due : ℕ) (event : Event) (
   module _ (later : time ≤ event .time) (sooner : event .time < due) (below : event .time < timeLimit) where
     asked-code : event .kind ≡ kindLineCode
         → repeats before profile event read ≡ saysAgain before profile time due event read
-    unfolding repeats saysAgain isAgain earlyRefusal firstThatApplies rowOf isArgumentOut isInputOut isWrongKind
+    unfolding repeats saysAgain isAgain earlyRefusal firstThatApplies kindRowOf isArgumentOut isInputOut isWrongKind
         frameRefusal
     asked-code k =
         byBool (ltb 15 (event .input))
@@ -337,7 +337,7 @@ module _ (before : Input) (profile : Profile) (time due : ℕ) (event : Event) (
         → event .argument ≡ 0
         → takesFrames (before .settings .kind) ≡ true
         → repeats before profile event read ≡ saysAgain before profile time due event read
-    unfolding repeats saysAgain isAgain readAgain earlyRefusal firstThatApplies rowOf isArgumentOut isInputOut
+    unfolding repeats saysAgain isAgain readAgain earlyRefusal firstThatApplies kindRowOf isArgumentOut isInputOut
         isWrongKind frameRefusal
     asked-read k (Code code) r inside none y =
         rw (
@@ -355,7 +355,7 @@ module _ (before : Input) (profile : Profile) (time due : ℕ) (event : Event) (
 
     asked-frame : event .kind ≡ kindFrame
         → repeats before profile event read ≡ saysAgain before profile time due event read
-    unfolding repeats saysAgain isAgain earlyRefusal firstThatApplies rowOf isArgumentOut isInputOut isWrongKind
+    unfolding repeats saysAgain isAgain earlyRefusal firstThatApplies kindRowOf isArgumentOut isInputOut isWrongKind
         frameRefusal
     asked-frame k =
         byBool (ltb 15 (event .input))
@@ -391,7 +391,7 @@ module _ (before : Input) (profile : Profile) (time due : ℕ) (event : Event) (
 
     asked-tick : event .kind ≡ kindTick
         → repeats before profile event read ≡ saysAgain before profile time due event read
-    unfolding repeats saysAgain isAgain earlyRefusal firstThatApplies rowOf isArgumentOut isInputOut isWrongKind
+    unfolding repeats saysAgain isAgain earlyRefusal firstThatApplies kindRowOf isArgumentOut isInputOut isWrongKind
         frameRefusal
     asked-tick k =
         byBool (eqb (event .input) 0)
@@ -529,33 +529,33 @@ pub ruleset completed-laws = (completed-nothing, completed-choice, completed-ser
 
 -- ---- ownPut, watchStep
 
--- the promise admits one place
-pub ownPlace-unique : (inputs : List Input) (number one other : ℕ) → OwnPlace inputs number one
-    → OwnPlace inputs number other
+-- the promise admits one index
+pub ownIndex-unique : (inputs : List Input) (number one other : ℕ) → OwnIndex inputs number one
+    → OwnIndex inputs number other
     → one ≡ other
-ownPlace-unique inputs number one other first second = first .own ∙ sym (second .own)
+ownIndex-unique inputs number one other first second = first .own ∙ sym (second .own)
 
-pub ownPut-completed : (watch : Watch) (own : Own) (event : Event) (read : FrameRead) (place : ℕ) (after : Watch)
-    → OwnPlace (watch .state .inputs) (event .input) place
+pub ownPut-completed : (watch : Watch) (own : Own) (event : Event) (read : FrameRead) (index : ℕ) (after : Watch)
+    → OwnIndex (watch .state .inputs) (event .input) index
     → after ≡
-    completed (movedTo (watch .state) (set (watch .state .inputs) place (own .input)) (own .time)) (own .due)
+    completed (movedTo (watch .state) (set (watch .state .inputs) index (own .input)) (own .time)) (own .due)
     (numbered (own .number) (watch .answer))
     (own .left)
     event
     read
     → after ≡ ownPut watch own event read
 unfolding ownPut
-ownPut-completed watch own event read place after at a = a ∙ (rw (at .own))
+ownPut-completed watch own event read index after at a = a ∙ (rw (at .own))
 
 -- the event's own input is read from an array, whose element past its end is not told
-module _ (watch : Watch) (event : Event) (read : FrameRead) (zeroed : Input) (place : ℕ)
-    (at : OwnPlace (watch .state .inputs) (event .input) place) where
+module _ (watch : Watch) (event : Event) (read : FrameRead) (zeroed : Input) (index : ℕ)
+    (at : OwnIndex (watch .state .inputs) (event .input) index) where
   abbrev before : Input
-  before = getD (watch .state .inputs) place zeroed
+  before = getD (watch .state .inputs) index zeroed
 
   pub own-at : before ≡ ownAt (watch .state) event
   own-at =
-      getD-any (watch .state .inputs) place zeroed freshInput (at .inside) ∙
+      getD-any (watch .state .inputs) index zeroed freshInput (at .inside) ∙
       ap (λ (n : ℕ). getD (watch .state .inputs) n freshInput) (at .own)
 
   pub takeStep-own : (due : ℕ) (own : Own) (after : Watch)

@@ -39,7 +39,7 @@ use Rattle.events.proofs.Refused.{earlyRefusal-outside}
 use Rattle.quickstep.specs.declared.Watch.{Watch}
 use Rattle.quickstep.specs.Again.{frameAgain, readAgain, isAgain, saysAgain, againInput, againDue, againOwn}
 use Rattle.quickstep.specs.Own.{isCommand, isServed, seenAlike, ownTake, ownStep}
-use Rattle.quickstep.specs.Watch.{watchOf, numbered, freshWatch, dueAnew, dueAfter, servedWatch, completed, ownPlace, ownPut, ownAt, takeStep, watchStep}
+use Rattle.quickstep.specs.Watch.{watchOf, numbered, freshWatch, dueAnew, dueAfter, servedWatch, completed, ownIndex, ownPut, ownAt, takeStep, watchStep}
 use Rattle.quickstep.specs.Sequence.{watchAfter, WatchRight}
 use Rattle.quickstep.proofs.Again.{again-input, again-free}
 use Rattle.quickstep.proofs.Due.{lesser-same, put-due, again-due, againDue-least, againDue-other, dueAnew-bound, dueAfter-bound}
@@ -107,7 +107,7 @@ module _ (watch : Watch) (event : Event) (read : FrameRead) (kept : Kept watch) 
 
   -- one of the sixteen stands at its own number
   pub own-here : event .input < inputCount → ownAt state event ≡ ownBefore state event
-  own-here few = ap (λ (place : ℕ). getD (state .inputs) place freshInput) (mod-eq-of-lt few)
+  own-here few = ap (λ (index : ℕ). getD (state .inputs) index freshInput) (mod-eq-of-lt few)
 
   pub own-early : earlyAt (ownAt state event) ≡ earlyNumber state event read
   own-early =
@@ -115,8 +115,8 @@ module _ (watch : Watch) (event : Event) (read : FrameRead) (kept : Kept watch) 
       (λ few. ap earlyAt (own-here (ltb-true _ _ few)))
       (λ out. earlyRefusal-outside (limitsOf (state .profile)) (state .time) event read (ltb-false _ _ out) _ _)
 
-  pub put-back : set (state .inputs) (ownPlace event) (ownAt state event) ≡ state .inputs
-  put-back = set-getD (state .inputs) (ownPlace event) freshInput
+  pub put-back : set (state .inputs) (ownIndex event) (ownAt state event) ≡ state .inputs
+  put-back = set-getD (state .inputs) (ownIndex event) freshInput
 
   -- refused at once
   right-refused : (earlyNumber state event read ≡ accepted → ⊥) → Right plain (takeStep watch event read)
@@ -149,7 +149,7 @@ module _ (watch : Watch) (event : Event) (read : FrameRead) (kept : Kept watch) 
     calm-after : Calm (plain .state)
     calm-after = calm-stepRead state event read (kept .calm) none
 
-    here : ownPlace event ≡ event .input
+    here : ownIndex event ≡ event .input
     here = mod-eq-of-lt few
 
     room : event .input < length (state .inputs)
@@ -343,7 +343,7 @@ fresh-kept profile =
 fresh-failing : (profile : Profile) (event : Event) → ownAt (freshSelector profile) event .heard .signal ≡ false
 fresh-failing profile event =
     every-at (λ (input : Input). input .heard .signal ≡ false) (freshSelector profile .inputs)
-    (ownPlace event) freshInput
+    (ownIndex event) freshInput
     (every-replicate (λ (input : Input). input .heard .signal ≡ false) 16 freshInput refl)
     (mod-lt (event .input) (omega arith))
 

@@ -12,7 +12,7 @@ use borrow.Author.Tests.{eqb-false}
 use Rattle.numbers.specs.declared.Event.{Event}
 use Rattle.numbers.specs.declared.profile.Profile.{Profile}
 use Rattle.numbers.specs.Kind.{kindForced, kindManual, kindClearSwitch, kindQualityMode}
-use Rattle.numbers.specs.Profile.{limitsOf, placeOf, floorIn}
+use Rattle.numbers.specs.Profile.{limitsOf, provPlaceOf, floorIn}
 use Rattle.numbers.specs.Refusal.{accepted}
 use Rattle.frame.specs.declared.FrameRead.{FrameRead}
 use Rattle.input.specs.declared.Input.{Input}
@@ -75,7 +75,7 @@ candidate-alike : (profile : Profile) (before after : Input) (mode : Bool) → s
 unfolding seenAlike candidateFor
 candidate-alike profile before after mode e =
     ap
-    (λ (seen : Seen). candidateOf (placeOf profile) (floorIn (limitsOf profile .freerunning) (seen .floor)) (seen .passed)
+    (λ (seen : Seen). candidateOf (provPlaceOf profile) (floorIn (limitsOf profile .freerunning) (seen .floor)) (seen .passed)
     (seen .priority) (seen .locked) mode)
     (sym (isLike-same (seenOf before) (seenOf after) e))
 

@@ -25,7 +25,7 @@ use Rattle.quickstep.specs.declared.Own.{Own}
 -- a code comes again that has come three times
 unfoldable pub codeAgain : Profile → Heard → ℕ → Bool
 codeAgain profile heard code =
-    heard .signal && eqb (heard .last) code && eqb (heard .count) reportsNeeded &&
+    heard .signal && eqb (heard .last) code && eqb (heard .reports) reportsNeeded &&
     eqb (heard .linequality .0) (qualityOfCode profile code .0)
 
 -- a frame says what the last one said, in a run that is failed or not failed
@@ -74,7 +74,7 @@ framedInput input time =
             frame = input .heard .frame;
             linequality = input .heard .linequality;
             last = input .heard .last;
-            count = input .heard .count;
+            reports = input .heard .reports;
             signal = input .heard .signal;
           };
       run = input .run;

@@ -27,9 +27,9 @@ use Rattle.quickstep.specs.declared.Own.{Own}
 use Rattle.quickstep.specs.Again.{ownOf}
 
 -- where an input stands among the sixteen; its number, taken round, where there is no such input
-pub record OwnPlace (inputs : List Input) (number place : ℕ) : Type 0 where
-  pub own : place ≡ number % inputCount
-  pub inside : place < length inputs
+pub record OwnIndex (inputs : List Input) (number index : ℕ) : Type 0 where
+  pub own : index ≡ number % inputCount
+  pub inside : index < length inputs
 
 -- the event touches more than its own input: the switch or the quality mode
 unfoldable pub isCommand : ℕ → Bool

@@ -85,13 +85,13 @@ completed state due answer Choice event read =
 completed state due answer Service event read = servedWatch state due event read
 
 -- where an event's own input stands
-abbrev pub ownPlace : Event → ℕ
-ownPlace event = event .input % inputCount
+abbrev pub ownIndex : Event → ℕ
+ownIndex event = event .input % inputCount
 
 -- what an event made of its own input put into the state, and what is left done
 unfoldable pub ownPut : Watch → Own → Event → FrameRead → Watch
 ownPut watch own event read =
-    completed (movedTo (watch .state) (set (watch .state .inputs) (ownPlace event) (own .input)) (own .time)) (own .due)
+    completed (movedTo (watch .state) (set (watch .state .inputs) (ownIndex event) (own .input)) (own .time)) (own .due)
     (numbered (own .number) (watch .answer))
     (own .left)
     event
@@ -99,7 +99,7 @@ ownPut watch own event read =
 
 -- the event's own input before it
 abbrev pub ownAt : Selector → Event → Input
-ownAt state event = getD (state .inputs) (ownPlace event) freshInput
+ownAt state event = getD (state .inputs) (ownIndex event) freshInput
 
 -- what an event makes of its own input, where nothing is due before a time
 abbrev pub ownFrom : Selector → ℕ → Event → FrameRead → Own

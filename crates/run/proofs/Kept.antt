@@ -16,7 +16,7 @@ use Rattle.run.specs.declared.Run.{Run}
 use Rattle.run.specs.Moments.{Moment, Moments, rawQuality, fails, eachMillisecond}
 use Rattle.numbers.specs.Truth.{alike}
 use Rattle.run.specs.Passed.{runBegan, goodQuality, wasUp, passed}
-use Rattle.run.specs.Run.{runOf, freshRun, isExpired, rawAt, momentAt, runStart, isUpAfter, lastGood, atMoment, upBefore, broughtTo, passedQuality}
+use Rattle.run.specs.Run.{runOf, freshRun, isExpired, rawAt, momentAt, beganAfter, isUpAfter, lastGood, atMoment, upBefore, broughtTo, passedQuality}
 use Rattle.numbers.proofs.Truth.{byBool}
 
 -- ---- the run kept of any moments
@@ -25,11 +25,11 @@ use Rattle.numbers.proofs.Truth.{byBool}
 unfoldable pub taken : Moment → Run → Run
 taken moment run =
     let fails = isFailed (moment .raw) in
-    let start = runStart (run .failed) (run .start) fails (moment .time) in
-    runOf start (lastGood (run .good) (moment .raw)) fails
+    let began = beganAfter (run .failed) (run .began) fails (moment .time) in
+    runOf began (lastGood (run .good) (moment .raw)) fails
     (cond fails
-    (cond (leb (start + moment .holdoff) (moment .time)) false (run .up))
-    (cond (moment .clears || leb (start + moment .wait) (moment .time)) true (run .up)))
+    (cond (leb (began + moment .holdoff) (moment .time)) false (run .up))
+    (cond (moment .clears || leb (began + moment .wait) (moment .time)) true (run .up)))
 
 -- the run kept of moments
 unfoldable pub kept : Moments → Run
@@ -40,12 +40,12 @@ kept (moment ∷ earlier) = taken moment (kept earlier)
 unfoldable pub defined : Moments → Run
 defined moments = runOf (runBegan moments) (goodQuality moments) (fails moments) (wasUp moments)
 
-start-alike : (was now : Bool) (start time : ℕ) → runStart was start now time ≡ cond (alike now was) start time
-unfolding runStart
-start-alike true true start time = refl
-start-alike true false start time = refl
-start-alike false true start time = refl
-start-alike false false start time = refl
+began-alike : (was now : Bool) (began time : ℕ) → beganAfter was began now time ≡ cond (alike now was) began time
+unfolding beganAfter
+began-alike true true began time = refl
+began-alike true false began time = refl
+began-alike false true began time = refl
+began-alike false false began time = refl
 
 isUpAfter-defined : (fails down wait clears up : Bool)
     → cond fails (cond down false up) (cond (clears || wait) true up) ≡
@@ -60,7 +60,7 @@ isUpAfter-defined false down false false up = refl
 kept-step : (moment : Moment) (earlier : Moments) → taken moment (defined earlier) ≡ defined (moment ∷ earlier)
 unfolding taken defined lastGood
 kept-step moment earlier =
-    rw (start-alike (fails earlier) (isFailed (moment .raw)) (runBegan earlier) (moment .time))
+    rw (began-alike (fails earlier) (isFailed (moment .raw)) (runBegan earlier) (moment .time))
     (ap
     (λ (up : Bool). runOf
     (cond (alike (isFailed (moment .raw)) (fails earlier)) (runBegan earlier) (moment .time))
@@ -116,28 +116,28 @@ module _ (f h w : ℕ) (q : Quality) (s : ℕ) (g : Quality) (time : ℕ) (u : B
   more-failed : (x : Bool) → isFailed (rawAt (forecastOf f h w q x) (suc time)) ≡ true
       → atMoment (broughtTo (runOf s g true u) (forecastOf f h w q x) time) (forecastOf f h w q x) (suc time) false ≡
       broughtTo (runOf s g true u) (forecastOf f h w q x) (suc time)
-  unfolding atMoment broughtTo runStart lastGood isUpAfter
+  unfolding atMoment broughtTo beganAfter lastGood isUpAfter
   more-failed x e = rw e (ap (λ (b : Bool). runOf s g true b) (timer (s + h) time false u))
 
   more-counts : (x : Bool) → isFailed q ≡ false → g ≡ q → (x && leb (f + frameLife) time) ≡ false
       → (x && leb (f + frameLife) (suc time)) ≡ false
       → atMoment (broughtTo (runOf s g false u) (forecastOf f h w q x) time) (forecastOf f h w q x) (suc time) false ≡
       broughtTo (runOf s g false u) (forecastOf f h w q x) (suc time)
-  unfolding atMoment broughtTo runStart lastGood isUpAfter isExpired rawAt
+  unfolding atMoment broughtTo beganAfter lastGood isUpAfter isExpired rawAt
   more-counts x e k a b = rw (a, b, e, k) (ap (λ (b : Bool). runOf s q false b) (timer (s + w) time true u))
 
   more-gone : leb (f + frameLife) time ≡ true → leb (f + frameLife) (suc time) ≡ true
       → atMoment (broughtTo (runOf s g false u) (forecastOf f h w q true) time) (forecastOf f h w q true)
       (suc time) false ≡
       broughtTo (runOf s g false u) (forecastOf f h w q true) (suc time)
-  unfolding atMoment broughtTo runStart lastGood isUpAfter isExpired rawAt
+  unfolding atMoment broughtTo beganAfter lastGood isUpAfter isExpired rawAt
   more-gone a b = rw (a, b) (ap (λ (b : Bool). runOf (f + frameLife) g true b) (timer (f + frameLife + h) time false _))
 
   more-expires : leb (f + frameLife) time ≡ false → leb (f + frameLife) (suc time) ≡ true
       → atMoment (broughtTo (runOf s g false u) (forecastOf f h w q true) time) (forecastOf f h w q true)
       (suc time) false ≡
       broughtTo (runOf s g false u) (forecastOf f h w q true) (suc time)
-  unfolding atMoment broughtTo runStart lastGood isUpAfter isExpired rawAt upBefore
+  unfolding atMoment broughtTo beganAfter lastGood isUpAfter isExpired rawAt upBefore
   more-expires a b =
       let i : f + frameLife ≡ suc time =
       omega (arith, leb-true (f + frameLife) (suc time) b, leb-false (f + frameLife) time a) in
@@ -185,7 +185,7 @@ pub broughtTo-suc : (run : Run) (forecast : Forecast) (from time : ℕ) → from
     → atMoment (broughtTo run forecast time) forecast (suc time) false ≡ broughtTo run forecast (suc time)
 broughtTo-suc run forecast from time later fit =
     brought-any (forecast .framed) (forecast .holdoff) (forecast .wait) (forecast .quality) (forecast .expires)
-    (run .start) (run .good)
+    (run .began) (run .good)
     (run .failed)
     (run .up)
     from
@@ -198,8 +198,8 @@ broughtTo-suc run forecast from time later fit =
 -- at the time itself nothing is due: the run is what a moment with this forecast left
 pub record Settled (forecast : Forecast) (run : Run) (time : ℕ) : Type 0 where
   pub fits : Fits forecast run time
-  pub heldOff : run .failed ≡ true → run .start + forecast .holdoff ≤ time → run .up ≡ false
-  pub waited : run .failed ≡ false → run .start + forecast .wait ≤ time → run .up ≡ true
+  pub heldOff : run .failed ≡ true → run .began + forecast .holdoff ≤ time → run .up ≡ false
+  pub waited : run .failed ≡ false → run .began + forecast .wait ≤ time → run .up ≡ true
 
 -- a judgement that is already made
 judged : (test x up : Bool) → (test ≡ true → up ≡ x) → cond test x up ≡ up
@@ -227,7 +227,7 @@ pub broughtTo-settled : (run : Run) (forecast : Forecast) (time : ℕ) → Settl
     → broughtTo run forecast time ≡ run
 broughtTo-settled run forecast time c =
     zero-any (forecast .framed) (forecast .holdoff) (forecast .wait) (forecast .quality) (forecast .expires)
-    (run .start) (run .good)
+    (run .began) (run .good)
     (run .failed)
     (run .up)
     time
@@ -269,7 +269,7 @@ settled-atMoment run forecast time clears =
 again-any : (f h w : ℕ) (q : Quality) (x : Bool) (s : ℕ) (g : Quality) (b u : Bool) (time : ℕ)
     → Settled (forecastOf f h w q x) (runOf s g b u) time
     → atMoment (runOf s g b u) (forecastOf f h w q x) time false ≡ runOf s g b u
-unfolding atMoment runStart lastGood isUpAfter
+unfolding atMoment beganAfter lastGood isUpAfter
 again-any f h w q x s g true u time c =
     rw (← c .fits .fails)
     (ap (λ (b : Bool). runOf s g true b)
@@ -287,7 +287,7 @@ pub atMoment-settled : (run : Run) (forecast : Forecast) (time : ℕ) → Settle
     → atMoment run forecast time false ≡ run
 atMoment-settled run forecast time c =
     again-any (forecast .framed) (forecast .holdoff) (forecast .wait) (forecast .quality) (forecast .expires)
-    (run .start) (run .good)
+    (run .began) (run .good)
     (run .failed)
     (run .up)
     time

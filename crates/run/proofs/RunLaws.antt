@@ -13,88 +13,88 @@ use Rattle.numbers.specs.Inputs.{frameLife}
 use Rattle.numbers.proofs.Truth.{byBool}
 use Rattle.run.specs.declared.Forecast.{Forecast}
 use Rattle.run.specs.declared.Run.{Run}
-use Rattle.run.specs.Run.{runOf, isExpired, rawAt, runStart, isUpAfter, lastGood, upBefore, broughtTo, passedQuality}
+use Rattle.run.specs.Run.{runOf, isExpired, rawAt, beganAfter, isUpAfter, lastGood, upBefore, broughtTo, passedQuality}
 
 -- ---- has_elapsed
 
-pub elapsed-within : (start length time : ℕ) → start ≤ time → leb length (time - start) ≡ leb (start + length) time
-elapsed-within start length time within =
-    byBool (leb (start + length) time)
-    (λ e. let k : start + length ≤ time = leb-true _ _ e in
-    let m : length ≤ time - start = omega arith in le-leb _ _ m ∙ sym e)
-    (λ e. let k : time < start + length = leb-false _ _ e in
-    let m : time - start < length = omega arith in lt-leb _ _ m ∙ sym e)
+pub elapsed-within : (began length time : ℕ) → began ≤ time → leb length (time - began) ≡ leb (began + length) time
+elapsed-within began length time within =
+    byBool (leb (began + length) time)
+    (λ e. let k : began + length ≤ time = leb-true _ _ e in
+    let m : length ≤ time - began = omega arith in le-leb _ _ m ∙ sym e)
+    (λ e. let k : time < began + length = leb-false _ _ e in
+    let m : time - began < length = omega arith in lt-leb _ _ m ∙ sym e)
 
-pub elapsed-not : (start length time : ℕ) → time < start → false ≡ leb (start + length) time
-elapsed-not start length time later = let m : time < start + length = omega arith in sym (lt-leb _ _ m)
+pub elapsed-not : (began length time : ℕ) → time < began → false ≡ leb (began + length) time
+elapsed-not began length time later = let m : time < began + length = omega arith in sym (lt-leb _ _ m)
 
 pub ruleset elapsed-laws = (elapsed-within, elapsed-not)
 
 -- ---- upBefore
 
-module _ (up : Bool) (start wait end : ℕ) where
-  pub upBefore-ended : start < end → wait < end - start → true ≡ upBefore up start wait end
+module _ (up : Bool) (began wait end : ℕ) where
+  pub upBefore-ended : began < end → wait < end - began → true ≡ upBefore up began wait end
   unfolding upBefore
-  upBefore-ended h k = let m : start + wait < end = omega arith in rw (lt-ltb _ _ m)
+  upBefore-ended h k = let m : began + wait < end = omega arith in rw (lt-ltb _ _ m)
 
-  pub upBefore-waiting : start < end → end - start ≤ wait → up ≡ upBefore up start wait end
+  pub upBefore-waiting : began < end → end - began ≤ wait → up ≡ upBefore up began wait end
   unfolding upBefore
-  upBefore-waiting h k = let m : end ≤ start + wait = omega arith in rw (le-ltb _ _ m)
+  upBefore-waiting h k = let m : end ≤ began + wait = omega arith in rw (le-ltb _ _ m)
 
-  pub upBefore-none : end ≤ start → up ≡ upBefore up start wait end
+  pub upBefore-none : end ≤ began → up ≡ upBefore up began wait end
   unfolding upBefore
-  upBefore-none h = let m : end ≤ start + wait = omega arith in rw (le-ltb _ _ m)
+  upBefore-none h = let m : end ≤ began + wait = omega arith in rw (le-ltb _ _ m)
 
 pub ruleset upBefore-laws = (upBefore-ended, upBefore-waiting, upBefore-none)
 
--- ---- runStart
+-- ---- beganAfter
 
-module _ (was isFailing : Bool) (start time : ℕ) where
-  pub runStart-stays-failed : was ≡ true → isFailing ≡ true → start ≡ runStart was start isFailing time
-  unfolding runStart
-  runStart-stays-failed w f = rw (w, f)
+module _ (was isFailing : Bool) (began time : ℕ) where
+  pub beganAfter-stays-failed : was ≡ true → isFailing ≡ true → began ≡ beganAfter was began isFailing time
+  unfolding beganAfter
+  beganAfter-stays-failed w f = rw (w, f)
 
-  pub runStart-recovers : was ≡ true → isFailing ≡ false → time ≡ runStart was start isFailing time
-  unfolding runStart
-  runStart-recovers w f = rw (w, f)
+  pub beganAfter-recovers : was ≡ true → isFailing ≡ false → time ≡ beganAfter was began isFailing time
+  unfolding beganAfter
+  beganAfter-recovers w f = rw (w, f)
 
-  pub runStart-fails : was ≡ false → isFailing ≡ true → time ≡ runStart was start isFailing time
-  unfolding runStart
-  runStart-fails w f = rw (w, f)
+  pub beganAfter-fails : was ≡ false → isFailing ≡ true → time ≡ beganAfter was began isFailing time
+  unfolding beganAfter
+  beganAfter-fails w f = rw (w, f)
 
-  pub runStart-stays-good : was ≡ false → isFailing ≡ false → start ≡ runStart was start isFailing time
-  unfolding runStart
-  runStart-stays-good w f = rw (w, f)
+  pub beganAfter-stays-good : was ≡ false → isFailing ≡ false → began ≡ beganAfter was began isFailing time
+  unfolding beganAfter
+  beganAfter-stays-good w f = rw (w, f)
 
-pub ruleset runStart-laws = (runStart-stays-failed, runStart-recovers, runStart-fails, runStart-stays-good)
+pub ruleset beganAfter-laws = (beganAfter-stays-failed, beganAfter-recovers, beganAfter-fails, beganAfter-stays-good)
 
 -- ---- isUpAfter
 
-module _ (up isFailing : Bool) (start : ℕ) (forecast : Forecast) (time : ℕ) (clears ended : Bool) where
-  pub isUpAfter-down : isFailing ≡ true → ended ≡ leb (start + forecast .holdoff) time → ended ≡ true
-      → false ≡ isUpAfter up isFailing start forecast time clears
+module _ (up isFailing : Bool) (began : ℕ) (forecast : Forecast) (time : ℕ) (clears ended : Bool) where
+  pub isUpAfter-down : isFailing ≡ true → ended ≡ leb (began + forecast .holdoff) time → ended ≡ true
+      → false ≡ isUpAfter up isFailing began forecast time clears
   unfolding isUpAfter
   isUpAfter-down f q t = rw (f, ← q, t)
 
-  pub isUpAfter-held-off : isFailing ≡ true → ended ≡ leb (start + forecast .holdoff) time → ended ≡ false
-      → up ≡ isUpAfter up isFailing start forecast time clears
+  pub isUpAfter-held-off : isFailing ≡ true → ended ≡ leb (began + forecast .holdoff) time → ended ≡ false
+      → up ≡ isUpAfter up isFailing began forecast time clears
   unfolding isUpAfter
   isUpAfter-held-off f q t = rw (f, ← q, t)
 
-  pub isUpAfter-up : isFailing ≡ false → clears ≡ false → ended ≡ leb (start + forecast .wait) time → ended ≡ true
-      → true ≡ isUpAfter up isFailing start forecast time clears
+  pub isUpAfter-up : isFailing ≡ false → clears ≡ false → ended ≡ leb (began + forecast .wait) time → ended ≡ true
+      → true ≡ isUpAfter up isFailing began forecast time clears
   unfolding isUpAfter
   isUpAfter-up f k q t = rw (f, k, ← q, t)
 
-  pub isUpAfter-waiting : isFailing ≡ false → clears ≡ false → ended ≡ leb (start + forecast .wait) time → ended ≡ false
-      → up ≡ isUpAfter up isFailing start forecast time clears
+  pub isUpAfter-waiting : isFailing ≡ false → clears ≡ false → ended ≡ leb (began + forecast .wait) time → ended ≡ false
+      → up ≡ isUpAfter up isFailing began forecast time clears
   unfolding isUpAfter
   isUpAfter-waiting f k q t = rw (f, k, ← q, t)
 
-pub isUpAfter-cleared : (up isFailing : Bool) (start : ℕ) (forecast : Forecast) (time : ℕ) (clears : Bool)
-    → isFailing ≡ false → clears ≡ true → true ≡ isUpAfter up isFailing start forecast time clears
+pub isUpAfter-cleared : (up isFailing : Bool) (began : ℕ) (forecast : Forecast) (time : ℕ) (clears : Bool)
+    → isFailing ≡ false → clears ≡ true → true ≡ isUpAfter up isFailing began forecast time clears
 unfolding isUpAfter
-isUpAfter-cleared up isFailing start forecast time clears f k = rw (f, k)
+isUpAfter-cleared up isFailing began forecast time clears f k = rw (f, k)
 
 pub ruleset isUpAfter-laws = (isUpAfter-down, isUpAfter-held-off, isUpAfter-cleared, isUpAfter-up, isUpAfter-waiting)
 
@@ -154,22 +154,22 @@ isExpired-fits forecast time test q t fits = let e = isExpired-end forecast time
 -- ---- broughtTo
 
 module _ (run : Run) (forecast : Forecast) (time : ℕ) (up : Bool) where
-  pub broughtTo-failed : run .failed ≡ true → up ≡ isUpAfter (run .up) true (run .start) forecast time false
-      → runOf (run .start) (run .good) true up ≡ broughtTo run forecast time
+  pub broughtTo-failed : run .failed ≡ true → up ≡ isUpAfter (run .up) true (run .began) forecast time false
+      → runOf (run .began) (run .good) true up ≡ broughtTo run forecast time
   unfolding broughtTo
   broughtTo-failed f q = rw (f, q)
 
   pub broughtTo-expired : (before expired : Bool) (end : ℕ) → run .failed ≡ false → expired ≡ isExpired forecast time
       → expired ≡ true → end ≡ forecast .framed + frameLife
-      → before ≡ upBefore (run .up) (run .start) (forecast .wait) end
+      → before ≡ upBefore (run .up) (run .began) (forecast .wait) end
       → up ≡ isUpAfter before true end forecast time false
       → runOf end (run .good) true up ≡ broughtTo run forecast time
   unfolding broughtTo
   broughtTo-expired before expired end f q t e b u = rw (f, ← q, t, u, b, e)
 
   pub broughtTo-counts : (expired : Bool) → run .failed ≡ false → expired ≡ isExpired forecast time → expired ≡ false
-      → up ≡ isUpAfter (run .up) false (run .start) forecast time false
-      → runOf (run .start) (run .good) false up ≡ broughtTo run forecast time
+      → up ≡ isUpAfter (run .up) false (run .began) forecast time false
+      → runOf (run .began) (run .good) false up ≡ broughtTo run forecast time
   unfolding broughtTo
   broughtTo-counts expired f q t u = rw (f, ← q, t, u)
 

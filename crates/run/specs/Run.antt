@@ -12,7 +12,7 @@ use Rattle.run.specs.Moments.{Moment}
 
 -- a run by its parts
 abbrev pub runOf : ℕ → Quality → Bool → Bool → Run
-runOf start good isFailing up = record { start = start; good = good; failed = isFailing; up = up }
+runOf began good isFailing up = record { began = began; good = good; failed = isFailing; up = up }
 
 -- "Time 0, fresh, is down"
 abbrev pub freshRun : Run
@@ -38,15 +38,15 @@ momentAt forecast clears time =
     }
 
 -- the run goes on, or another begins at this moment
-unfoldable pub runStart : Bool → ℕ → Bool → ℕ → ℕ
-runStart was start isFailing time = cond was (cond isFailing start time) (cond isFailing time start)
+unfoldable pub beganAfter : Bool → ℕ → Bool → ℕ → ℕ
+beganAfter was began isFailing time = cond was (cond isFailing began time) (cond isFailing time began)
 
 -- whether the last down or up moment is up, after the moment at a time
 unfoldable pub isUpAfter : Bool → Bool → ℕ → Forecast → ℕ → Bool → Bool
-isUpAfter up isFailing start forecast time clears =
+isUpAfter up isFailing began forecast time clears =
     cond isFailing
-    (cond (leb (start + forecast .holdoff) time) false up)
-    (cond (clears || leb (start + forecast .wait) time) true up)
+    (cond (leb (began + forecast .holdoff) time) false up)
+    (cond (clears || leb (began + forecast .wait) time) true up)
 
 -- the last raw quality that was not failed
 unfoldable pub lastGood : Quality → Quality → Quality
@@ -56,24 +56,24 @@ lastGood good raw = cond (isFailed raw) good raw
 unfoldable pub atMoment : Run → Forecast → ℕ → Bool → Run
 atMoment run forecast time clears =
     let raw = rawAt forecast time in
-    let start = runStart (run .failed) (run .start) (isFailed raw) time in
-    runOf start (lastGood (run .good) raw) (isFailed raw)
-    (isUpAfter (run .up) (isFailed raw) start forecast time clears)
+    let began = beganAfter (run .failed) (run .began) (isFailed raw) time in
+    runOf began (lastGood (run .good) raw) (isFailed raw)
+    (isUpAfter (run .up) (isFailed raw) began forecast time clears)
 
 -- whether the last down or up moment before `end` was up, in a run that is not failed and ends there
 unfoldable pub upBefore : Bool → ℕ → ℕ → ℕ → Bool
-upBefore up start wait end = cond (ltb (start + wait) end) true up
+upBefore up began wait end = cond (ltb (began + wait) end) true up
 
 -- the run after all milliseconds up to a time, in which no event comes
 unfoldable pub broughtTo : Run → Forecast → ℕ → Run
 broughtTo run forecast time =
     let end = forecast .framed + frameLife in
-    let before = upBefore (run .up) (run .start) (forecast .wait) end in
+    let before = upBefore (run .up) (run .began) (forecast .wait) end in
     cond (run .failed)
-    (runOf (run .start) (run .good) true (isUpAfter (run .up) true (run .start) forecast time false))
+    (runOf (run .began) (run .good) true (isUpAfter (run .up) true (run .began) forecast time false))
     (cond (isExpired forecast time)
     (runOf end (run .good) true (isUpAfter before true end forecast time false))
-    (runOf (run .start) (run .good) false (isUpAfter (run .up) false (run .start) forecast time false)))
+    (runOf (run .began) (run .good) false (isUpAfter (run .up) false (run .began) forecast time false)))
 
 -- what is passed on
 unfoldable pub passedQuality : Run → Quality

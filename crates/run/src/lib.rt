@@ -10,7 +10,7 @@ use numbers::quality::is_failed;
 ghost use mathlib.Core.Path.{_≡_};
 ghost use Prim.Native.Nat.{_+_};
 ghost use lib.Dec.{leb};
-ghost use Rattle.run.specs.Run.{freshRun, isExpired, rawAt, runStart, isUpAfter, lastGood, atMoment, upBefore, broughtTo, passedQuality};
+ghost use Rattle.run.specs.Run.{freshRun, isExpired, rawAt, beganAfter, isUpAfter, lastGood, atMoment, upBefore, broughtTo, passedQuality};
 
 // Raw quality from here on, if no event comes, and the timers in force: `quality`, and failed from
 // the frame's 5,000th millisecond on where it `expires`. `holdoff` and `wait` are in ms.
@@ -25,30 +25,30 @@ pub struct Forecast {
 // The present run: since when, failed or not; the last raw quality that was not failed; and whether
 // the last down or up moment was up.
 pub struct Run {
-    pub start: u64,
+    pub began: u64,
     pub good: Quality,
     pub failed: bool,
     pub up: bool,
 }
 
-// Whether `length` ms have gone by at `time` since `start`.
-pub fn has_elapsed(start: u64, length: u64, time: u64) -> bool
-    ensures { λ answer. ⌜ answer ≡ leb (start + length) time ⌝ }
+// Whether `length` ms have gone by at `time` since `began`.
+pub fn has_elapsed(began: u64, length: u64, time: u64) -> bool
+    ensures { λ answer. ⌜ answer ≡ leb (began + length) time ⌝ }
 {
-    if start <= time {
-        length <= time - start
+    if began <= time {
+        length <= time - began
     } else {
         false
     }
 }
 
 // Whether the last down or up moment before `end` was up, where a run that is not failed lasts from
-// `start` to `end`.
-fn up_before(up: bool, start: u64, wait: u64, end: u64) -> bool
-    ensures { λ answer. ⌜ answer ≡ upBefore up start wait end ⌝ }
+// `began` to `end`.
+fn up_before(up: bool, began: u64, wait: u64, end: u64) -> bool
+    ensures { λ answer. ⌜ answer ≡ upBefore up began wait end ⌝ }
 {
-    if start < end {
-        if wait < end - start {
+    if began < end {
+        if wait < end - began {
             return true;
         }
         return up;
@@ -57,13 +57,13 @@ fn up_before(up: bool, start: u64, wait: u64, end: u64) -> bool
 }
 
 // When the run began that holds at a moment found `failed` or not.
-fn run_start(was: bool, start: u64, failed: bool, time: u64) -> u64
-    ensures { λ answer. ⌜ answer ≡ runStart was start failed time ⌝ }
+fn began_after(was: bool, began: u64, failed: bool, time: u64) -> u64
+    ensures { λ answer. ⌜ answer ≡ beganAfter was began failed time ⌝ }
 {
     if was {
-        if failed { start } else { time }
+        if failed { began } else { time }
     } else {
-        if failed { time } else { start }
+        if failed { time } else { began }
     }
 }
 
@@ -71,15 +71,15 @@ fn run_start(was: bool, start: u64, failed: bool, time: u64) -> u64
 fn is_up_after(
     up: bool,
     failed: bool,
-    start: u64,
+    began: u64,
     forecast: Forecast,
     time: u64,
     clears: bool,
 ) -> bool
-    ensures { λ answer. ⌜ answer ≡ isUpAfter up failed start forecast time clears ⌝ }
+    ensures { λ answer. ⌜ answer ≡ isUpAfter up failed began forecast time clears ⌝ }
 {
     if failed {
-        if has_elapsed(start, forecast.holdoff, time) {
+        if has_elapsed(began, forecast.holdoff, time) {
             return false;
         }
         return up;
@@ -87,7 +87,7 @@ fn is_up_after(
     if clears {
         return true;
     }
-    if has_elapsed(start, forecast.wait, time) {
+    if has_elapsed(began, forecast.wait, time) {
         return true;
     }
     up
@@ -131,7 +131,7 @@ impl Run {
         ensures { λ answer. ⌜ answer ≡ freshRun ⌝ }
     {
         Run {
-            start: 0,
+            began: 0,
             good: FAILED,
             failed: true,
             up: false,
@@ -145,12 +145,12 @@ impl Run {
     {
         let raw = forecast.raw_at(time);
         let failed = is_failed(raw);
-        let start = run_start(self.failed, self.start, failed, time);
-        let up = is_up_after(self.up, failed, start, forecast, time, clears);
+        let began = began_after(self.failed, self.began, failed, time);
+        let up = is_up_after(self.up, failed, began, forecast, time, clears);
         let old = self.good;
         let good = last_good(old, raw);
         Run {
-            start,
+            began,
             good,
             failed,
             up,
@@ -164,9 +164,9 @@ impl Run {
     {
         let good = self.good;
         if self.failed {
-            let up = is_up_after(self.up, true, self.start, forecast, time, false);
+            let up = is_up_after(self.up, true, self.began, forecast, time, false);
             return Run {
-                start: self.start,
+                began: self.began,
                 good,
                 failed: true,
                 up,
@@ -174,18 +174,18 @@ impl Run {
         }
         if forecast.is_expired(time) {
             let end = forecast.framed + FRAME_LIFE;
-            let before = up_before(self.up, self.start, forecast.wait, end);
+            let before = up_before(self.up, self.began, forecast.wait, end);
             let up = is_up_after(before, true, end, forecast, time, false);
             return Run {
-                start: end,
+                began: end,
                 good,
                 failed: true,
                 up,
             };
         }
-        let up = is_up_after(self.up, false, self.start, forecast, time, false);
+        let up = is_up_after(self.up, false, self.began, forecast, time, false);
         Run {
-            start: self.start,
+            began: self.began,
             good,
             failed: false,
             up,

@@ -25,7 +25,7 @@ use Rattle.switch.specs.declared.AfterChoice.{AfterChoice}
 use Rattle.switch.specs.OneChoice.{decide}
 use Rattle.switch.specs.OneScan.{decideBy, SeenOn}
 use Rattle.switch.proofs.Scanned.{decideBy-decide}
-use Rattle.selector.specs.State.{candidateFor, candidatesOf, InPlace}
+use Rattle.selector.specs.State.{candidateFor, candidatesOf, IndexIn}
 use Rattle.selector.specs.Clock.{selectedNumber, switchInput}
 
 getD-seen : {A B : Type 0} (f : A → B) (list : List A) (number : ℕ) (d : A) (e : B) → number < length list
@@ -56,21 +56,21 @@ module _ (profile : Profile) (mode : Bool) (inputs : List Input) (zeroed : Input
       c ∙ getD-seen (candidateFor profile mode) inputs number zeroed nobody m
 
   -- one found by its number taken round
-  seen-round : (on : InputNumber) (place : ℕ) (candidate : Candidate) → place ≡ on .0 % inputCount
-      → candidate ≡ candidateFor profile mode (getD inputs place zeroed) → length inputs ≡ 16 → SeenAt all on candidate
-  seen-round on place candidate at c k inside =
-      let same : place ≡ on .0 = omega (arith, at, inside) in
+  seen-round : (on : InputNumber) (index : ℕ) (candidate : Candidate) → index ≡ on .0 % inputCount
+      → candidate ≡ candidateFor profile mode (getD inputs index zeroed) → length inputs ≡ 16 → SeenAt all on candidate
+  seen-round on index candidate at c k inside =
+      let same : index ≡ on .0 = omega (arith, at, inside) in
       let found : candidate ≡ candidateFor profile mode (getD inputs (on .0) zeroed) =
       c ∙ ap (λ x. candidateFor profile mode (getD inputs x zeroed)) same in
       seen-one (on .0) candidate found inside k
 
   -- before the loop
-  pub leader-first : (before : Selection) (number place : ℕ) (seen : Candidate) (leader : Leader)
-      → number ≡ selectedNumber before → InPlace inputs number place
-      → seen ≡ candidateFor profile mode (getD inputs place zeroed) → leader ≡ seed before seen
+  pub leader-first : (before : Selection) (number index : ℕ) (seen : Candidate) (leader : Leader)
+      → number ≡ selectedNumber before → IndexIn inputs number index
+      → seen ≡ candidateFor profile mode (getD inputs index zeroed) → leader ≡ seed before seen
       → leader ≡ leadsAfter all 0 before
   unfolding selectedNumber
-  leader-first before number place seen leader n at c l =
+  leader-first before number index seen leader n at c l =
       scan-none all leader (seeded (eligibleAmong all) before) (l ∙ leader-seeded all before seen sees)
     where
       numbered : (earlier : InputNumber) → before ≡ S.At earlier → number ≡ earlier .0
@@ -79,7 +79,7 @@ module _ (profile : Profile) (mode : Bool) (inputs : List Input) (zeroed : Input
       sees : (earlier : InputNumber) → before ≡ S.At earlier → SeenAt all earlier seen
       sees earlier is =
           let own = numbered earlier is in
-          seen-round earlier place seen (at .own ∙ ap (λ x. x % inputCount) own) c (at .sixteen)
+          seen-round earlier index seen (at .own ∙ ap (λ x. x % inputCount) own) c (at .sixteen)
 
   -- a turn of the loop
   pub leader-more : (before : Selection) (leader next : Leader) (count : ℕ) (candidate : Candidate)
@@ -91,15 +91,15 @@ module _ (profile : Profile) (mode : Bool) (inputs : List Input) (zeroed : Input
       (seen-one count candidate c h k) o
 
   -- what a choice sees of the switch's input
-  pub seen-on : (switch : Switch) (number place : ℕ) (own : Candidate) → number ≡ switchInput switch
-      → InPlace inputs number place → own ≡ candidateFor profile mode (getD inputs place zeroed)
+  pub seen-on : (switch : Switch) (number index : ℕ) (own : Candidate) → number ≡ switchInput switch
+      → IndexIn inputs number index → own ≡ candidateFor profile mode (getD inputs index zeroed)
       → SeenOn all switch own
   unfolding switchInput
-  seen-on W.Nothing number place own n at c = tt
-  seen-on (W.Forced on) number place own n at c =
-      seen-round on place own (at .own ∙ ap (λ x. x % inputCount) n) c (at .sixteen)
-  seen-on (W.Manual on) number place own n at c =
-      seen-round on place own (at .own ∙ ap (λ x. x % inputCount) n) c (at .sixteen)
+  seen-on W.Nothing number index own n at c = tt
+  seen-on (W.Forced on) number index own n at c =
+      seen-round on index own (at .own ∙ ap (λ x. x % inputCount) n) c (at .sixteen)
+  seen-on (W.Manual on) number index own n at c =
+      seen-round on index own (at .own ∙ ap (λ x. x % inputCount) n) c (at .sixteen)
 
 -- the loop's end
 pub leader-done : (candidates : List Candidate) (before : Selection) (leader : Leader) (count : ℕ)

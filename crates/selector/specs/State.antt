@@ -7,7 +7,7 @@ use mathlib.Core.Path.{_≡_}
 use lib.ListN.{length, replicate}
 use Rattle.numbers.specs.Inputs.{inputCount}
 use Rattle.numbers.specs.declared.profile.Profile.{Profile}
-use Rattle.numbers.specs.Profile.{limitsOf, placeOf, floorIn}
+use Rattle.numbers.specs.Profile.{limitsOf, provPlaceOf, floorIn}
 use Rattle.input.specs.declared.Input.{Input}
 use Rattle.input.specs.Record.{freshInput, inputBroughtTo, passedOf}
 use Rattle.choice.specs.declared.Candidate.{Candidate}
@@ -45,7 +45,8 @@ seenOf input =
 -- an input as a choice sees it
 unfoldable pub candidateFor : Profile → Bool → Input → Candidate
 candidateFor profile mode input =
-    candidateOf (placeOf profile) (floorIn (limitsOf profile .freerunning) (input .settings .floor)) (passedOf input)
+    candidateOf (provPlaceOf profile) (floorIn (limitsOf profile .freerunning) (input .settings .floor))
+    (passedOf input)
     (input .settings .priority)
     (input .settings .locked)
     mode
@@ -59,9 +60,9 @@ abbrev pub seenAll : Selector → List Candidate
 seenAll state = candidatesOf (state .profile) (state .inputs) (state .mode)
 
 -- where an input stands among the sixteen; where there is no such input, its number taken round
-pub record InPlace (inputs : List Input) (number place : ℕ) : Type 0 where
-  pub own : place ≡ number % inputCount
-  pub inside : place < length inputs
+pub record IndexIn (inputs : List Input) (number index : ℕ) : Type 0 where
+  pub own : index ≡ number % inputCount
+  pub inside : index < length inputs
   pub sixteen : length inputs ≡ inputCount
 
 -- the state with what a choice leaves

@@ -17,7 +17,7 @@ use numbers::profile::Profile;
 use numbers::profile::floor_in;
 use numbers::profile::limits_of;
 use numbers::profile::marks_of;
-use numbers::profile::place_of;
+use numbers::profile::prov_place_of;
 use numbers::profile::told_by;
 use numbers::quality::CODE_DNU;
 use numbers::quality::NOT_TOLD;
@@ -35,7 +35,7 @@ ghost use lib.ListN.{getD};
 ghost use Rattle.input.specs.Record.{freshInput, inputAtMoment, inputBroughtTo};
 ghost use Rattle.choice.specs.Candidate.{nobody};
 ghost use Rattle.choice.specs.Leader.{chosenAmong};
-ghost use Rattle.selector.specs.State.{seenOf, candidateFor, candidatesOf, seenAll, InPlace, freshSelector, decided, tickedOnce};
+ghost use Rattle.selector.specs.State.{seenOf, candidateFor, candidatesOf, seenAll, IndexIn, freshSelector, decided, tickedOnce};
 ghost use Rattle.selector.specs.Answer.{selectedNumber, switchNumber, switchInput, clockState, clockQuality, outgoingCode, outgoingWord, selectedCandidate, signFor, ports, qualityOf, answerOf, outgoingCodes, outgoingWords};
 
 // Stands for no input in an answer.
@@ -100,17 +100,17 @@ pub fn candidate_for(profile: Profile, input: Input, mode: bool) -> Candidate
     let seen = seen_of(input);
     let passed = seen.passed;
     let priority = seen.priority;
-    let place = place_of(profile);
+    let provplace = prov_place_of(profile);
     let limits = limits_of(profile);
     let own = limits.freerunning;
     let floor = floor_in(own, seen.floor);
-    candidate_of(place, floor, passed, priority, seen.locked, mode)
+    candidate_of(provplace, floor, passed, priority, seen.locked, mode)
 }
 
 // Where an input stands among the sixteen; where there is no such input, its number taken round.
 // The inputs are not looked at: they tell a proof that they are sixteen.
-fn place_in(inputs: [Input; 16], number: u8) -> usize
-    ensures { λ place. ⌜ InPlace inputs number place ⌝ }
+fn index_in(inputs: [Input; 16], number: u8) -> usize
+    ensures { λ index. ⌜ IndexIn inputs number index ⌝ }
 {
     (number % INPUT_COUNT) as usize
 }
@@ -190,8 +190,8 @@ impl Selector {
         let mode = self.mode;
         let before = self.selection;
         let inputs = self.inputs;
-        let place = place_in(inputs, selected_number(before));
-        let earlier = self.inputs[place];
+        let index = index_in(inputs, selected_number(before));
+        let earlier = self.inputs[index];
         let seen = candidate_for(profile, earlier, mode);
         let mut leader = seed(before, seen);
         let mut number: u8 = 0;
@@ -211,8 +211,8 @@ impl Selector {
         let inputs = self.inputs;
         let profile = self.profile;
         let before = self.switch;
-        let place = place_in(inputs, switch_input(before));
-        let input = self.inputs[place];
+        let index = index_in(inputs, switch_input(before));
+        let input = self.inputs[index];
         let own = candidate_for(profile, input, self.mode);
         let leader = self.leader();
         let choice = decide(before, own, leader, self.waslocked);

@@ -30,7 +30,7 @@ codeOfQuality-small P.OptionOne told =
     (cond-small (eqb (told .0) 3) 8 _ (omega arith)
     (cond-small (eqb (told .0) 4) 11 _ (omega arith)
     (cond-small (eqb (told .0) 5) 15 _ (omega arith) (omega arith)))))
-codeOfQuality-small (P.OptionTwo place marks) told =
+codeOfQuality-small (P.OptionTwo provplace marks) told =
     cond-small (eqb (told .0) 1) 1 _ (omega arith)
     (cond-small (eqb (told .0) 2) 0 _ (omega arith)
     (cond-small (eqb (told .0) 3) 7 _ (omega arith)

@@ -9,7 +9,7 @@ use frame::WRITTEN_LENGTH;
 use frame::write_frame;
 use inplace::SMALL;
 use inplace::TIMES;
-use inplace::WORDS;
+use inplace::WIDER;
 use inplace::codes_at;
 use numbers::TIME_LIMIT;
 use numbers::refusal::ACCEPTED;
@@ -316,7 +316,7 @@ impl Senders {
         mut self,
         times: &[u64; TIMES],
         small: &[u8; SMALL],
-        words: &[u16; WORDS],
+        wider: &[u16; WIDER],
         port: u64,
         time: u64,
         source: &[u8],
@@ -325,7 +325,7 @@ impl Senders {
         ensures { λ answer. ⌜
             AskSenders self
             (questionOf port time
-            (selectorAt (now (times .entry)) (now (small .entry)) (now (words .entry)))
+            (selectorAt (now (times .entry)) (now (small .entry)) (now (wider .entry)))
             (now (source .entry)) (now (buffer .entry)))
             answer (now (buffer .exit)) ⌝ }
     {
@@ -348,7 +348,7 @@ impl Senders {
                 heartbeat: Heartbeat::Refused(number),
             };
         }
-        let codes = codes_at(times, small, words);
+        let codes = codes_at(times, small, wider);
         let code = codes[at];
         let heartbeat = sender.heartbeat(time, code as u32);
         let after = sender.after(heartbeat, time, code as u32);

@@ -9,9 +9,9 @@ use borrow.Author.Tests.{eqb-true, eq-eqb, ne-eqb, le-leb, lt-leb, lt-ltb, leb-f
 use lib.Dec.{eqb, leb, ltb}
 use lib.ListN.{length, getD, drop, drop-of-length-le}
 use lib.Seq.{drop-cons}
-use Rattle.numbers.specs.declared.profile.Place.{Place}
+use Rattle.numbers.specs.declared.profile.ProvPlace.{ProvPlace}
 use Rattle.numbers.specs.Refusal.{accepted}
-use Rattle.numbers.specs.Profile.{optionTwo, unplaced, placeIn, lastPlace, startNumber}
+use Rattle.numbers.specs.Profile.{optionTwo, unplaced, provPlaceIn, lastProvPlace, startNumber}
 use Rattle.numbers.proofs.Truth.{byBool}
 use Rattle.digits.specs.Digits.{numeral0, numeral9, isBetween, isNumeral, allDigits, digitValue, allNumerals}
 use Rattle.digits.specs.Decimal.{decimalValue}
@@ -102,97 +102,98 @@ four-value (w ∷ x ∷ y ∷ z ∷ v ∷ rest) upper lower four one other = abs
 
 -- ---- startOf
 
-module _ (place marks number : ℕ) (is : number ≡ startNumber optionTwo place) where
-  pub startOf-started : (said : Place) → number ≡ accepted → said ≡ placeIn place
-      → Started said marks ≡ startOf place marks
+module _ (provplace marks number : ℕ) (is : number ≡ startNumber optionTwo provplace) where
+  pub startOf-started : (said : ProvPlace) → number ≡ accepted → said ≡ provPlaceIn provplace
+      → Started said marks ≡ startOf provplace marks
   unfolding startOf
-  startOf-started said taken s = rw (eq-eqb (startNumber optionTwo place) accepted (sym is ∙ taken), s)
+  startOf-started said taken s = rw (eq-eqb (startNumber optionTwo provplace) accepted (sym is ∙ taken), s)
 
-  pub startOf-refused : (number ≡ accepted → ⊥) → Refused ≡ startOf place marks
+  pub startOf-refused : (number ≡ accepted → ⊥) → Refused ≡ startOf provplace marks
   unfolding startOf
-  startOf-refused left = rw (ne-eqb (startNumber optionTwo place) accepted (λ same. left (is ∙ same)))
+  startOf-refused left = rw (ne-eqb (startNumber optionTwo provplace) accepted (λ same. left (is ∙ same)))
 
 pub ruleset startOf-laws = (startOf-started, startOf-refused)
 
 -- a place above 255 is above 8
-startOf-above : (place marks : ℕ) → lastPlace < place → Refused ≡ startOf place marks
+startOf-above : (provplace marks : ℕ) → lastProvPlace < provplace → Refused ≡ startOf provplace marks
 unfolding startOf startNumber
-startOf-above place marks above = rw (lt-ltb lastPlace place above)
+startOf-above provplace marks above = rw (lt-ltb lastProvPlace provplace above)
 
 number-none : (value : ℕ) → Number value ≡ NoNumber → ⊥
 number-none value same = let wrong : _≡_ {A = ℕ} 0 1 = cc in omega arith
 
-module _ (place : List ℕ) (marks most : ℕ) (decimal : isDecimal place ≡ true) where
+module _ (provplace : List ℕ) (marks most : ℕ) (decimal : isDecimal provplace ≡ true) where
   -- a number that is not read is too large
-  pub number-above : (read : NumberRead) → read ≡ readNumber place most → read ≡ NoNumber → most < decimalValue 0 place
+  pub number-above : (read : NumberRead) → read ≡ readNumber provplace most → read ≡ NoNumber
+      → most < decimalValue 0 provplace
   unfolding readNumber isDecimal
   number-above read is none =
-      byBool (leb (decimalValue 0 place) most)
+      byBool (leb (decimalValue 0 provplace) most)
       (λ fits.
-      let parts = and-parts (ltb 0 (length place)) (allNumerals place) decimal in
-      absurd (number-none (decimalValue 0 place) (rw (parts .0, parts .1, fits) at (sym is ∙ none))))
-      (λ over. leb-false (decimalValue 0 place) most over)
+      let parts = and-parts (ltb 0 (length provplace)) (allNumerals provplace) decimal in
+      absurd (number-none (decimalValue 0 provplace) (rw (parts .0, parts .1, fits) at (sym is ∙ none))))
+      (λ over. leb-false (decimalValue 0 provplace) most over)
 
-  pub place-above : (read : NumberRead) → read ≡ readNumber place most → read ≡ NoNumber → lastPlace ≤ most
-      → Refused ≡ startOf (decimalValue 0 place) marks
+  pub place-above : (read : NumberRead) → read ≡ readNumber provplace most → read ≡ NoNumber → lastProvPlace ≤ most
+      → Refused ≡ startOf (decimalValue 0 provplace) marks
   place-above read is none enough =
-      startOf-above (decimalValue 0 place) marks (omega (arith, number-above read is none))
+      startOf-above (decimalValue 0 provplace) marks (omega (arith, number-above read is none))
 
-  pub place-is : (read : NumberRead) (number : ℕ) → read ≡ readNumber place most → read ≡ Number number
-      → number ≡ decimalValue 0 place
+  pub place-is : (read : NumberRead) (number : ℕ) → read ≡ readNumber provplace most → read ≡ Number number
+      → number ≡ decimalValue 0 provplace
   unfolding readNumber isDecimal
   place-is read number reads told =
       let is = sym reads ∙ told in
-      let parts = and-parts (ltb 0 (length place)) (allNumerals place) decimal in
-      byBool (leb (decimalValue 0 place) most)
+      let parts = and-parts (ltb 0 (length provplace)) (allNumerals provplace) decimal in
+      byBool (leb (decimalValue 0 provplace) most)
       (λ fits.
-      let same : Number (decimalValue 0 place) ≡ Number number = rw (parts .0, parts .1, fits) at is in
+      let same : Number (decimalValue 0 provplace) ≡ Number number = rw (parts .0, parts .1, fits) at is in
       cc)
       (λ over.
       let same : NoNumber ≡ Number number = rw (parts .0, parts .1, over) at is in
       absurd (number-none number (sym same)))
 
-  pub place-start : (start : StartRead) (read : NumberRead) (number : ℕ) → read ≡ readNumber place most
+  pub place-start : (start : StartRead) (read : NumberRead) (number : ℕ) → read ≡ readNumber provplace most
       → read ≡ Number number
       → start ≡ startOf number marks
-      → start ≡ startOf (decimalValue 0 place) marks
+      → start ≡ startOf (decimalValue 0 provplace) marks
   place-start start read number reads told is =
       is ∙ ap (λ (value : ℕ). startOf value marks) (place-is read number reads told)
 
 -- ---- startIn
 
-module _ (option place marks : List ℕ) where
+module _ (option provplace marks : List ℕ) where
   pub startIn-option : (two : Bool) → two ≡ isOptionWord numeral2 option → not two ≡ true
-      → NoStart ≡ startIn option place marks
+      → NoStart ≡ startIn option provplace marks
   unfolding startIn
   startIn-option two is none = rw (sym is ∙ not-true two none)
 
   pub startIn-place : (two decimal : Bool) → two ≡ isOptionWord numeral2 option → not two ≡ false
-      → decimal ≡ isDecimal place
+      → decimal ≡ isDecimal provplace
       → not decimal ≡ true
-      → NoStart ≡ startIn option place marks
+      → NoStart ≡ startIn option provplace marks
   unfolding startIn
   startIn-place two decimal is taken test none = rw (sym is ∙ not-false two taken, sym test ∙ not-true decimal none)
 
   pub startIn-marks : (two decimal four : Bool) → two ≡ isOptionWord numeral2 option → not two ≡ false
-      → decimal ≡ isDecimal place
+      → decimal ≡ isDecimal provplace
       → not decimal ≡ false
       → four ≡ isMarks marks
       → not four ≡ true
-      → NoStart ≡ startIn option place marks
+      → NoStart ≡ startIn option provplace marks
   unfolding startIn
   startIn-marks two decimal four is taken test also digits none =
       rw (sym is ∙ not-false two taken, sym test ∙ not-false decimal also, sym digits ∙ not-true four none)
 
   pub startIn-start : (read : StartRead) (value : ℕ) (two decimal four : Bool) → two ≡ isOptionWord numeral2 option
       → not two ≡ false
-      → decimal ≡ isDecimal place
+      → decimal ≡ isDecimal provplace
       → not decimal ≡ false
       → four ≡ isMarks marks
       → not four ≡ false
       → value ≡ digitsValue 0 marks
-      → read ≡ startOf (decimalValue 0 place) value
-      → read ≡ startIn option place marks
+      → read ≡ startOf (decimalValue 0 provplace) value
+      → read ≡ startIn option provplace marks
   unfolding startIn
   startIn-start read value two decimal four is taken test also digits all same start =
       start
@@ -206,9 +207,9 @@ module _ (option place marks : List ℕ) where
 pub ruleset startIn-laws = (startIn-option, startIn-place, startIn-marks, startIn-start)
 
 -- a test of the code that holds
-pub decimal-holds : (place : List ℕ) (decimal : Bool) → decimal ≡ isDecimal place → not decimal ≡ false
-    → isDecimal place ≡ true
-decimal-holds place decimal is holds = sym is ∙ not-false decimal holds
+pub decimal-holds : (provplace : List ℕ) (decimal : Bool) → decimal ≡ isDecimal provplace → not decimal ≡ false
+    → isDecimal provplace ≡ true
+decimal-holds provplace decimal is holds = sym is ∙ not-false decimal holds
 
 pub marks-hold : (marks : List ℕ) (four-digits : Bool) → four-digits ≡ isMarks marks → not four-digits ≡ false
     → length marks ≡ 4
@@ -216,17 +217,17 @@ marks-hold marks four-digits is holds = marks-size marks (sym is ∙ not-false f
 
 -- ---- startBy
 
-module _ (count : ℕ) (option place marks : List ℕ) where
-  pub startBy-nothing : count ≡ 0 → Started unplaced 0 ≡ startBy count option place marks
+module _ (count : ℕ) (option provplace marks : List ℕ) where
+  pub startBy-nothing : count ≡ 0 → Started unplaced 0 ≡ startBy count option provplace marks
   unfolding startBy
   startBy-nothing none = rw (eq-eqb count 0 none)
 
-  pub startBy-other : (count ≡ 0 → ⊥) → (count ≡ 3 → ⊥) → NoStart ≡ startBy count option place marks
+  pub startBy-other : (count ≡ 0 → ⊥) → (count ≡ 3 → ⊥) → NoStart ≡ startBy count option provplace marks
   unfolding startBy
   startBy-other some other = rw (ne-eqb count 0 some, ne-eqb count 3 other)
 
-  pub startBy-words : (read : StartRead) → (count ≡ 0 → ⊥) → count ≡ 3 → read ≡ startIn option place marks
-      → read ≡ startBy count option place marks
+  pub startBy-words : (read : StartRead) → (count ≡ 0 → ⊥) → count ≡ 3 → read ≡ startIn option provplace marks
+      → read ≡ startBy count option provplace marks
   unfolding startBy
   startBy-words read some words is = is ∙ (rw (ne-eqb count 0 some, eq-eqb count 3 words))
 

@@ -12,13 +12,13 @@ use Rattle.start.specs.declared.StartRead.the-variants.{Started, Refused
 
 -- a refusal is an answer; what START is goes to standard error
 abbrev pub startStream : StartRead → Stream
-startStream (Started place marks) = Error
+startStream (Started provplace marks) = Error
 startStream Refused = Output
 startStream NoStart = Error
 
 -- "A place above 8 prints `06` and nothing else.": the number of the refusal, and LF; and one line that says what START
 -- is where the words are none; nothing of a start
 unfoldable pub startSaid : StartRead → List ℕ
-startSaid (Started place marks) = []
+startSaid (Started provplace marks) = []
 startSaid Refused = digitsOf (argumentOutOfRange ∷ []) ++ (lineFeed ∷ [])
 startSaid NoStart = octetsOfText "START is nothing, or 2 PLACE MARKS: a decimal number, four hexadecimal digits\n"

@@ -7,7 +7,7 @@ use mathlib.Core.Path.{_≡_}
 use lib.Dec.{eqb, ltb}
 use lib.ListN.{length, getD}
 use Rattle.numbers.specs.Refusal.{accepted}
-use Rattle.numbers.specs.Profile.{optionTwo, unplaced, placeIn, startNumber}
+use Rattle.numbers.specs.Profile.{optionTwo, unplaced, provPlaceIn, startNumber}
 use Rattle.digits.specs.Digits.{allDigits, digitValue, allNumerals}
 use Rattle.digits.specs.Decimal.{decimalValue}
 use Rattle.start.specs.declared.StartRead.{StartRead}
@@ -36,27 +36,28 @@ digitsValue passed (digit ∷ rest) = digitsValue (passed * 16 + digitValue digi
 
 -- a start with a place and marks: "A place above 8 prints `06` and nothing else."
 unfoldable pub startOf : ℕ → ℕ → StartRead
-startOf place marks = cond (eqb (startNumber optionTwo place) accepted) (Started (placeIn place) marks) Refused
+startOf provplace marks =
+    cond (eqb (startNumber optionTwo provplace) accepted) (Started (provPlaceIn provplace) marks) Refused
 
 -- "`2 PLACE MARKS`": three words; a place may be a number of any size
 unfoldable pub startIn : List ℕ → List ℕ → List ℕ → StartRead
-startIn option place marks =
-    cond (isOptionWord numeral2 option && isDecimal place && isMarks marks)
-    (startOf (decimalValue 0 place) (digitsValue 0 marks))
+startIn option provplace marks =
+    cond (isOptionWord numeral2 option && isDecimal provplace && isMarks marks)
+    (startOf (decimalValue 0 provplace) (digitsValue 0 marks))
     NoStart
 
 -- "nothing, or `2 PLACE MARKS`"; "with nothing they are L11's: unplaced, no marks": so many words, of which the first
 -- three are given
 unfoldable pub startBy : ℕ → List ℕ → List ℕ → List ℕ → StartRead
-startBy count option place marks =
+startBy count option provplace marks =
     cond (eqb count 0) (Started unplaced 0)
-    (cond (eqb count 3) (startIn option place marks)
+    (cond (eqb count 3) (startIn option provplace marks)
     NoStart)
 
 -- what was read is what some words say
 pub record StartReadRight (read : StartRead) : Type 0 where
   pub count : ℕ
   pub option : List ℕ
-  pub place : List ℕ
+  pub provplace : List ℕ
   pub marks : List ℕ
-  pub is : read ≡ startBy count option place marks
+  pub is : read ≡ startBy count option provplace marks

@@ -9,8 +9,8 @@ use calls::Ending;
 use calls::Stream;
 use calls::write_alone;
 use numbers::profile::OPTION_TWO;
-use numbers::profile::Place;
-use numbers::profile::place_in;
+use numbers::profile::ProvPlace;
+use numbers::profile::prov_place_in;
 use numbers::profile::start_number;
 use numbers::refusal::ACCEPTED;
 use text::NumberRead;
@@ -23,7 +23,7 @@ ghost use Rattle.start.specs.Start.{isOptionWord, isDecimal, isMarks, di
 ghost use Rattle.start.specs.Said.{startStream, startSaid};
 
 // The words of `2 PLACE MARKS`.
-const WORDS: usize = 3;
+const ARGUMENTS: usize = 3;
 
 // The numeral of option II.
 const NUMERAL_2: u8 = b'2';
@@ -40,7 +40,7 @@ const LONGEST_WORD: usize = 65_536;
 // What START says: the place of PROV and the marks; that the start is refused; or that it is no
 // START.
 pub enum StartRead {
-    Started(Place, u16),
+    Started(ProvPlace, u16),
     Refused,
     NoStart,
 }
@@ -97,21 +97,21 @@ fn marks_in(word: &[u8]) -> u16
 }
 
 // A start with a place and marks: "A place above 8" is refused.
-fn start_of(place: u8, marks: u16) -> StartRead
-    ensures { λ read. ⌜ read ≡ startOf place marks ⌝ }
+fn start_of(provplace: u8, marks: u16) -> StartRead
+    ensures { λ read. ⌜ read ≡ startOf provplace marks ⌝ }
 {
-    if start_number(OPTION_TWO, place) == ACCEPTED {
-        return StartRead::Started(place_in(place), marks);
+    if start_number(OPTION_TWO, provplace) == ACCEPTED {
+        return StartRead::Started(prov_place_in(provplace), marks);
     }
     StartRead::Refused
 }
 
 // A start with a place that is a number of any size.
-fn start_at(place: &[u8], marks: u16) -> StartRead
-    requires { ⌜ isDecimal (now place) ≡ true ⌝ }
-    ensures { λ read. ⌜ read ≡ startOf (decimalValue 0 (now (place .entry))) marks ⌝ }
+fn start_at(provplace: &[u8], marks: u16) -> StartRead
+    requires { ⌜ isDecimal (now provplace) ≡ true ⌝ }
+    ensures { λ read. ⌜ read ≡ startOf (decimalValue 0 (now (provplace .entry))) marks ⌝ }
 {
-    let read = text::read_number(place, LARGEST);
+    let read = text::read_number(provplace, LARGEST);
     let NumberRead::Number(number) = read else {
         return StartRead::Refused;
     };
@@ -119,38 +119,38 @@ fn start_at(place: &[u8], marks: u16) -> StartRead
 }
 
 // What three words say: `2 PLACE MARKS`.
-pub fn start_in(option: &[u8], place: &[u8], marks: &[u8]) -> StartRead
+pub fn start_in(option: &[u8], provplace: &[u8], marks: &[u8]) -> StartRead
     ensures { λ read. ⌜
-        read ≡ startIn (now (option .entry)) (now (place .entry)) (now (marks .entry)) ⌝ }
+        read ≡ startIn (now (option .entry)) (now (provplace .entry)) (now (marks .entry)) ⌝ }
 {
     if !is_option_word(option, NUMERAL_2) {
         return StartRead::NoStart;
     }
-    if !is_decimal(place) {
+    if !is_decimal(provplace) {
         return StartRead::NoStart;
     }
     if !is_marks(marks) {
         return StartRead::NoStart;
     }
-    start_at(place, marks_in(marks))
+    start_at(provplace, marks_in(marks))
 }
 
 // What so many words say, of which the first three are given: nothing is unplaced, and no marks.
-pub fn start_by(count: usize, option: &[u8], place: &[u8], marks: &[u8]) -> StartRead
+pub fn start_by(count: usize, option: &[u8], provplace: &[u8], marks: &[u8]) -> StartRead
     ensures { λ read. ⌜
-        read ≡ startBy count (now (option .entry)) (now (place .entry)) (now (marks .entry)) ⌝ }
+        read ≡ startBy count (now (option .entry)) (now (provplace .entry)) (now (marks .entry)) ⌝ }
 {
     if count == 0 {
-        return StartRead::Started(Place::Unplaced, 0);
+        return StartRead::Started(ProvPlace::Unplaced, 0);
     }
-    if count != WORDS {
+    if count != ARGUMENTS {
         return StartRead::NoStart;
     }
-    start_in(option, place, marks)
+    start_in(option, provplace, marks)
 }
 
 // How many words the arguments have behind the program's name.
-fn word_count() -> usize {
+fn argument_count() -> usize {
     let count = os::arg_count();
     if count == 0 {
         return 0;
@@ -164,15 +164,15 @@ pub fn read_start() -> StartRead
     ensures { λ read. ⌜ StartReadRight read ⌝ }
 {
     let mut option = io::buffer();
-    let mut place = [0u8; LONGEST_WORD];
+    let mut provplace = [0u8; LONGEST_WORD];
     let mut marks = io::buffer();
     let first = os::arg(1, &mut option);
-    let second = os::arg(2, &mut place);
+    let second = os::arg(2, &mut provplace);
     let third = os::arg(3, &mut marks);
     start_by(
-        word_count(),
+        argument_count(),
         &option[..first],
-        &place[..second],
+        &provplace[..second],
         &marks[..third],
     )
 }

@@ -15,32 +15,32 @@ use Rattle.status.specs.Kept.{timerAhead, frameAhead}
 
 -- ---- endAhead
 
-module _ (start length time : ℕ) where
-  pub endAhead-sum : start + length ≤ never → time < start + length → start + length ≡ endAhead start length time
+module _ (began length time : ℕ) where
+  pub endAhead-sum : began + length ≤ never → time < began + length → began + length ≡ endAhead began length time
   unfolding endAhead
-  endAhead-sum fits later = rw (← sumOrNever-sum start length fits, lt-ltb _ _ later)
+  endAhead-sum fits later = rw (← sumOrNever-sum began length fits, lt-ltb _ _ later)
 
-  pub endAhead-over : start + length ≤ never → start + length ≤ time → 0 ≡ endAhead start length time
+  pub endAhead-over : began + length ≤ never → began + length ≤ time → 0 ≡ endAhead began length time
   unfolding endAhead
-  endAhead-over fits over = rw (← sumOrNever-sum start length fits, le-ltb _ _ over)
+  endAhead-over fits over = rw (← sumOrNever-sum began length fits, le-ltb _ _ over)
 
-  pub endAhead-never : never < start + length → time < never → never ≡ endAhead start length time
+  pub endAhead-never : never < began + length → time < never → never ≡ endAhead began length time
   unfolding endAhead
-  endAhead-never past later = rw (← sumOrNever-never start length past, lt-ltb _ _ later)
+  endAhead-never past later = rw (← sumOrNever-never began length past, lt-ltb _ _ later)
 
-  pub endAhead-past : never < start + length → never ≤ time → 0 ≡ endAhead start length time
+  pub endAhead-past : never < began + length → never ≤ time → 0 ≡ endAhead began length time
   unfolding endAhead
-  endAhead-past past over = rw (← sumOrNever-never start length past, le-ltb _ _ over)
+  endAhead-past past over = rw (← sumOrNever-never began length past, le-ltb _ _ over)
 
 -- ---- timerAhead, frameAhead
 
 module _ (run : Run) (forecast : Forecast) (time end : ℕ) where
-  pub timerAhead-holdoff : run .failed ≡ true → end ≡ endAhead (run .start) (forecast .holdoff) time
+  pub timerAhead-holdoff : run .failed ≡ true → end ≡ endAhead (run .began) (forecast .holdoff) time
       → end ≡ timerAhead run forecast time
   unfolding timerAhead
   timerAhead-holdoff f e = e ∙ (rw f)
 
-  pub timerAhead-wait : run .failed ≡ false → end ≡ endAhead (run .start) (forecast .wait) time
+  pub timerAhead-wait : run .failed ≡ false → end ≡ endAhead (run .began) (forecast .wait) time
       → end ≡ timerAhead run forecast time
   unfolding timerAhead
   timerAhead-wait f e = e ∙ (rw f)

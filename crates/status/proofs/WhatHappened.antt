@@ -58,10 +58,10 @@ unfolding moments momentOf lastArgument
 wait-now number (started profile) = refl
 wait-now number (event following earlier) = refl
 
-either : (test : Bool) (start holdoff wait time : ℕ)
-    → cond test (endAhead start holdoff time) (endAhead start wait time) ≡ endAhead start (cond test holdoff wait) time
-either true start holdoff wait time = refl
-either false start holdoff wait time = refl
+either : (test : Bool) (began holdoff wait time : ℕ)
+    → cond test (endAhead began holdoff time) (endAhead began wait time) ≡ endAhead began (cond test holdoff wait) time
+either true began holdoff wait time = refl
+either false began holdoff wait time = refl
 
 -- the timer of the run that the moments define
 timer-defined : (number : ℕ) (history : History) (time : ℕ)

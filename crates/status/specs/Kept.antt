@@ -22,7 +22,7 @@ use Rattle.status.specs.Status.{endAhead}
 -- the present run's own timer
 unfoldable pub timerAhead : Run → Forecast → ℕ → ℕ
 timerAhead run forecast time =
-    cond (run .failed) (endAhead (run .start) (forecast .holdoff) time) (endAhead (run .start) (forecast .wait) time)
+    cond (run .failed) (endAhead (run .began) (forecast .holdoff) time) (endAhead (run .began) (forecast .wait) time)
 
 -- the last frame heard; its quality is failed where none was
 unfoldable pub frameAhead : Heard → ℕ → ℕ

@@ -18,7 +18,7 @@ use Rattle.status.specs.declared.Status.{Status}
 -- a time of so many ms from a start is over, if that is still to come; 0 if not. A sum past the largest number of 64
 -- bits stands for never, as in `due/specs/Next`
 unfoldable pub endAhead : ℕ → ℕ → ℕ → ℕ
-endAhead start length time = cond (ltb time (sumOrNever start length)) (sumOrNever start length) 0
+endAhead began length time = cond (ltb time (sumOrNever began length)) (sumOrNever began length) 0
 
 -- "a timer ends at run start plus setting, needed or not": the hold-off of a failed run, the wait of any other
 abbrev pub timerBy : Moments → ℕ → ℕ

@@ -7,7 +7,7 @@
 use due::NEVER;
 use inplace::SMALL;
 use inplace::TIMES;
-use inplace::WORDS;
+use inplace::WIDER;
 use inplace::input_at;
 use inplace::mode_at;
 use inplace::profile_at;
@@ -47,13 +47,13 @@ pub struct Status {
     pub floor: u8,
 }
 
-// When a time of `length` ms from `start` is over, if that is later than `time`; otherwise 0.
-fn end_ahead(start: u64, length: u64, time: u64) -> u64
-    ensures { λ answer. ⌜ answer ≡ endAhead start length time ⌝ }
+// When a time of `length` ms from `began` is over, if that is later than `time`; otherwise 0.
+fn end_ahead(began: u64, length: u64, time: u64) -> u64
+    ensures { λ answer. ⌜ answer ≡ endAhead began length time ⌝ }
 {
-    if length <= NEVER - start {
-        if time < start + length {
-            return start + length;
+    if length <= NEVER - began {
+        if time < began + length {
+            return began + length;
         }
         return 0;
     }
@@ -67,9 +67,9 @@ fn timer_ahead(run: Run, forecast: Forecast, time: u64) -> u64
     ensures { λ answer. ⌜ answer ≡ timerAhead run forecast time ⌝ }
 {
     if run.failed {
-        return end_ahead(run.start, forecast.holdoff, time);
+        return end_ahead(run.began, forecast.holdoff, time);
     }
-    end_ahead(run.start, forecast.wait, time)
+    end_ahead(run.began, forecast.wait, time)
 }
 
 fn frame_ahead(heard: Heard, time: u64) -> u64
@@ -120,15 +120,15 @@ pub fn status_of(profile: Profile, input: Input, mode: bool, time: u64) -> Statu
 pub fn input_status(
     times: &[u64; TIMES],
     small: &[u8; SMALL],
-    words: &[u16; WORDS],
+    wider: &[u16; WIDER],
     number: u8,
 ) -> Status
     ensures { λ answer. ⌜ answer ≡ inputStatus
-        (selectorAt (now (times .entry)) (now (small .entry)) (now (words .entry))) number ⌝ }
+        (selectorAt (now (times .entry)) (now (small .entry)) (now (wider .entry))) number ⌝ }
 {
-    let profile = profile_at(small, words);
+    let profile = profile_at(small, wider);
     let mode = mode_at(small);
     let time = time_at(times);
-    let one = input_at(times, small, words, InputNumber(number));
+    let one = input_at(times, small, wider, InputNumber(number));
     status_of(profile, one, mode, time)
 }

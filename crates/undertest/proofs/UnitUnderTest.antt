@@ -12,7 +12,7 @@ use Rattle.numbers.specs.declared.profile.Profile.{Profile}
 use Rattle.numbers.specs.declared.quality.Quality.{Quality}
 use Rattle.numbers.specs.From.{started, _following_, profileOf}
 use Rattle.numbers.specs.Kind.{kindTick}
-use Rattle.numbers.specs.Profile.{limitsOf, placeOf}
+use Rattle.numbers.specs.Profile.{limitsOf, provPlaceOf}
 use Rattle.numbers.specs.Quality.{quality}
 use Rattle.numbers.specs.Recorded.{Recorded}
 use Rattle.numbers.specs.Refusal.{accepted}
@@ -296,8 +296,8 @@ output-same unit other answer profile mode minimum = λ j.
     squelched = λ j.
         not (eqb (answer j .clockstate) locked) ||
         (mode j &&
-        ltb (rankOf (placeOf (profile j)) (minimum j) .0)
-        (rankOf (placeOf (profile j)) (quality (answer j .clockquality)) .0))
+        ltb (rankOf (provPlaceOf (profile j)) (minimum j) .0)
+        (rankOf (provPlaceOf (profile j)) (quality (answer j .clockquality)) .0))
 
 module _ (minimum : Quality) (input : ℕ) (one other : UnitSequence) (butFor : UnitsEqualButFor input one other)
     (off : OffInBoth input one) where

@@ -24,7 +24,7 @@ starts =
       firstTwo = refl;
       lastTwo = refl;
       aboveTwo = refl;
-      place = refl;
+      provplace = refl;
       both = refl;
     }
 
@@ -32,7 +32,7 @@ starts =
 best-within : (profile : Profile) → isMinimum profile prc ≡ true
 unfolding limitsOf
 best-within P.OptionOne = refl
-best-within (P.OptionTwo place marks) = refl
+best-within (P.OptionTwo provplace marks) = refl
 
 -- L13: a minimum out of range is refused with 6, and no unit has one.
 pub unit-fresh-right : (profile : Profile) (minimum : Quality) → UnitFreshRight profile minimum

@@ -11,7 +11,7 @@ use borrow.Author.Tests.{ltb-true, lt-ltb, ne-eqb}
 use Rattle.numbers.specs.declared.quality.Quality.{Quality}
 use Rattle.numbers.specs.From.{started, _following_, profileOf}
 use Rattle.numbers.specs.Inputs.{inputCount}
-use Rattle.numbers.specs.Profile.{placeOf}
+use Rattle.numbers.specs.Profile.{provPlaceOf}
 use Rattle.numbers.specs.Quality.{quality, prov}
 use Rattle.numbers.specs.Refusal.{accepted}
 use Rattle.input.specs.Recorded.{History, modeOn, floorOf, timeOf, priorityOf, isLockedOut, passedAt}
@@ -54,16 +54,16 @@ use Rattle.unit.proofs.Halves.{half-after, minimum-after}
 -- ---- what the code computes is what has happened
 
 -- the clock is locked exactly if what is selected is usable, and then tells its quality
-clock-same : (place : ℕ) (minimum own : Quality) (mode waslocked : Bool) (candidate : Candidate)
+clock-same : (provplace : ℕ) (minimum own : Quality) (mode waslocked : Bool) (candidate : Candidate)
     → (not (eqb (clockState (candidate .usable) waslocked) locked) ||
-    (mode && ltb (rankOf place minimum .0) (rankOf place (clockQuality own mode candidate) .0))) ≡
-    (not (candidate .usable) || (mode && ltb (rankOf place minimum .0) (rankOf place (candidate .quality) .0)))
+    (mode && ltb (rankOf provplace minimum .0) (rankOf provplace (clockQuality own mode candidate) .0))) ≡
+    (not (candidate .usable) || (mode && ltb (rankOf provplace minimum .0) (rankOf provplace (candidate .quality) .0)))
 unfolding clockState clockQuality
-clock-same place minimum own true waslocked candidate =
+clock-same provplace minimum own true waslocked candidate =
     byBool (candidate .usable)
     (λ u. rw u)
     (λ u. byBool waslocked (λ h. rw (u, h)) (λ h. rw (u, h)))
-clock-same place minimum own false waslocked candidate =
+clock-same provplace minimum own false waslocked candidate =
     byBool (candidate .usable)
     (λ u. rw u)
     (λ u. byBool waslocked (λ h. rw (u, h)) (λ h. rw (u, h)))
@@ -88,9 +88,9 @@ module _ (unit : Unit) (own : Sequence) (minimum : Quality)
   squelched-own =
       (λ j. not (eqb (station-answer j .clockstate) locked) ||
       (station-mode j &&
-      ltb (rankOf (placeOf (station-profile j)) (set j) .0)
-      (rankOf (placeOf (station-profile j)) (quality (station-answer j .clockquality)) .0))) ∙
-      clock-same (placeOf (profileOf (recorded own))) minimum _ (modeOn (recorded own)) (decidedBy (madeIn own) .waslocked)
+      ltb (rankOf (provPlaceOf (station-profile j)) (set j) .0)
+      (rankOf (provPlaceOf (station-profile j)) (quality (station-answer j .clockquality)) .0))) ∙
+      clock-same (provPlaceOf (profileOf (recorded own))) minimum _ (modeOn (recorded own)) (decidedBy (madeIn own) .waslocked)
       (candidateSelected (pastOf own))
 
   source-own : sourceOf unit ≡ outputBy minimum (pastOf own) .source
@@ -126,8 +126,8 @@ module _ (past : Past) where
   abbrev history : History
   history = past .history
 
-  abbrev place : ℕ
-  place = placeOf (profileOf history)
+  abbrev provplace : ℕ
+  provplace = provPlaceOf (profileOf history)
 
   abbrev candidate : Candidate
   candidate = candidateSelected past
@@ -145,7 +145,7 @@ module _ (past : Past) where
 
     -- and with it on exactly if it is worse
     carries-on : modeOn history ≡ true → candidate .usable ≡ true
-        → squelchedBy minimum past ≡ ltb (rankOf place minimum .0) (rankOf place (candidate .quality) .0)
+        → squelchedBy minimum past ≡ ltb (rankOf provplace minimum .0) (rankOf provplace (candidate .quality) .0)
     unfolding squelchedBy
     carries-on on u = rw (u, on)
 
@@ -169,7 +169,7 @@ module _ (past : Past) where
               passed = passedAt (some .0) history (timeOf history);
               isSelected = some .1;
               worse =
-                  subst (λ (told : Quality). rankOf place minimum .0 < rankOf place told .0)
+                  subst (λ (told : Quality). rankOf provplace minimum .0 < rankOf provplace told .0)
                   (quality-stated past (some .0) _ (some .1) on)
                   (ltb-true _ _ (sym (carries-on on u) ∙ s));
             }
@@ -184,7 +184,7 @@ module _ (past : Past) where
             (λ u.
             carries-on on u ∙
             lt-ltb _ _
-            (subst (λ (told : Quality). rankOf place minimum .0 < rankOf place told .0)
+            (subst (λ (told : Quality). rankOf provplace minimum .0 < rankOf provplace told .0)
             (sym (quality-stated past (w .number) (w .passed) (w .isSelected) on))
             (w .worse)))
             silent
@@ -275,20 +275,20 @@ output-right minimum sequence =
 
 -- ---- PROV
 
-prov-placed : (place : ℕ) → 1 ≤ place → isPlaced place prov ≡ true
+prov-placed : (provplace : ℕ) → 1 ≤ provplace → isPlaced provplace prov ≡ true
 unfolding isPlaced
-prov-placed place some = rw (ne-eqb place 0 (λ e. omega arith))
+prov-placed provplace some = rw (ne-eqb provplace 0 (λ e. omega arith))
 
-other-numbered : (place number : ℕ) → number < prov .0 → isPlaced place (quality number) ≡ false
+other-numbered : (provplace number : ℕ) → number < prov .0 → isPlaced provplace (quality number) ≡ false
 unfolding isPlaced
-other-numbered place number small = rw (ne-eqb number (prov .0) (λ e. omega arith))
+other-numbered provplace number small = rw (ne-eqb number (prov .0) (λ e. omega arith))
 
 -- PROV IS WORSE THAN A MINIMUM exactly where its place is the minimum or a larger number.
-pub prov-worse : (place minimum : ℕ) → ProvWorse place minimum
-prov-worse place minimum =
+pub prov-worse : (provplace minimum : ℕ) → ProvWorse provplace minimum
+prov-worse provplace minimum =
     record {
       exact = λ some within.
-          let ranked = rank-placed place prov (prov-placed place some) in
-          let numbered = rank-numbered place (quality minimum) (other-numbered place minimum (omega arith)) in
+          let ranked = rank-placed provplace prov (prov-placed provplace some) in
+          let numbered = rank-numbered provplace (quality minimum) (other-numbered provplace minimum (omega arith)) in
           (λ worse. omega arith, λ above. omega arith);
     }

@@ -9,7 +9,7 @@ use lib.Dec.{eqb, leb, ltb}
 use borrow.Author.Tests.{leb-false, ltb-false, ne-eqb, le-ltb, eqb-true, eqb-false}
 use Rattle.numbers.specs.From.{_following_, profileOf}
 use Rattle.numbers.specs.Inputs.{timeLimit}
-use Rattle.numbers.specs.Kind.{rowOf, isInputOut, isArgumentOut}
+use Rattle.numbers.specs.Kind.{kindRowOf, isInputOut, isArgumentOut}
 use Rattle.numbers.specs.Profile.{limitsOf}
 use Rattle.numbers.specs.Refusal.{accepted, kindUnknown, timeTooLarge, timeBeforeState}
 use Rattle.numbers.specs.Rows.{RowApplies, firstThatApplies}
@@ -74,7 +74,7 @@ numberBy-early past given number e refused = rw (e, ne-eqb number accepted refus
 
 module _ (past : Past) (time : ℕ) where
   tick-early : earlyBy past (tickAt time) ≡ timeNumber (timeOf (past .history)) time
-  unfolding firstThatApplies rowOf isInputOut isArgumentOut isWrongKind timeNumber
+  unfolding firstThatApplies kindRowOf isInputOut isArgumentOut isWrongKind timeNumber
   tick-early = refl
 
   tick-late : lateBy past (tickAt time) ≡ accepted
@@ -92,7 +92,7 @@ module _ (past : Past) (time : ℕ) where
 module _ (past : Past) (given : Given) where
   abbrev refusedAs : ℕ
   refusedAs =
-      cond (rowOf (limitsOf (profileOf (past .history))) (given .event .kind) .known)
+      cond (kindRowOf (limitsOf (profileOf (past .history))) (given .event .kind) .known)
       (timeNumber (timeOf (past .history)) (given .event .time))
       kindUnknown
 
@@ -100,7 +100,7 @@ module _ (past : Past) (given : Given) where
   untimely-early : timeNumber (timeOf (past .history)) (given .event .time) ≢ accepted → earlyBy past given ≡ refusedAs
   unfolding firstThatApplies timeNumber
   untimely-early refused =
-      byBool (rowOf (limitsOf (profileOf (past .history))) (given .event .kind) .known)
+      byBool (kindRowOf (limitsOf (profileOf (past .history))) (given .event .kind) .known)
       (λ k. byBool (leb timeLimit (given .event .time))
       (λ l. rw (k, l))
       (λ l. byBool (ltb (given .event .time) (timeOf (past .history)))
@@ -110,7 +110,7 @@ module _ (past : Past) (given : Given) where
 
   refusedAs-within : timeNumber (timeOf (past .history)) (given .event .time) ≢ accepted → OneToThirteen refusedAs
   refusedAs-within refused =
-      byBool (rowOf (limitsOf (profileOf (past .history))) (given .event .kind) .known)
+      byBool (kindRowOf (limitsOf (profileOf (past .history))) (given .event .kind) .known)
       (λ k. rw k (timeNumber-within _ _ refused))
       (λ k. rw k (record { least = omega arith; most = omega arith }))
 

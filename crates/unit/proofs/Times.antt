@@ -8,7 +8,7 @@ use lib.Dec.{eqb}
 use borrow.Author.Tests.{eq-eqb, ne-eqb}
 use Rattle.numbers.specs.declared.quality.Quality.{Quality}
 use Rattle.numbers.specs.From.{started, _following_, profileOf}
-use Rattle.numbers.specs.Kind.{rowOf}
+use Rattle.numbers.specs.Kind.{kindRowOf}
 use Rattle.numbers.specs.Profile.{limitsOf}
 use Rattle.numbers.specs.Refusal.{accepted, kindUnknown, timeTooLarge, timeBeforeState}
 use Rattle.input.specs.Recorded.{timeOf}
@@ -120,7 +120,7 @@ module _ (half : Half) (addressed : Addressed) (earlier : UnitSequence) where
   -- 2 where the kind is unknown, otherwise 3 or 4
   number-refused : timed ≢ accepted
       → numberWith true (addressed .given) own ≡
-      cond (rowOf (limitsOf (profileOf earlier)) (addressed .given .event .kind) .known) timed kindUnknown
+      cond (kindRowOf (limitsOf (profileOf earlier)) (addressed .given .event .kind) .known) timed kindUnknown
   number-refused refused =
       let untimely : timeNumber (timeAfter own) (timeIn addressed) ≢ accepted = λ e. refused (sym own-timed ∙ e) in
       let profile : profileOf (recorded first) ≡ profileOf earlier =
@@ -132,7 +132,7 @@ module _ (half : Half) (addressed : Addressed) (earlier : UnitSequence) where
       own-timed
       in
       untimely-number first (addressed .given) (refused-again own (addressed .given) untimely) ∙
-      (λ j. cond (rowOf (limitsOf (profile j)) (addressed .given .event .kind) .known) (same j) kindUnknown)
+      (λ j. cond (kindRowOf (limitsOf (profile j)) (addressed .given .event .kind) .known) (same j) kindUnknown)
 
   -- neither 3 nor 4 where it passes
   number-passed : (goes : Bool) (number : ℕ) → timeTooLarge ≤ number → number ≤ timeBeforeState → timed ≡ accepted

@@ -11,7 +11,7 @@ use Rattle.numbers.specs.declared.profile.Limits.{Limits}
 use Rattle.numbers.specs.declared.profile.Profile.{Profile}
 use Rattle.numbers.specs.declared.quality.Quality.{Quality}
 use Rattle.numbers.specs.Kind.{kindWord}
-use Rattle.numbers.specs.Profile.{limitsOf, placeOf, profileIn, startNumber}
+use Rattle.numbers.specs.Profile.{limitsOf, provPlaceOf, profileIn, startNumber}
 use Rattle.numbers.specs.Quality.{quality, prc}
 use Rattle.numbers.specs.Refusal.{accepted, argumentOutOfRange, frameLength}
 use Rattle.numbers.specs.Rows.{firstThatApplies}
@@ -43,14 +43,14 @@ module _ (profile : Profile) (minimum : Quality) (limits : Limits) where
 
 pub ruleset isMinimum-laws = (isMinimum-none, isMinimum-some)
 
-module _ (option place : ℕ) (minimum : Quality) (profile : Profile) (p : profile ≡ profileIn option place 0)
+module _ (option provplace : ℕ) (minimum : Quality) (profile : Profile) (p : profile ≡ profileIn option provplace 0)
     (within : Bool) (w : within ≡ isMinimum profile minimum) where
-  pub unitStartNumber-within : (number : ℕ) → within ≡ true → number ≡ startNumber option place
-      → number ≡ unitStartNumber option place minimum
+  pub unitStartNumber-within : (number : ℕ) → within ≡ true → number ≡ startNumber option provplace
+      → number ≡ unitStartNumber option provplace minimum
   unfolding unitStartNumber
   unitStartNumber-within number in-range n = n ∙ (rw (← p, ← w, in-range))
 
-  pub unitStartNumber-out : within ≡ false → argumentOutOfRange ≡ unitStartNumber option place minimum
+  pub unitStartNumber-out : within ≡ false → argumentOutOfRange ≡ unitStartNumber option provplace minimum
   unfolding unitStartNumber
   unitStartNumber-out out = rw (← p, ← w, out)
 
@@ -195,10 +195,11 @@ module _ (answer : Answer) (mode : Bool) (profile : Profile) (minimum : Quality)
   pub squelchedBy-unlocked : (answer .clockstate ≡ locked → ⊥) → true ≡ squelchedBy answer mode profile minimum
   squelchedBy-unlocked n = rw (ne-eqb (answer .clockstate) locked n)
 
-  pub squelchedBy-mode : (place : ℕ) (worst passed : Rank) → answer .clockstate ≡ locked → mode ≡ true
-      → place ≡ placeOf profile → worst ≡ rankOf place minimum → passed ≡ rankOf place (quality (answer .clockquality))
+  pub squelchedBy-mode : (provplace : ℕ) (worst passed : Rank) → answer .clockstate ≡ locked → mode ≡ true
+      → provplace ≡ provPlaceOf profile → worst ≡ rankOf provplace minimum
+      → passed ≡ rankOf provplace (quality (answer .clockquality))
       → ltb (worst .0) (passed .0) ≡ squelchedBy answer mode profile minimum
-  squelchedBy-mode place worst passed l m p w q = rw (eq-eqb (answer .clockstate) locked l, m, ← p, ← w, ← q)
+  squelchedBy-mode provplace worst passed l m p w q = rw (eq-eqb (answer .clockstate) locked l, m, ← p, ← w, ← q)
 
   pub squelchedBy-off : answer .clockstate ≡ locked → mode ≡ false → false ≡ squelchedBy answer mode profile minimum
   squelchedBy-off l m = rw (eq-eqb (answer .clockstate) locked l, m)

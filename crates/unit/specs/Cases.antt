@@ -20,7 +20,7 @@ pub record Starts : Type 0 where
   pub firstTwo : unitStartNumber optionTwo 0 (quality 1) ≡ accepted
   pub lastTwo : unitStartNumber optionTwo 8 (quality 8) ≡ accepted
   pub aboveTwo : unitStartNumber optionTwo 0 (quality 9) ≡ argumentOutOfRange
-  pub place : unitStartNumber optionTwo 9 (quality 4) ≡ argumentOutOfRange
+  pub provplace : unitStartNumber optionTwo 9 (quality 4) ≡ argumentOutOfRange
   pub both : unitStartNumber optionTwo 9 (quality 9) ≡ argumentOutOfRange
 
 -- "a minimum set at the start (1 to 4, option II 1 to 8, otherwise 6 and no start)", of a unit that is kept by value

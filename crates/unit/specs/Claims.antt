@@ -6,7 +6,7 @@ use mathlib.Core.Path.{_≡_}
 use Rattle.numbers.specs.declared.profile.Profile.{Profile}
 use Rattle.numbers.specs.declared.quality.Quality.{Quality}
 use Rattle.numbers.specs.From.{started, _following_, profileOf}
-use Rattle.numbers.specs.Kind.{rowOf}
+use Rattle.numbers.specs.Kind.{kindRowOf}
 use Rattle.numbers.specs.Profile.{limitsOf}
 use Rattle.numbers.specs.Quality.{quality, prov}
 use Rattle.numbers.specs.Refusal.{accepted, kindUnknown, timeTooLarge, timeBeforeState}
@@ -61,7 +61,7 @@ pub record OneTime (minimum : Quality) (half : Half) (addressed : Addressed) (ea
   -- "and checks 3 and 4 against it": where the time does not pass, a known kind is 3 or 4; one that is unknown is 2
   pub refused : timeNumber (unitTime earlier) (timeIn addressed) ≢ accepted → isFor half addressed earlier ≡ true
       → halfNumber minimum half addressed earlier ≡
-      cond (rowOf (limitsOf (profileOf earlier)) (addressed .given .event .kind) .known)
+      cond (kindRowOf (limitsOf (profileOf earlier)) (addressed .given .event .kind) .known)
       (timeNumber (unitTime earlier) (timeIn addressed))
       kindUnknown
   -- and where it passes, neither is given
@@ -112,9 +112,9 @@ pub record OutputRight (minimum : Quality) (sequence : UnitSequence) : Type 0 wh
   pub sent : outputs minimum sequence ≡ ownOutputs minimum sequence
 
 -- "worse than a minimum" of PROV: placed at a number, it is exactly if that is the minimum's or larger
-pub record ProvWorse (place minimum : ℕ) : Type 0 where
-  pub exact : 1 ≤ place → minimum ≤ 8
-      → (rankOf place (quality minimum) .0 < rankOf place prov .0) ↔ (minimum ≤ place)
+pub record ProvWorse (provplace minimum : ℕ) : Type 0 where
+  pub exact : 1 ≤ provplace → minimum ≤ 8
+      → (rankOf provplace (quality minimum) .0 < rankOf provplace prov .0) ↔ (minimum ≤ provplace)
 
 -- ---- two runs
 

@@ -10,7 +10,7 @@ use Rattle.unit.specs.Kept.{Unit, UnitStarted, UnitStepped}
 
 -- a selector
 abbrev pub stateIn : StateHeld → Selector
-stateIn held = selectorAt (held .times) (held .small) (held .words)
+stateIn held = selectorAt (held .times) (held .small) (held .wider)
 
 -- the unit
 abbrev pub unitIn : UnitHeld → Unit

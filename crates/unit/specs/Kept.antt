@@ -8,7 +8,7 @@ use Rattle.numbers.specs.declared.Answer.{Answer}
 use Rattle.numbers.specs.declared.Event.{Event}
 use Rattle.numbers.specs.declared.profile.Profile.{Profile}
 use Rattle.numbers.specs.declared.quality.Quality.{Quality}
-use Rattle.numbers.specs.Profile.{limitsOf, placeOf}
+use Rattle.numbers.specs.Profile.{limitsOf, provPlaceOf}
 use Rattle.numbers.specs.Quality.{quality, prc}
 use Rattle.numbers.specs.Refusal.{accepted, argumentOutOfRange}
 use Rattle.frame.specs.declared.FrameRead.{FrameRead}
@@ -86,9 +86,9 @@ stepUnit unit to event frame = stepUnitRead unit to event (readCode frame)
 -- tells is worse than the minimum
 abbrev pub squelchedBy : Answer → Bool → Profile → Quality → Bool
 squelchedBy answer mode profile minimum =
-    let place = placeOf profile in
+    let provplace = provPlaceOf profile in
     not (eqb (answer .clockstate) locked) ||
-    (mode && ltb (rankOf place minimum .0) (rankOf place (quality (answer .clockquality)) .0))
+    (mode && ltb (rankOf provplace minimum .0) (rankOf provplace (quality (answer .clockquality)) .0))
 
 -- the source identifier of an output that squelches, or doesn't
 abbrev pub sourceBy : Bool → Answer → ℕ

@@ -13,7 +13,7 @@ use Rattle.numbers.specs.declared.quality.Quality.{Quality}
 use Rattle.numbers.specs.From.{From, started, _following_, profileOf}
 use Rattle.numbers.specs.Inputs.{timeLimit}
 use Rattle.numbers.specs.Kind.{kindSignal, kindFrame, kindLineCode, kindWord, kindInputKind, kindTick}
-use Rattle.numbers.specs.Profile.{limitsOf, placeOf, profileIn, startNumber}
+use Rattle.numbers.specs.Profile.{limitsOf, provPlaceOf, profileIn, startNumber}
 use Rattle.numbers.specs.Rows.{refusal, firstThatApplies}
 use Rattle.numbers.specs.Refusal.{accepted, timeTooLarge, timeBeforeState, argumentOutOfRange}
 use Rattle.input.specs.Recorded.{modeOn}
@@ -35,8 +35,8 @@ isMinimum profile minimum = leb 1 (minimum .0) && leb (minimum .0) (limitsOf pro
 -- "otherwise 6 and no start": the number that a start with an option's number, a place's and a minimum is answered
 -- with; the place of PROV has its own range
 unfoldable pub unitStartNumber : ℕ → ℕ → Quality → ℕ
-unitStartNumber option place minimum =
-    cond (isMinimum (profileIn option place 0) minimum) (startNumber option place) argumentOutOfRange
+unitStartNumber option provplace minimum =
+    cond (isMinimum (profileIn option provplace 0) minimum) (startNumber option provplace) argumentOutOfRange
 
 -- ---- which selector an event goes to
 
@@ -138,7 +138,7 @@ unitTime (addressed following earlier) =
 
 -- how a quality ranks, PROV where the profile places it
 abbrev pub rankIn : Past → Quality → ℕ
-rankIn past told = rankOf (placeOf (profileOf (past .history))) told .0
+rankIn past told = rankOf (provPlaceOf (profileOf (past .history))) told .0
 
 -- "the selected input's passed quality is worse than a minimum", by the ranking
 pub record WorseThan (minimum : Quality) (past : Past) : Type 0 where

@@ -7,7 +7,7 @@ use crate::is_minimum;
 use frame::FrameRead;
 use inplace::SMALL;
 use inplace::TIMES;
-use inplace::WORDS;
+use inplace::WIDER;
 use inplace::profile_at;
 use inplace::start;
 use numbers::Event;
@@ -26,7 +26,7 @@ ghost use Rattle.unit.specs.Held.{stateIn, unitIn, startedIn, steppedIn}
 pub struct StateHeld {
     pub times: [u64; TIMES],
     pub small: [u8; SMALL],
-    pub words: [u16; WORDS],
+    pub wider: [u16; WIDER],
 }
 
 // The unit: a selector for the equipment clock, one for the station output, and the worst quality
@@ -57,12 +57,12 @@ fn fresh_state(profile: Profile) -> StateHeld
 {
     let mut times = [0u64; TIMES];
     let mut small = [0u8; SMALL];
-    let mut words = [0u16; WORDS];
-    start(&mut times, &mut small, &mut words, profile);
+    let mut wider = [0u16; WIDER];
+    start(&mut times, &mut small, &mut wider, profile);
     StateHeld {
         times,
         small,
-        words,
+        wider,
     }
 }
 
@@ -103,18 +103,18 @@ pub fn step_unit(unit: UnitHeld, to: Half, event: Event, read: FrameRead) -> Uni
     let minimum = unit.minimum;
     let mut times = equipment.times;
     let mut small = equipment.small;
-    let mut words = equipment.words;
+    let mut wider = equipment.wider;
     let mut station_times = station.times;
     let mut station_small = station.small;
-    let mut station_words = station.words;
-    let profile = profile_at(&small, &words);
+    let mut station_words = station.wider;
+    let profile = profile_at(&small, &wider);
     let limits = limits_of(profile);
     let to_equipment = goes_to(limits, event.kind, to, Half::Equipment);
     let to_station = goes_to(limits, event.kind, to, Half::Station);
     let one = half_step(
         &mut times,
         &mut small,
-        &mut words,
+        &mut wider,
         to_equipment,
         event,
         read,
@@ -134,12 +134,12 @@ pub fn step_unit(unit: UnitHeld, to: Half, event: Event, read: FrameRead) -> Uni
             equipment: StateHeld {
                 times,
                 small,
-                words,
+                wider,
             },
             station: StateHeld {
                 times: station_times,
                 small: station_small,
-                words: station_words,
+                wider: station_words,
             },
             minimum,
         },

@@ -10,7 +10,7 @@ use choice::rank_of;
 use frame::FrameRead;
 use inplace::SMALL;
 use inplace::TIMES;
-use inplace::WORDS;
+use inplace::WIDER;
 use numbers::Answer;
 use numbers::Event;
 use numbers::kind::KIND_FRAME;
@@ -22,8 +22,8 @@ use numbers::kind::KIND_WORD;
 use numbers::profile::Limits;
 use numbers::profile::Profile;
 use numbers::profile::limits_of;
-use numbers::profile::place_of;
 use numbers::profile::profile_in;
+use numbers::profile::prov_place_of;
 use numbers::profile::start_number;
 use numbers::quality::Quality;
 use numbers::refusal::ARGUMENT_OUT_OF_RANGE;
@@ -55,11 +55,11 @@ pub fn is_minimum(profile: Profile, minimum: Quality) -> bool
 
 // The number that a start with an option's number, a place's and a minimum is answered with: 6
 // where the minimum or the place of PROV is out of range, and then there is none.
-pub fn unit_start_number(option: u8, place: u8, minimum: Quality) -> u8
-    ensures { λ answer. ⌜ answer ≡ unitStartNumber option place minimum ⌝ }
+pub fn unit_start_number(option: u8, provplace: u8, minimum: Quality) -> u8
+    ensures { λ answer. ⌜ answer ≡ unitStartNumber option provplace minimum ⌝ }
 {
-    if is_minimum(profile_in(option, place, 0), minimum) {
-        return start_number(option, place);
+    if is_minimum(profile_in(option, provplace, 0), minimum) {
+        return start_number(option, provplace);
     }
     ARGUMENT_OUT_OF_RANGE
 }
@@ -111,17 +111,17 @@ pub fn goes_to(limits: Limits, kind: u8, to: Half, half: Half) -> bool
 pub fn half_step(
     times: &mut [u64; TIMES],
     small: &mut [u8; SMALL],
-    words: &mut [u16; WORDS],
+    wider: &mut [u16; WIDER],
     goes: bool,
     event: Event,
     read: FrameRead,
 ) -> u8
     ensures { λ number. ⌜
         (number ≡
-        halfStep (selectorAt (now (times .entry)) (now (small .entry)) (now (words .entry)))
+        halfStep (selectorAt (now (times .entry)) (now (small .entry)) (now (wider .entry)))
         goes event read .number) ×
-        (selectorAt (now (times .exit)) (now (small .exit)) (now (words .exit)) ≡
-        halfStep (selectorAt (now (times .entry)) (now (small .entry)) (now (words .entry)))
+        (selectorAt (now (times .exit)) (now (small .exit)) (now (wider .exit)) ≡
+        halfStep (selectorAt (now (times .entry)) (now (small .entry)) (now (wider .entry)))
         goes event read .state) ⌝ }
 {
     let tick = Event {
@@ -131,9 +131,9 @@ pub fn half_step(
         argument: 0,
     };
     let none = FrameRead::Refused(FRAME_LENGTH);
-    let ticked = step_read(times, small, words, tick, none);
+    let ticked = step_read(times, small, wider, tick, none);
     if goes {
-        let after = step_read(times, small, words, event, read);
+        let after = step_read(times, small, wider, event, read);
         return after.number;
     }
     ticked.number
@@ -149,9 +149,9 @@ pub fn squelches(answer: Answer, mode: bool, profile: Profile, minimum: Quality)
         return true;
     }
     if mode {
-        let place = place_of(profile);
-        let worst = rank_of(place, minimum);
-        let passed = rank_of(place, Quality(answer.clockquality));
+        let provplace = prov_place_of(profile);
+        let worst = rank_of(provplace, minimum);
+        let passed = rank_of(provplace, Quality(answer.clockquality));
         return worst.0 < passed.0;
     }
     false

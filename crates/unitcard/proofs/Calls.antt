@@ -15,7 +15,7 @@ use Rattle.numbers.specs.declared.profile.Profile.{Profile}
 use Rattle.numbers.specs.declared.quality.Quality.{Quality}
 use Rattle.numbers.specs.From.{started, _following_}
 use Rattle.numbers.specs.Kind.{flag}
-use Rattle.numbers.specs.Profile.{limitsOf, lastPlace, optionTwo, startNumber, profileIn}
+use Rattle.numbers.specs.Profile.{limitsOf, lastProvPlace, optionTwo, startNumber, profileIn}
 use Rattle.numbers.specs.Quality.{quality}
 use Rattle.numbers.specs.Refusal.{accepted, argumentOutOfRange}
 use Rattle.numbers.proofs.Truth.{byBool}
@@ -78,27 +78,28 @@ refused-number false above refused = refl
 refused-number true true refused = refl
 refused-number true false refused = absurd (refused refl)
 
-unitStart-refused : (option place : ℕ) (minimum : Quality) → unitStartNumber option place minimum ≢ accepted
-    → unitStartNumber option place minimum ≡ argumentOutOfRange
+unitStart-refused : (option provplace : ℕ) (minimum : Quality) → unitStartNumber option provplace minimum ≢ accepted
+    → unitStartNumber option provplace minimum ≡ argumentOutOfRange
 unfolding unitStartNumber startNumber
-unitStart-refused option place minimum =
-    refused-number (isMinimum (profileIn option place 0) minimum) (eqb option optionTwo && ltb lastPlace place)
+unitStart-refused option provplace minimum =
+    refused-number (isMinimum (profileIn option provplace 0) minimum)
+    (eqb option optionTwo && ltb lastProvPlace provplace)
 
 -- A minimum, a place or an option that is out of range starts nothing, and any other start is where calls in a row begin.
-pub unit-start-right : (lent : LentUnit) (option place marks minimum : ℕ)
-    → UnitStartRight lent option place marks minimum
+pub unit-start-right : (lent : LentUnit) (option provplace marks minimum : ℕ)
+    → UnitStartRight lent option provplace marks minimum
 unfolding startLentUnit unitLentAfter
-unit-start-right lent option place marks minimum =
+unit-start-right lent option provplace marks minimum =
     record {
       refused = λ refused.
           byBool (namesOption option)
           (λ named.
-          rw (named, ne-eqb (unitStartNumber option place (quality minimum)) accepted refused)
-          (ap (withNumbers lent) (unitStart-refused option place (quality minimum) refused)))
+          rw (named, ne-eqb (unitStartNumber option provplace (quality minimum)) accepted refused)
+          (ap (withNumbers lent) (unitStart-refused option provplace (quality minimum) refused)))
           (λ other. rw other);
       neither = λ one two. rw (names-neither option one two);
       starts = λ named starts.
-          rw (named, eq-eqb (unitStartNumber option place (quality minimum)) accepted starts);
+          rw (named, eq-eqb (unitStartNumber option provplace (quality minimum)) accepted starts);
     }
 
 -- ---- calls in a row

@@ -30,14 +30,14 @@ record NamedUnit (unit : Unit) : Type 0 where
   station : Named (unit .station)
 
 -- of any unit in C's hands
-unitIn-named : (times small words due told stationTimes stationSmall stationWords stationDue stationTold sent : List ℕ)
+unitIn-named : (times small wider due told stationTimes stationSmall stationWider stationDue stationTold sent : List ℕ)
     → NamedUnit
-    (unitIn (lentAt times small words due told stationTimes stationSmall stationWords stationDue stationTold sent))
+    (unitIn (lentAt times small wider due told stationTimes stationSmall stationWider stationDue stationTold sent))
 unfolding lentAt watchAt
-unitIn-named times small words due told stationTimes stationSmall stationWords stationDue stationTold sent =
+unitIn-named times small wider due told stationTimes stationSmall stationWider stationDue stationTold sent =
     record {
-      equipment = selectorAt-named times small words;
-      station = selectorAt-named stationTimes stationSmall stationWords;
+      equipment = selectorAt-named times small wider;
+      station = selectorAt-named stationTimes stationSmall stationWider;
     }
 
 -- a step of a half leaves such a state
@@ -103,15 +103,15 @@ step-unread lent half kind time input argument frame other none = rw (readFor-un
 -- Whatever unit came in, C may index by what it reads; and what is lent beside another event than a frame changes
 -- nothing.
 pub any-lent-unit :
-    (times small words due told stationTimes stationSmall stationWords stationDue stationTold sent : List ℕ)
+    (times small wider due told stationTimes stationSmall stationWider stationDue stationTold sent : List ℕ)
     (half kind time input argument : ℕ) (frame : List ℕ)
-    → AnyLentUnit times small words due told stationTimes stationSmall stationWords stationDue stationTold sent
+    → AnyLentUnit times small wider due told stationTimes stationSmall stationWider stationDue stationTold sent
     half kind time input argument frame
-any-lent-unit times small words due told stationTimes stationSmall stationWords stationDue stationTold sent
+any-lent-unit times small wider due told stationTimes stationSmall stationWider stationDue stationTold sent
     half kind time input argument frame =
-    let lent = lentAt times small words due told stationTimes stationSmall stationWords stationDue stationTold sent in
+    let lent = lentAt times small wider due told stationTimes stationSmall stationWider stationDue stationTold sent in
     let reads = step-reads lent half kind time input argument frame
-    (unitIn-named times small words due told stationTimes stationSmall stationWords stationDue stationTold sent) in
+    (unitIn-named times small wider due told stationTimes stationSmall stationWider stationDue stationTold sent) in
     record {
       inRange =
           record {

@@ -90,10 +90,10 @@ held-same one two sent unit equipment station o t s = λ j. held (o j) (t j) (s 
 
 -- ---- startLentUnit
 
-module _ (one two : Watch) (sent : List ℕ) (option place marks minimum : ℕ) (named : Bool)
+module _ (one two : Watch) (sent : List ℕ) (option provplace marks minimum : ℕ) (named : Bool)
     (is : named ≡ namesOption option) (after other : Watch) where
   abbrev started-from : LentUnit
-  started-from = startLentUnit (held one two sent) option place marks minimum
+  started-from = startLentUnit (held one two sent) option provplace marks minimum
 
   pub start-neither : named ≡ false → after ≡ withNumber one argumentOutOfRange
       → other ≡ withNumber two argumentOutOfRange
@@ -101,8 +101,8 @@ module _ (one two : Watch) (sent : List ℕ) (option place marks minimum : ℕ) 
   unfolding startLentUnit
   start-neither not-named a o = (λ j. held (a j) (o j) sent) ∙ (rw (← is, not-named))
 
-  module _ (chosen : named ≡ true) (profile : Profile) (p : profile ≡ profileIn option place marks) (number : ℕ)
-      (n : number ≡ unitStartNumber option place (quality minimum)) where
+  module _ (chosen : named ≡ true) (profile : Profile) (p : profile ≡ profileIn option provplace marks) (number : ℕ)
+      (n : number ≡ unitStartNumber option provplace (quality minimum)) where
     pub start-refused : (number ≡ accepted → ⊥) → after ≡ withNumber one number → other ≡ withNumber two number
         → held after other sent ≡ started-from
     unfolding startLentUnit
@@ -111,7 +111,7 @@ module _ (one two : Watch) (sent : List ℕ) (option place marks minimum : ℕ) 
         (rw (
           ← is,
           chosen,
-          ne-eqb (unitStartNumber option place (quality minimum)) accepted (λ e. not-taken (n ∙ e)),
+          ne-eqb (unitStartNumber option provplace (quality minimum)) accepted (λ e. not-taken (n ∙ e)),
         ))
 
     pub start-fresh : (new : List ℕ) → number ≡ accepted → after ≡ halfHeld accepted (freshSelector profile)
@@ -126,7 +126,7 @@ module _ (one two : Watch) (sent : List ℕ) (option place marks minimum : ℕ) 
         (rw (
           ← is,
           chosen,
-          eq-eqb (unitStartNumber option place (quality minimum)) accepted (sym n ∙ taken),
+          eq-eqb (unitStartNumber option provplace (quality minimum)) accepted (sym n ∙ taken),
         ))
 
 -- ---- stepLentUnit

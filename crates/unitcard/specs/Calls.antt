@@ -51,17 +51,17 @@ halfLatestBy half (started profile) = accepted
 halfLatestBy half (addressed following earlier) = ownNumber half addressed earlier
 
 -- a start in C's hands: where calls in a row begin
-pub record UnitStartRight (lent : LentUnit) (option place marks minimum : ℕ) : Type 0 where
+pub record UnitStartRight (lent : LentUnit) (option provplace marks minimum : ℕ) : Type 0 where
   -- "otherwise 6 and no start": the unit is as it was, but for the numbers
-  pub refused : unitStartNumber option place (quality minimum) ≢ accepted
-      → startLentUnit lent option place marks minimum ≡ withNumbers lent argumentOutOfRange
+  pub refused : unitStartNumber option provplace (quality minimum) ≢ accepted
+      → startLentUnit lent option provplace marks minimum ≡ withNumbers lent argumentOutOfRange
   -- nor does a number that is no option's start one
   pub neither : option ≢ optionOne → option ≢ optionTwo
-      → startLentUnit lent option place marks minimum ≡ withNumbers lent argumentOutOfRange
+      → startLentUnit lent option provplace marks minimum ≡ withNumbers lent argumentOutOfRange
   -- any other start leaves a fresh unit of its profile and minimum, whatever the unit held
-  pub starts : namesOption option ≡ true → unitStartNumber option place (quality minimum) ≡ accepted
-      → startLentUnit lent option place marks minimum ≡
-      unitLentAfter (quality minimum) (started (profileIn option place marks))
+  pub starts : namesOption option ≡ true → unitStartNumber option provplace (quality minimum) ≡ accepted
+      → startLentUnit lent option provplace marks minimum ≡
+      unitLentAfter (quality minimum) (started (profileIn option provplace marks))
 
 -- calls in a row are the unit's steps in a row
 pub record UnitLentRight (minimum : Quality) (sequence : UnitSequence) : Type 0 where

@@ -106,19 +106,19 @@ withNumbers lent number =
 -- what eleven lists hold: the equipment's five, the station's five, and what is sent
 unfoldable pub lentAt : List ℕ → List ℕ → List ℕ → List ℕ → List ℕ → List ℕ → List ℕ → List ℕ → List ℕ → List ℕ
     → List ℕ → LentUnit
-lentAt times small words due told stationTimes stationSmall stationWords stationDue stationTold sent =
+lentAt times small wider due told stationTimes stationSmall stationWider stationDue stationTold sent =
     record {
-      equipment = watchAt times small words due told;
-      station = watchAt stationTimes stationSmall stationWords stationDue stationTold;
+      equipment = watchAt times small wider due told;
+      station = watchAt stationTimes stationSmall stationWider stationDue stationTold;
       sent = sent;
     }
 
 -- "otherwise 6 and no start": a fresh unit, or the unit as it was with that number in both answers; and so with a number
 -- that is no option's
 unfoldable pub startLentUnit : LentUnit → ℕ → ℕ → ℕ → ℕ → LentUnit
-startLentUnit lent option place marks minimum =
-    let profile = profileIn option place marks in
-    let number = unitStartNumber option place (quality minimum) in
+startLentUnit lent option provplace marks minimum =
+    let profile = profileIn option provplace marks in
+    let number = unitStartNumber option provplace (quality minimum) in
     cond (not (namesOption option)) (withNumbers lent argumentOutOfRange)
     (cond (eqb number accepted) (unitHeld accepted accepted (freshUnit profile (quality minimum)))
     (withNumbers lent number))

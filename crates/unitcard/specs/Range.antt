@@ -21,9 +21,9 @@ pub record InRangeAfter (lent : LentUnit) (half kind time input argument : ℕ) 
 
 -- after any call, on any numbers at all
 pub record AnyLentUnit
-    (times small words due told stationTimes stationSmall stationWords stationDue stationTold sent : List ℕ)
+    (times small wider due told stationTimes stationSmall stationWider stationDue stationTold sent : List ℕ)
     (half kind time input argument : ℕ) (frame : List ℕ)
     : Type 0 where
   pub inRange : InRangeAfter
-      (lentAt times small words due told stationTimes stationSmall stationWords stationDue stationTold sent)
+      (lentAt times small wider due told stationTimes stationSmall stationWider stationDue stationTold sent)
       half kind time input argument frame

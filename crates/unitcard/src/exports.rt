@@ -13,7 +13,7 @@ use card::names_option;
 use card::read_for;
 use inplace::SMALL;
 use inplace::TIMES;
-use inplace::WORDS;
+use inplace::WIDER;
 use inplace::profile_at;
 use numbers::Event;
 use numbers::profile::limits_of;
@@ -59,50 +59,50 @@ pub extern "C" fn nurrispane_unit_octets_in() -> u32
 pub extern "C" fn nurrispane_unit_fresh_in(
     times: &mut [u64; TIMES],
     small: &mut [u8; SMALL],
-    words: &mut [u16; WORDS],
+    wider: &mut [u16; WIDER],
     due: &mut [u64; DUE],
     told: &mut [u8; TOLD],
     station_times: &mut [u64; TIMES],
     station_small: &mut [u8; SMALL],
-    station_words: &mut [u16; WORDS],
+    station_wider: &mut [u16; WIDER],
     station_due: &mut [u64; DUE],
     station_told: &mut [u8; TOLD],
     sent: &mut [u8; SENT],
     option: u8,
-    place: u8,
+    provplace: u8,
     marks: u16,
     minimum: u8,
 )
     ensures { λ _. ⌜
-        lentAt (now (times .exit)) (now (small .exit)) (now (words .exit)) (now (due .exit))
+        lentAt (now (times .exit)) (now (small .exit)) (now (wider .exit)) (now (due .exit))
         (now (told .exit)) (now («station_times» .exit)) (now («station_small» .exit))
-        (now («station_words» .exit)) (now («station_due» .exit)) (now («station_told» .exit))
+        (now («station_wider» .exit)) (now («station_due» .exit)) (now («station_told» .exit))
         (now (sent .exit)) ≡
         startLentUnit
-        (lentAt (now (times .entry)) (now (small .entry)) (now (words .entry)) (now (due .entry))
+        (lentAt (now (times .entry)) (now (small .entry)) (now (wider .entry)) (now (due .entry))
         (now (told .entry)) (now («station_times» .entry)) (now («station_small» .entry))
-        (now («station_words» .entry)) (now («station_due» .entry)) (now («station_told» .entry))
+        (now («station_wider» .entry)) (now («station_due» .entry)) (now («station_told» .entry))
         (now (sent .entry)))
-        option place marks minimum ⌝ }
+        option provplace marks minimum ⌝ }
 {
     if !names_option(option) {
         refuse_half(due, told, ARGUMENT_OUT_OF_RANGE);
         refuse_half(station_due, station_told, ARGUMENT_OUT_OF_RANGE);
         return;
     }
-    let profile = profile_in(option, place, marks);
-    let number = unit_start_number(option, place, Quality(minimum));
+    let profile = profile_in(option, provplace, marks);
+    let number = unit_start_number(option, provplace, Quality(minimum));
     if number == ACCEPTED {
-        start_half(times, small, words, due, told, profile);
+        start_half(times, small, wider, due, told, profile);
         start_half(
             station_times,
             station_small,
-            station_words,
+            station_wider,
             station_due,
             station_told,
             profile,
         );
-        send(station_times, station_small, station_words, sent, minimum);
+        send(station_times, station_small, station_wider, sent, minimum);
         return;
     }
     refuse_half(due, told, number);
@@ -116,12 +116,12 @@ pub extern "C" fn nurrispane_unit_fresh_in(
 pub extern "C" fn nurrispane_unit_step_in(
     times: &mut [u64; TIMES],
     small: &mut [u8; SMALL],
-    words: &mut [u16; WORDS],
+    wider: &mut [u16; WIDER],
     due: &mut [u64; DUE],
     told: &mut [u8; TOLD],
     station_times: &mut [u64; TIMES],
     station_small: &mut [u8; SMALL],
-    station_words: &mut [u16; WORDS],
+    station_wider: &mut [u16; WIDER],
     station_due: &mut [u64; DUE],
     station_told: &mut [u8; TOLD],
     sent: &mut [u8; SENT],
@@ -133,29 +133,29 @@ pub extern "C" fn nurrispane_unit_step_in(
     frame: &[u8],
 )
     ensures { λ _. ⌜
-        lentAt (now (times .exit)) (now (small .exit)) (now (words .exit)) (now (due .exit))
+        lentAt (now (times .exit)) (now (small .exit)) (now (wider .exit)) (now (due .exit))
         (now (told .exit)) (now («station_times» .exit)) (now («station_small» .exit))
-        (now («station_words» .exit)) (now («station_due» .exit)) (now («station_told» .exit))
+        (now («station_wider» .exit)) (now («station_due» .exit)) (now («station_told» .exit))
         (now (sent .exit)) ≡
         stepLentUnit
-        (lentAt (now (times .entry)) (now (small .entry)) (now (words .entry)) (now (due .entry))
+        (lentAt (now (times .entry)) (now (small .entry)) (now (wider .entry)) (now (due .entry))
         (now (told .entry)) (now («station_times» .entry)) (now («station_small» .entry))
-        (now («station_words» .entry)) (now («station_due» .entry)) (now («station_told» .entry))
+        (now («station_wider» .entry)) (now («station_due» .entry)) (now («station_told» .entry))
         (now (sent .entry)))
         half kind time input argument (now (frame .entry)) ⌝ }
 {
     let minimum = sent[0];
     if STATION < half {
-        tell_half(times, small, words, due, told, ARGUMENT_OUT_OF_RANGE);
+        tell_half(times, small, wider, due, told, ARGUMENT_OUT_OF_RANGE);
         tell_half(
             station_times,
             station_small,
-            station_words,
+            station_wider,
             station_due,
             station_told,
             ARGUMENT_OUT_OF_RANGE,
         );
-        send(station_times, station_small, station_words, sent, minimum);
+        send(station_times, station_small, station_wider, sent, minimum);
         return;
     }
     let event = Event {
@@ -166,20 +166,20 @@ pub extern "C" fn nurrispane_unit_step_in(
     };
     let to = half_in(half);
     let read = read_for(kind, frame);
-    let profile = profile_at(small, words);
+    let profile = profile_at(small, wider);
     let limits = limits_of(profile);
     let to_equipment = goes_to(limits, kind, to, Half::Equipment);
     let to_station = goes_to(limits, kind, to, Half::Station);
-    step_half(times, small, words, due, told, to_equipment, event, read);
+    step_half(times, small, wider, due, told, to_equipment, event, read);
     step_half(
         station_times,
         station_small,
-        station_words,
+        station_wider,
         station_due,
         station_told,
         to_station,
         event,
         read,
     );
-    send(station_times, station_small, station_words, sent, minimum);
+    send(station_times, station_small, station_wider, sent, minimum);
 }

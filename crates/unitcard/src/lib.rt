@@ -9,7 +9,7 @@ pub mod exports;
 use frame::FrameRead;
 use inplace::SMALL;
 use inplace::TIMES;
-use inplace::WORDS;
+use inplace::WIDER;
 use inplace::answer_at;
 use inplace::mode_at;
 use inplace::next_due;
@@ -60,19 +60,19 @@ fn half_in(half: u8) -> Half
 fn tell_half(
     times: &[u64; TIMES],
     small: &[u8; SMALL],
-    words: &[u16; WORDS],
+    wider: &[u16; WIDER],
     due: &mut [u64; DUE],
     told: &mut [u8; TOLD],
     number: u8,
 )
     ensures { λ _. ⌜
-        watchAt (now (times .entry)) (now (small .entry)) (now (words .entry)) (now (due .exit))
+        watchAt (now (times .entry)) (now (small .entry)) (now (wider .entry)) (now (due .exit))
         (now (told .exit)) ≡
         halfHeld number
-        (selectorAt (now (times .entry)) (now (small .entry)) (now (words .entry))) ⌝ }
+        (selectorAt (now (times .entry)) (now (small .entry)) (now (wider .entry))) ⌝ }
 {
-    let next = next_due(times, small, words);
-    let answer = answer_at(times, small, words, number);
+    let next = next_due(times, small, wider);
+    let answer = answer_at(times, small, wider, number);
     tell(due, told, next, answer, 0);
 }
 
@@ -80,7 +80,7 @@ fn tell_half(
 fn step_half(
     times: &mut [u64; TIMES],
     small: &mut [u8; SMALL],
-    words: &mut [u16; WORDS],
+    wider: &mut [u16; WIDER],
     due: &mut [u64; DUE],
     told: &mut [u8; TOLD],
     goes: bool,
@@ -88,32 +88,32 @@ fn step_half(
     read: FrameRead,
 )
     ensures { λ _. ⌜
-        watchAt (now (times .exit)) (now (small .exit)) (now (words .exit)) (now (due .exit))
+        watchAt (now (times .exit)) (now (small .exit)) (now (wider .exit)) (now (due .exit))
         (now (told .exit)) ≡
         steppedHeld
-        (halfStep (selectorAt (now (times .entry)) (now (small .entry)) (now (words .entry)))
+        (halfStep (selectorAt (now (times .entry)) (now (small .entry)) (now (wider .entry)))
         goes event read) ⌝ }
 {
-    let number = half_step(times, small, words, goes, event, read);
-    tell_half(times, small, words, due, told, number);
+    let number = half_step(times, small, wider, goes, event, read);
+    tell_half(times, small, wider, due, told, number);
 }
 
 // A fresh half of a profile, whatever its arrays held, and what it answers.
 fn start_half(
     times: &mut [u64; TIMES],
     small: &mut [u8; SMALL],
-    words: &mut [u16; WORDS],
+    wider: &mut [u16; WIDER],
     due: &mut [u64; DUE],
     told: &mut [u8; TOLD],
     profile: Profile,
 )
     ensures { λ _. ⌜
-        watchAt (now (times .exit)) (now (small .exit)) (now (words .exit)) (now (due .exit))
+        watchAt (now (times .exit)) (now (small .exit)) (now (wider .exit)) (now (due .exit))
         (now (told .exit)) ≡
         halfHeld accepted (freshSelector profile) ⌝ }
 {
-    start(times, small, words, profile);
-    tell_half(times, small, words, due, told, ACCEPTED);
+    start(times, small, wider, profile);
+    tell_half(times, small, wider, due, told, ACCEPTED);
 }
 
 // Another number in what a half answers, all else as it was.
@@ -130,18 +130,18 @@ fn refuse_half(due: &mut [u64; DUE], told: &mut [u8; TOLD], number: u8)
 fn send(
     times: &[u64; TIMES],
     small: &[u8; SMALL],
-    words: &[u16; WORDS],
+    wider: &[u16; WIDER],
     sent: &mut [u8; SENT],
     minimum: u8,
 )
     ensures { λ _. ⌜
         now (sent .exit) ≡
-        sentBy (selectorAt (now (times .entry)) (now (small .entry)) (now (words .entry)))
+        sentBy (selectorAt (now (times .entry)) (now (small .entry)) (now (wider .entry)))
         (quality minimum) ⌝ }
 {
-    let answer = answer_at(times, small, words, ACCEPTED);
+    let answer = answer_at(times, small, wider, ACCEPTED);
     let mode = mode_at(small);
-    let profile = profile_at(small, words);
+    let profile = profile_at(small, wider);
     let squelched = squelches(answer, mode, profile, Quality(minimum));
     let source = source_by(squelched, answer);
     let new = [minimum, squelched as u8, source];

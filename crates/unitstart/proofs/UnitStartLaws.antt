@@ -6,7 +6,7 @@ use mathlib.Core.Path.{_≡_, refl, sym, ap, _∙_}
 use native.Mathlib.Omega.{arith}
 use lib.Dec.{eqb}
 use borrow.Author.Tests.{eq-eqb, ne-eqb, lt-leb, le-leb, not-true, not-false}
-use Rattle.numbers.specs.declared.profile.Place.{Place}
+use Rattle.numbers.specs.declared.profile.ProvPlace.{ProvPlace}
 use Rattle.numbers.specs.declared.profile.Profile.{Profile}
 use Rattle.numbers.specs.declared.profile.Profile.the-variants as P
 use Rattle.numbers.specs.declared.quality.Quality.{Quality}
@@ -43,7 +43,7 @@ pub ruleset unitStartOf-laws = (unitStartOf-started, unitStartOf-refused)
 floor-below : (profile : Profile) → limitsOf profile .floor ≤ 255
 unfolding limitsOf
 floor-below P.OptionOne = omega arith
-floor-below (P.OptionTwo place marks) = omega arith
+floor-below (P.OptionTwo provplace marks) = omega arith
 
 -- a minimum above 255 is out of range
 minimum-above : (profile : Profile) (value : ℕ) → 255 < value → Refused ≡ unitStartOf profile (quality value)
@@ -71,11 +71,11 @@ module _ (profile : Profile) (minimum : List ℕ) (decimal : isDecimal minimum �
 -- ---- unitStartTwo
 
 module _ (start : StartRead) (minimum : Quality) where
-  pub two-started : (place : Place) (marks : ℕ) (answer : UnitStart) → start ≡ S.Started place marks
-      → answer ≡ unitStartOf (P.OptionTwo place marks) minimum
+  pub two-started : (provplace : ProvPlace) (marks : ℕ) (answer : UnitStart) → start ≡ S.Started provplace marks
+      → answer ≡ unitStartOf (P.OptionTwo provplace marks) minimum
       → answer ≡ unitStartTwo start minimum
   unfolding unitStartTwo
-  two-started place marks answer is same = same ∙ (rw is)
+  two-started provplace marks answer is same = same ∙ (rw is)
 
   pub two-refused : start ≡ S.Refused → Refused ≡ unitStartTwo start minimum
   unfolding unitStartTwo
@@ -89,23 +89,23 @@ pub ruleset unitStartTwo-laws = (two-started, two-refused, two-none)
 
 -- ---- unitStartIn, unitStartBy
 
-module _ (option place marks minimum : List ℕ) (decimal : Bool) (test : decimal ≡ isDecimal minimum) where
-  pub in-minimum : not decimal ≡ true → NoStart ≡ unitStartIn option place marks minimum
+module _ (option provplace marks minimum : List ℕ) (decimal : Bool) (test : decimal ≡ isDecimal minimum) where
+  pub in-minimum : not decimal ≡ true → NoStart ≡ unitStartIn option provplace marks minimum
   unfolding unitStartIn
   in-minimum none = rw (sym test ∙ not-true decimal none)
 
   pub in-one : (one : Bool) (start : UnitStart) → not decimal ≡ false → one ≡ isOptionWord numeral1 option → one ≡ true
       → start ≡ unitStartOf P.OptionOne (quality (decimalValue 0 minimum))
-      → start ≡ unitStartIn option place marks minimum
+      → start ≡ unitStartIn option provplace marks minimum
   unfolding unitStartIn
   in-one one start holds is taken same = same ∙ (rw (sym test ∙ not-false decimal holds, sym is ∙ taken))
 
   pub in-two : (one : Bool) (read : StartRead) (start : UnitStart) → not decimal ≡ false
       → one ≡ isOptionWord numeral1 option
       → one ≡ false
-      → read ≡ startIn option place marks
+      → read ≡ startIn option provplace marks
       → start ≡ unitStartTwo read (quality (decimalValue 0 minimum))
-      → start ≡ unitStartIn option place marks minimum
+      → start ≡ unitStartIn option provplace marks minimum
   unfolding unitStartIn
   in-two one read start holds is left reads same =
       same ∙ (rw (sym test ∙ not-false decimal holds, sym is ∙ left, reads))
@@ -117,13 +117,13 @@ pub minimum-holds : (minimum : List ℕ) (decimal : Bool) → decimal ≡ isDeci
     → isDecimal minimum ≡ true
 minimum-holds minimum decimal is holds = sym is ∙ not-false decimal holds
 
-module _ (count : ℕ) (option place marks minimum : List ℕ) where
-  pub by-other : (count ≡ 5 → ⊥) → NoStart ≡ unitStartBy count option place marks minimum
+module _ (count : ℕ) (option provplace marks minimum : List ℕ) where
+  pub by-other : (count ≡ 5 → ⊥) → NoStart ≡ unitStartBy count option provplace marks minimum
   unfolding unitStartBy
   by-other other = rw (ne-eqb count 5 other)
 
-  pub by-words : (start : UnitStart) → count ≡ 5 → start ≡ unitStartIn option place marks minimum
-      → start ≡ unitStartBy count option place marks minimum
+  pub by-words : (start : UnitStart) → count ≡ 5 → start ≡ unitStartIn option provplace marks minimum
+      → start ≡ unitStartBy count option provplace marks minimum
   unfolding unitStartBy
   by-words start five is = is ∙ (rw (eq-eqb count 5 five))
 
@@ -143,12 +143,12 @@ of-ranged profile minimum = byBool (isMinimum profile minimum) (λ taken. rw (ta
 
 two-ranged : (start : StartRead) (minimum : Quality) → inRange (unitStartTwo start minimum) ≡ true
 unfolding unitStartTwo
-two-ranged (S.Started place marks) minimum = of-ranged (P.OptionTwo place marks) minimum
+two-ranged (S.Started provplace marks) minimum = of-ranged (P.OptionTwo provplace marks) minimum
 two-ranged S.Refused minimum = refl
 two-ranged S.NoStart minimum = refl
 
-module _ (count : ℕ) (option place marks minimum : List ℕ) where
-  in-ranged : inRange (unitStartIn option place marks minimum) ≡ true
+module _ (count : ℕ) (option provplace marks minimum : List ℕ) where
+  in-ranged : inRange (unitStartIn option provplace marks minimum) ≡ true
   unfolding unitStartIn
   in-ranged =
       let least = quality (decimalValue 0 minimum) in
@@ -156,13 +156,13 @@ module _ (count : ℕ) (option place marks minimum : List ℕ) where
       (λ decimal.
       byBool (isOptionWord numeral1 option)
       (λ one. rw (decimal, one) (of-ranged P.OptionOne least))
-      (λ two. rw (decimal, two) (two-ranged (startIn option place marks) least)))
+      (λ two. rw (decimal, two) (two-ranged (startIn option provplace marks) least)))
       (λ none. rw none)
 
-  by-ranged : inRange (unitStartBy count option place marks minimum) ≡ true
+  by-ranged : inRange (unitStartBy count option provplace marks minimum) ≡ true
   unfolding unitStartBy
   by-ranged = byBool (eqb count 5) (λ five. rw five in-ranged) (λ other. rw other)
 
   -- L13: the unit refuses no start that its words have been read as.
-  pub words-start : WordsStart count option place marks minimum
+  pub words-start : WordsStart count option provplace marks minimum
   words-start = record { taken = λ profile least is. sym (ap inRange is) ∙ by-ranged }

@@ -27,34 +27,35 @@ unitStartOf profile minimum = cond (isMinimum profile minimum) (Started profile 
 
 -- a start of option II, by what START's words `2 PLACE MARKS` say
 unfoldable pub unitStartTwo : StartRead → Quality → UnitStart
-unitStartTwo (S.Started place marks) minimum = unitStartOf (P.OptionTwo place marks) minimum
+unitStartTwo (S.Started provplace marks) minimum = unitStartOf (P.OptionTwo provplace marks) minimum
 unitStartTwo S.Refused minimum = Refused
 unitStartTwo S.NoStart minimum = NoStart
 
 -- "OPTION PLACE MARKS MINIMUM": four words; a minimum may be a number of any size; in option I "what is lent" for place
 -- and marks "isn't looked at"
 unfoldable pub unitStartIn : List ℕ → List ℕ → List ℕ → List ℕ → UnitStart
-unitStartIn option place marks minimum =
+unitStartIn option provplace marks minimum =
     let least = quality (decimalValue 0 minimum) in
     cond (isDecimal minimum)
     (cond (isOptionWord numeral1 option) (unitStartOf P.OptionOne least)
-    (unitStartTwo (startIn option place marks) least))
+    (unitStartTwo (startIn option provplace marks) least))
     NoStart
 
 -- so many arguments, the program's name before the four words
 unfoldable pub unitStartBy : ℕ → List ℕ → List ℕ → List ℕ → List ℕ → UnitStart
-unitStartBy count option place marks minimum = cond (eqb count 5) (unitStartIn option place marks minimum) NoStart
+unitStartBy count option provplace marks minimum =
+    cond (eqb count 5) (unitStartIn option provplace marks minimum) NoStart
 
 -- what was read is what some words say
 pub record UnitStartReadRight (start : UnitStart) : Type 0 where
   pub count : ℕ
   pub option : List ℕ
-  pub place : List ℕ
+  pub provplace : List ℕ
   pub marks : List ℕ
   pub minimum : List ℕ
-  pub is : start ≡ unitStartBy count option place marks minimum
+  pub is : start ≡ unitStartBy count option provplace marks minimum
 
 -- what words start is started: the minimum is one that a unit of the profile takes
-pub record WordsStart (count : ℕ) (option place marks minimum : List ℕ) : Type 0 where
+pub record WordsStart (count : ℕ) (option provplace marks minimum : List ℕ) : Type 0 where
   pub taken : (profile : Profile) (least : Quality)
-      → unitStartBy count option place marks minimum ≡ Started profile least → isMinimum profile least ≡ true
+      → unitStartBy count option provplace marks minimum ≡ Started profile least → isMinimum profile least ≡ true

@@ -70,16 +70,19 @@ fn start_two(start: StartRead, minimum: &[u8]) -> UnitStart
         answer ≡ unitStartTwo start (quality (decimalValue 0 (now (minimum .entry)))) ⌝ }
 {
     match start {
-        StartRead::Started(place, marks) => start_with(Profile::OptionTwo(place, marks), minimum),
+        StartRead::Started(provplace, marks) => start_with(
+            Profile::OptionTwo(provplace, marks),
+            minimum,
+        ),
         StartRead::Refused => UnitStart::Refused,
         StartRead::NoStart => UnitStart::NoStart,
     }
 }
 
 // What four words say: OPTION PLACE MARKS MINIMUM.
-pub fn unit_start_in(option: &[u8], place: &[u8], marks: &[u8], minimum: &[u8]) -> UnitStart
+pub fn unit_start_in(option: &[u8], provplace: &[u8], marks: &[u8], minimum: &[u8]) -> UnitStart
     ensures { λ start. ⌜
-        start ≡ unitStartIn (now (option .entry)) (now (place .entry)) (now (marks .entry))
+        start ≡ unitStartIn (now (option .entry)) (now (provplace .entry)) (now (marks .entry))
         (now (minimum .entry)) ⌝ }
 {
     if !is_decimal(minimum) {
@@ -88,25 +91,26 @@ pub fn unit_start_in(option: &[u8], place: &[u8], marks: &[u8], minimum: &[u8]) 
     if is_option_word(option, NUMERAL_1) {
         return start_with(Profile::OptionOne, minimum);
     }
-    start_two(start_in(option, place, marks), minimum)
+    start_two(start_in(option, provplace, marks), minimum)
 }
 
 // What so many arguments say, of which the four after the program's name are given.
 pub fn unit_start_by(
     count: usize,
     option: &[u8],
-    place: &[u8],
+    provplace: &[u8],
     marks: &[u8],
     minimum: &[u8],
 ) -> UnitStart
     ensures { λ start. ⌜
-        start ≡ unitStartBy count (now (option .entry)) (now (place .entry)) (now (marks .entry))
+        start
+        ≡ unitStartBy count (now (option .entry)) (now (provplace .entry)) (now (marks .entry))
         (now (minimum .entry)) ⌝ }
 {
     if count != ARGUMENTS {
         return UnitStart::NoStart;
     }
-    unit_start_in(option, place, marks, minimum)
+    unit_start_in(option, provplace, marks, minimum)
 }
 
 // Reads the start of a unit from the program's arguments. A word that is longer than what is lent
@@ -115,17 +119,17 @@ pub fn read_unit_start() -> UnitStart
     ensures { λ start. ⌜ UnitStartReadRight start ⌝ }
 {
     let mut option = io::buffer();
-    let mut place = [0u8; LONGEST_WORD];
+    let mut provplace = [0u8; LONGEST_WORD];
     let mut marks = io::buffer();
     let mut minimum = [0u8; LONGEST_WORD];
     let first = os::arg(1, &mut option);
-    let second = os::arg(2, &mut place);
+    let second = os::arg(2, &mut provplace);
     let third = os::arg(3, &mut marks);
     let fourth = os::arg(4, &mut minimum);
     unit_start_by(
         os::arg_count(),
         &option[..first],
-        &place[..second],
+        &provplace[..second],
         &marks[..third],
         &minimum[..fourth],
     )

@@ -32,7 +32,7 @@ use Rattle.quickstep.specs.declared.Left.the-variants as L
 use Rattle.quickstep.specs.declared.Own.{Own}
 use Rattle.quickstep.specs.declared.Watch.{Watch}
 use Rattle.quickstep.specs.Own.{isServed, ownTake, ownStep}
-use Rattle.quickstep.specs.Watch.{watchOf, numbered, dueAnew, completed, ownPlace, ownPut, ownAt, takeStep}
+use Rattle.quickstep.specs.Watch.{watchOf, numbered, dueAnew, completed, ownIndex, ownPut, ownAt, takeStep}
 use Rattle.quickstep.proofs.SameAsPlain.{numbered-answer, Kept, Right, takeStep-right}
 use Rattle.lanes.specs.declared.View.{View}
 use Rattle.lanes.specs.Value.{answerValue}
@@ -45,17 +45,17 @@ use Rattle.verdict.specs.Quiet.{quietState, QuietRight, TakenQuietly}
 -- ---- what a quiet way says
 
 isQuietWay : Way → Bool
-isQuietWay (W.Quiet place own) = true
+isQuietWay (W.Quiet index own) = true
 isQuietWay W.Whole = false
 isQuietWay W.Nothing = false
 
-placeIn : Way → ℕ
-placeIn (W.Quiet place own) = place
-placeIn W.Whole = 0
-placeIn W.Nothing = 0
+indexIn : Way → ℕ
+indexIn (W.Quiet index own) = index
+indexIn W.Whole = 0
+indexIn W.Nothing = 0
 
 ownIn : Own → Way → Own
-ownIn other (W.Quiet place own) = own
+ownIn other (W.Quiet index own) = own
 ownIn other W.Whole = other
 ownIn other W.Nothing = other
 
@@ -88,22 +88,22 @@ module _ (state : Selector) (due : ℕ) (event : Event) (frame : FrameRead) wher
       event
       frame
 
-  pub record Said (place : ℕ) (own : Own) : Type 0 where
-    pub place-is : place ≡ ownPlace event
+  pub record Said (index : ℕ) (own : Own) : Type 0 where
+    pub index-is : index ≡ ownIndex event
     pub own-is : own ≡ ownTaken
     pub left : ownTaken .left ≡ L.Nothing
     pub unsent : eqb (event .kind) kindSending ≡ false
 
-  said : (place : ℕ) (own : Own) → wayIn state due event frame ≡ W.Quiet place own → Said place own
-  unfolding wayIn isQuietWay placeIn ownIn
-  said place own is = go (isQuiet (ownTaken .left) (event .kind)) refl is
+  said : (index : ℕ) (own : Own) → wayIn state due event frame ≡ W.Quiet index own → Said index own
+  unfolding wayIn isQuietWay indexIn ownIn
+  said index own is = go (isQuiet (ownTaken .left) (event .kind)) refl is
     where
       go : (quiet : Bool) → isQuiet (ownTaken .left) (event .kind) ≡ quiet
-          → cond quiet (W.Quiet (ownPlace event) ownTaken) W.Whole ≡ W.Quiet place own → Said place own
+          → cond quiet (W.Quiet (ownIndex event) ownTaken) W.Whole ≡ W.Quiet index own → Said index own
       go true q e =
           let left = quiet-left (ownTaken .left) (event .kind) q in
           record {
-            place-is = sym (ap placeIn e);
+            index-is = sym (ap indexIn e);
             own-is = sym (ap (ownIn ownTaken) e);
             left = left .0;
             unsent = left .1;
@@ -130,12 +130,12 @@ module _ (state : Selector) (due : ℕ) (event : Event) (frame : FrameRead) wher
 
 -- ---- what shows
 
-module _ (state : Selector) (place : ℕ) (input : Input) (time : ℕ)
-    (sent : input .settings .sending ≡ getD (state .inputs) place freshInput .settings .sending) where
+module _ (state : Selector) (index : ℕ) (input : Input) (time : ℕ)
+    (sent : input .settings .sending ≡ getD (state .inputs) index freshInput .settings .sending) where
   abbrev after : Selector
   after =
       record {
-        inputs = set (state .inputs) place input;
+        inputs = set (state .inputs) index input;
         time = time;
         switch = state .switch;
         selection = state .selection;
@@ -147,12 +147,12 @@ module _ (state : Selector) (place : ℕ) (input : Input) (time : ℕ)
   abbrev sends : Input → Bool
   sends one = one .settings .sending
 
-  sent-same : (port : ℕ) → sends (getD (set (state .inputs) place input) port freshInput)
+  sent-same : (port : ℕ) → sends (getD (set (state .inputs) index input) port freshInput)
       ≡ sends (getD (state .inputs) port freshInput)
   sent-same port =
-      sym (List·getD-map sends (set (state .inputs) place input) port freshInput)
+      sym (List·getD-map sends (set (state .inputs) index input) port freshInput)
       ∙ ap (λ (flags : List Bool). getD flags port (sends freshInput))
-      (map-set-same sends (state .inputs) place input freshInput sent)
+      (map-set-same sends (state .inputs) index input freshInput sent)
       ∙ List·getD-map sends (state .inputs) port freshInput
 
   module _ (answers : answerOf 0 after ≡ answerOf 0 state) where
@@ -178,23 +178,23 @@ module _ (state : Selector) (place : ℕ) (input : Input) (time : ℕ)
 
 -- what is carried of a watch, with what an event makes of its own input put into it
 abbrev pub quietWatch : Watch → ℕ → Own → Watch
-quietWatch watch place own =
-    watchOf (quietState (watch .state) place own) (own .due) (numbered (own .number) (watch .answer)) 0
+quietWatch watch index own =
+    watchOf (quietState (watch .state) index own) (own .due) (numbered (own .number) (watch .answer)) 0
 
-module _ (watch : Watch) (kept : Kept watch) (event : Event) (frame : FrameRead) (place : ℕ) (own : Own)
-    (quietly : wayIn (watch .state) (watch .due) event frame ≡ W.Quiet place own) where
+module _ (watch : Watch) (kept : Kept watch) (event : Event) (frame : FrameRead) (index : ℕ) (own : Own)
+    (quietly : wayIn (watch .state) (watch .due) event frame ≡ W.Quiet index own) where
   abbrev before : Selector
   before = watch .state
 
-  way : Said before (watch .due) event frame place own
-  way = said before (watch .due) event frame place own quietly
+  way : Said before (watch .due) event frame index own
+  way = said before (watch .due) event frame index own quietly
 
-  by-own : quietWatch watch place own ≡ takeStep watch event frame
+  by-own : quietWatch watch index own ≡ takeStep watch event frame
   unfolding takeStep ownPut completed
   by-own =
-      (λ j. quietWatch watch (way .place-is j) (way .own-is j))
+      (λ j. quietWatch watch (way .index-is j) (way .own-is j))
       ∙ sym (ap (λ (left : Left). completed
-      (quietState before (ownPlace event) (ownTaken before (watch .due) event frame))
+      (quietState before (ownIndex event) (ownTaken before (watch .due) event frame))
       (ownTaken before (watch .due) event frame .due)
       (numbered (ownTaken before (watch .due) event frame .number) (watch .answer))
       left
@@ -203,24 +203,24 @@ module _ (watch : Watch) (kept : Kept watch) (event : Event) (frame : FrameRead)
       (way .left))
 
   -- it has the state, the answer and the count of the plain step
-  pub quiet-step : Right (stepRead before event frame) (quietWatch watch place own)
+  pub quiet-step : Right (stepRead before event frame) (quietWatch watch index own)
   quiet-step = subst (Right (stepRead before event frame)) (sym by-own) (takeStep-right watch event frame kept)
 
-  sent : own .input .settings .sending ≡ getD (before .inputs) place freshInput .settings .sending
+  sent : own .input .settings .sending ≡ getD (before .inputs) index freshInput .settings .sending
   sent =
       ap (λ (one : Own). one .input .settings .sending) (way .own-is)
       ∙ sending-kept before (watch .due) event frame (way .unsent)
-      ∙ ap (λ (number : ℕ). getD (before .inputs) number freshInput .settings .sending) (sym (way .place-is))
+      ∙ ap (λ (number : ℕ). getD (before .inputs) number freshInput .settings .sending) (sym (way .index-is))
 
   -- and shows what it showed
-  pub quiet-shows : (view : View) → shownBy view (quietState before place own) ≡ shownBy view before
+  pub quiet-shows : (view : View) → shownBy view (quietState before index own) ≡ shownBy view before
   quiet-shows =
-      shows-same before place (own .input) (own .time) sent (sym (quiet-step .kept .told 0) ∙ kept .told 0)
+      shows-same before index (own .input) (own .time) sent (sym (quiet-step .kept .told 0) ∙ kept .told 0)
 
 -- ---- after any events
 
-module _ (view : View) (events : Sequence) (due : ℕ) (given : Given) (place : ℕ) (own : Own)
-    (quietly : TakenQuietly events due given place own) where
+module _ (view : View) (events : Sequence) (due : ℕ) (given : Given) (index : ℕ) (own : Own)
+    (quietly : TakenQuietly events due given index own) where
   abbrev watched : Watch
   watched = watchOf (stateAfter events) due (answerOf 0 (stateAfter events)) 0
 
@@ -232,11 +232,11 @@ module _ (view : View) (events : Sequence) (due : ℕ) (given : Given) (place : 
         told = λ number. numbered-answer number 0 (stateAfter events);
       }
 
-  right : Right (stepRead (stateAfter events) (given .event) (readCode (given .frame))) (quietWatch watched place own)
-  right = quiet-step watched kept-after (given .event) (readCode (given .frame)) place own (quietly .1)
+  right : Right (stepRead (stateAfter events) (given .event) (readCode (given .frame))) (quietWatch watched index own)
+  right = quiet-step watched kept-after (given .event) (readCode (given .frame)) index own (quietly .1)
 
   -- AN EVENT THAT ITS OWN INPUT HAS TAKEN WITH NOTHING LEFT TO DO changes nothing that shows.
-  pub quiet-right : QuietRight view events given place own
+  pub quiet-right : QuietRight view events given index own
   unfolding stateAfter numberAfter step answerOf
   quiet-right =
       record {
@@ -245,5 +245,5 @@ module _ (view : View) (events : Sequence) (due : ℕ) (given : Given) (place : 
         number = ap (λ (answer : Answer). answer .number) (right .answer);
         shows =
             ap (shownBy view) (sym (right .state))
-            ∙ quiet-shows watched kept-after (given .event) (readCode (given .frame)) place own (quietly .1) view;
+            ∙ quiet-shows watched kept-after (given .event) (readCode (given .frame)) index own (quietly .1) view;
       }

@@ -15,20 +15,20 @@ use Rattle.lane.specs.declared.Lane.{Lane}
 use Rattle.lane.specs.declared.Judged.{Judged}
 use Rattle.lane.specs.Lane.{capped, freshLane, shownNext, rightNext}
 use Rattle.lanes.specs.declared.Span.{Span}
-use Rattle.lanes.specs.Value.{placeCount, placeOf, valueOf, Placed}
+use Rattle.lanes.specs.Value.{indexCount, valueIndex, valueOf, Indexed}
 use Rattle.lanes.specs.Span.{spanOf, nextSpan}
 use Rattle.spans.specs.Spans.{spansFrom}
 use Rattle.verdict.specs.declared.tell.Question.{Question}
 use Rattle.verdict.specs.Told.{Told, AllTold, laneOf, roomOf, lastAt, placedAt, newFrom, pushed, shownIn, sinceSpan, spansSince, overSpans, laneTold, spansTold, knownTo, withShown, shownTold, lanesOf, placesOf, portsTold, answerTold, allTold, spanTold, spansToldAll}
 
-module _ (room : List ℕ) (place : ℕ) where
-  pub lastAt-place : place < placeCount → getD room place 0 ≡ lastAt room place
+module _ (room : List ℕ) (index : ℕ) where
+  pub lastAt-index : index < indexCount → getD room index 0 ≡ lastAt room index
   unfolding lastAt
-  lastAt-place h = rw (lt-ltb place placeCount h)
+  lastAt-index h = rw (lt-ltb index indexCount h)
 
-  pub lastAt-none : placeCount ≤ place → 0 ≡ lastAt room place
+  pub lastAt-none : indexCount ≤ index → 0 ≡ lastAt room index
   unfolding lastAt
-  lastAt-none h = rw (le-ltb place placeCount h)
+  lastAt-none h = rw (le-ltb index indexCount h)
 
 module _ (tolerance : Tolerance) (lane : Lane) (from : ℕ) where
   pub newFrom-first : lane .after ≡ 0 → from ≡ newFrom tolerance lane from
@@ -52,7 +52,7 @@ module _ (question : Question) (number : ℕ) (lane : Lane) (room : List ℕ) (f
   pushed-old-room h = rw (← s, lt-ltb to start h)
 
   pub pushed-lane : (standing last : ℕ) (judged : Judged) → start ≤ to
-      → Placed (placeOf (question .view) number (lane .value)) placeCount standing
+      → Indexed (valueIndex (question .view) number (lane .value)) indexCount standing
       → last ≡ lastAt room standing
       → judged ≡ rightNext (question .tolerance) lane last start to value
       → judged .lane ≡ laneOf (pushed question number lane room from to value)
@@ -60,27 +60,27 @@ module _ (question : Question) (number : ℕ) (lane : Lane) (room : List ℕ) (f
   pushed-lane standing last judged h p l j =
       rw (← s, le-ltb to start h, ← (p .value), ← l) (ap (λ (one : Judged). one .lane) j)
 
-  pub pushed-room : (place over : ℕ) → start ≤ to → Placed (placeOf (question .view) number value) placeCount place
+  pub pushed-room : (index over : ℕ) → start ≤ to → Indexed (valueIndex (question .view) number value) indexCount index
       → over ≡ capped to 1
-      → place < placeCount
-      → set room place over ≡ roomOf (pushed question number lane room from to value)
+      → index < indexCount
+      → set room index over ≡ roomOf (pushed question number lane room from to value)
   unfolding pushed placedAt
-  pushed-room place over h p o i = rw (← s, le-ltb to start h, ← (p .value), lt-ltb place placeCount i, o)
+  pushed-room index over h p o i = rw (← s, le-ltb to start h, ← (p .value), lt-ltb index indexCount i, o)
 
-  pub pushed-room-none : (place : ℕ) → start ≤ to → Placed (placeOf (question .view) number value) placeCount place
-      → placeCount ≤ place
+  pub pushed-room-none : (index : ℕ) → start ≤ to → Indexed (valueIndex (question .view) number value) indexCount index
+      → indexCount ≤ index
       → room ≡ roomOf (pushed question number lane room from to value)
   unfolding pushed placedAt
-  pushed-room-none place h p i = rw (← s, le-ltb to start h, ← (p .value), le-ltb place placeCount i)
+  pushed-room-none index h p i = rw (← s, le-ltb to start h, ← (p .value), le-ltb index indexCount i)
 
-pub shownIn-made : (question : Question) (number : ℕ) (lane : Lane) (room : List ℕ) (time value place last : ℕ)
+pub shownIn-made : (question : Question) (number : ℕ) (lane : Lane) (room : List ℕ) (time value index last : ℕ)
     (judged : Judged)
-    → Placed (placeOf (question .view) number value) placeCount place
-    → last ≡ lastAt room place
+    → Indexed (valueIndex (question .view) number value) indexCount index
+    → last ≡ lastAt room index
     → judged ≡ shownNext (question .tolerance) lane last time value
     → judged .lane ≡ shownIn question number lane room time value .lane
 unfolding shownIn
-shownIn-made question number lane room time value place last judged p l j =
+shownIn-made question number lane room time value index last judged p l j =
     rw (← (p .value), ← l) (ap (λ (one : Judged). one .lane) j)
 
 pub sinceSpan-made : (state : Selector) (since until : ℕ) (span : Span) → span ≡ spanOf state until
@@ -359,7 +359,7 @@ module _ (question : Question) (span : Span) (lanes : List Lane) (room : List �
     pub answer-room : (kept : List ℕ) → kept ≡ roomOf first → kept ≡ placesOf (spanTold question span lanes room)
     answer-room kept k = k ∙ ap placesOf by-answer
 
-pub ruleset told-laws = (lastAt-place, lastAt-none, newFrom-first, newFrom-later, pushed-old-lane, pushed-old-room, pushed-lane, pushed-room, pushed-room-none, shownIn-made, sinceSpan-made)
+pub ruleset told-laws = (lastAt-index, lastAt-none, newFrom-first, newFrom-later, pushed-old-lane, pushed-old-room, pushed-lane, pushed-room, pushed-room-none, shownIn-made, sinceSpan-made)
 
 pub ruleset shown-told-laws = (quick-lane, quick-room, slow-lane, slow-room)
 

@@ -18,12 +18,12 @@ use Rattle.verdict.specs.Lines.{wayIn}
 
 -- a state with what an event makes of its own input put into it, as `benchQuiet` has it
 abbrev pub quietState : Selector → ℕ → Own → Selector
-quietState state place own = movedTo state (set (state .inputs) place (own .input)) (own .time)
+quietState state index own = movedTo state (set (state .inputs) index (own .input)) (own .time)
 
 -- after any events, with a time before which nothing is due
-pub record QuietRight (view : View) (events : Sequence) (given : Given) (place : ℕ) (own : Own) : Type 0 where
+pub record QuietRight (view : View) (events : Sequence) (given : Given) (index : ℕ) (own : Own) : Type 0 where
   -- the state is that after the event
-  pub state : quietState (stateAfter events) place own ≡ stateAfter (given following events)
+  pub state : quietState (stateAfter events) index own ≡ stateAfter (given following events)
   -- nothing is due before the time that is kept for that
   pub due : own .due ≤ nextDue (stateAfter (given following events))
   -- its number is the event's
@@ -33,6 +33,6 @@ pub record QuietRight (view : View) (events : Sequence) (given : Given) (place :
 
 -- an event is taken so
 abbrev pub TakenQuietly : Sequence → ℕ → Given → ℕ → Own → Type 0
-TakenQuietly events due given place own =
+TakenQuietly events due given index own =
     (due ≤ nextDue (stateAfter events)) ×
-    (wayIn (stateAfter events) due (given .event) (readCode (given .frame)) ≡ W.Quiet place own)
+    (wayIn (stateAfter events) due (given .event) (readCode (given .frame)) ≡ W.Quiet index own)

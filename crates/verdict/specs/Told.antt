@@ -12,7 +12,7 @@ use Rattle.lane.specs.declared.Lane.{Lane}
 use Rattle.lane.specs.declared.Judged.{Judged}
 use Rattle.lane.specs.Lane.{capped, freshLane, shownNext, rightNext}
 use Rattle.lanes.specs.declared.Span.{Span}
-use Rattle.lanes.specs.Value.{placeCount, placeOf, valueOf}
+use Rattle.lanes.specs.Value.{indexCount, valueIndex, valueOf}
 use Rattle.lanes.specs.Span.{spanOf}
 use Rattle.spans.specs.Spans.{spansFrom}
 use Rattle.verdict.specs.declared.tell.Question.{Question}
@@ -28,13 +28,13 @@ laneOf told = told .lane
 abbrev pub roomOf : Told → List ℕ
 roomOf told = told .room
 
--- the millisecond behind the last at which the value at a place was right; 0 for a value that never is
+-- the millisecond behind the last at which the value at an index was right; 0 for a value that never is
 unfoldable pub lastAt : List ℕ → ℕ → ℕ
-lastAt room place = cond (ltb place placeCount) (getD room place 0) 0
+lastAt room index = cond (ltb index indexCount) (getD room index 0) 0
 
 -- the places after a value was right up to a millisecond
 unfoldable pub placedAt : List ℕ → ℕ → ℕ → List ℕ
-placedAt room place to = cond (ltb place placeCount) (set room place (capped to 1)) room
+placedAt room index to = cond (ltb index indexCount) (set room index (capped to 1)) room
 
 -- from when on it is new to a lane what is right: what is right up to EARLY behind the last thing shown it knows
 unfoldable pub newFrom : Tolerance → Lane → ℕ → ℕ
@@ -45,15 +45,15 @@ unfoldable pub pushed : Question → ℕ → Lane → List ℕ → ℕ → ℕ �
 pushed question number lane room from to value =
     let start = newFrom (question .tolerance) lane from in
     let judged =
-    rightNext (question .tolerance) lane (lastAt room (placeOf (question .view) number (lane .value))) start to value
+    rightNext (question .tolerance) lane (lastAt room (valueIndex (question .view) number (lane .value))) start to value
     in
     cond (ltb to start) (record { lane = lane; room = room })
-    (record { lane = judged .lane; room = placedAt room (placeOf (question .view) number value) to })
+    (record { lane = judged .lane; room = placedAt room (valueIndex (question .view) number value) to })
 
 -- a lane is told that a value is shown
 unfoldable pub shownIn : Question → ℕ → Lane → List ℕ → ℕ → ℕ → Judged
 shownIn question number lane room time value =
-    shownNext (question .tolerance) lane (lastAt room (placeOf (question .view) number value)) time value
+    shownNext (question .tolerance) lane (lastAt room (valueIndex (question .view) number value)) time value
 
 -- the first span of a state that has shown the same since a time
 abbrev pub sinceSpan : Selector → ℕ → ℕ → Span

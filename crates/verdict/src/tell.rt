@@ -9,8 +9,8 @@ use lanes::ROOM;
 use lanes::Span;
 use lanes::View;
 use lanes::next_span;
-use lanes::place_of;
 use lanes::span_of;
+use lanes::value_index;
 use lanes::value_of;
 use selector::Selector;
 ghost use mathlib.Core.Path.{_≡_};
@@ -47,12 +47,12 @@ pub fn later(one: u64, other: u64) -> u64
     one
 }
 
-// When the value at a place was right last.
-fn last_at(room: &[u64; ROOM], place: usize) -> u64
-    ensures { λ answer. ⌜ answer ≡ lastAt (now (room .entry)) place ⌝ }
+// When the value at an index was right last.
+fn last_at(room: &[u64; ROOM], index: usize) -> u64
+    ensures { λ answer. ⌜ answer ≡ lastAt (now (room .entry)) index ⌝ }
 {
-    if place < ROOM {
-        return room[place];
+    if index < ROOM {
+        return room[index];
     }
     0
 }
@@ -89,13 +89,13 @@ pub fn push(
     if to < start {
         return lane;
     }
-    let standing = place_of(view, number, lane.value);
+    let standing = value_index(view, number, lane.value);
     let last = last_at(room, standing);
     let judged = right(tolerance, lane, last, start, to, value);
-    let place = place_of(view, number, value);
+    let index = value_index(view, number, value);
     let over = capped(to, 1);
-    if place < ROOM {
-        room[place] = over;
+    if index < ROOM {
+        room[index] = over;
     }
     let ended = judged.ended;
     write_stretch(view, number, ended, stopped);
@@ -117,8 +117,8 @@ pub fn show(
 {
     let view = question.view;
     let tolerance = question.tolerance;
-    let place = place_of(view, number, value);
-    let last = last_at(room, place);
+    let index = value_index(view, number, value);
+    let last = last_at(room, index);
     let judged = shown(tolerance, known, last, time, value);
     let ended = judged.ended;
     write_stretch(view, number, ended, stopped);

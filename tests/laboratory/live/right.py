@@ -39,8 +39,8 @@ def outgoing(log, start=None):
 @functools.cache
 def proved_frames():
     """The sixty octets of each code, without and with the event flag, as the proved writer has them."""
-    programs.ready("frames")
-    run = subprocess.run([str(ROOT / "tools" / "program"), "frames"], capture_output=True, check=True)
+    programs.ready("our_frames")
+    run = subprocess.run([str(ROOT / "tools" / "program"), "our_frames"], capture_output=True, check=True)
     frames = [bytes.fromhex(line) for line in run.stdout.decode().split()]
     return {(code, event): frames[16 * event + code] for event in (0, 1) for code in range(16)}
 

@@ -18,7 +18,7 @@ def arguments(parser):
 
 def run(options):
     if options.ours:
-        programs.handed_on("frames", "/dev/null")
+        programs.handed_on("our_frames", "/dev/null")
     else:
         programs.handed_on("read_frames", options.frames)
     return FINE

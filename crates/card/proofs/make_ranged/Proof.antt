@@ -13,7 +13,7 @@ returns : tie.Need-returns
 unfolding watchAt
 returns c = let args = c .before .before .before .args in
     ranged-kept
-    (watchAt (args .times .now) (args .small .now) (args .words .now) (args .due .now) (args .told .now))
+    (watchAt (args .times .now) (args .small .now) (args .wider .now) (args .due .now) (args .told .now))
     (c .before .is-ranged .result)
     (c .before .is-ranged .ensures)
     (c .if1 .taken)
@@ -31,14 +31,14 @@ returns-2 : tie.Need-returns-2
 unfolding watchAt
 returns-2 c = let args = c .before .before .before .before .before .before .before .before .args in
     ranged-anew
-    (watchAt (args .times .now) (args .small .now) (args .words .now) (args .due .now) (args .told .now))
+    (watchAt (args .times .now) (args .small .now) (args .wider .now) (args .due .now) (args .told .now))
     (c .before .before .before .before .before .before .is-ranged .result)
     (c .before .before .before .before .before .before .is-ranged .ensures)
     (c .before .before .before .answer-at .result)
-    (watchAt (args .times .now) (args .small .now) (args .words .now) (c .tell .last .0) (c .tell .last .1 .0))
+    (watchAt (args .times .now) (args .small .now) (args .wider .now) (c .tell .last .0) (c .tell .last .1 .0))
     (c .before .before .before .before .before .if1 .left)
     (c .before .before .before .answer-at .ensures)
-    (c .tell .ensures (selectorAt (args .times .now) (args .small .now) (args .words .now)))
+    (c .tell .ensures (selectorAt (args .times .now) (args .small .now) (args .wider .now)))
 
 pub make-ranged-spec : {M : Type 1} → statement M
 make-ranged-spec =

@@ -20,15 +20,15 @@ returns : tie.Need-returns
 unfolding watchAt
 returns c = let args = c .before .before .before .before .before .before .args in
     start-neither
-    (watchAt (args .times .now) (args .small .now) (args .words .now) (args .due .now) (args .told .now))
+    (watchAt (args .times .now) (args .small .now) (args .wider .now) (args .due .now) (args .told .now))
     (args .option)
-    (args .place)
+    (args .provplace)
     (args .marks)
     (c .before .before .before .before .names-option .result)
     (c .before .before .before .before .names-option .ensures)
-    (watchAt (args .times .now) (args .small .now) (args .words .now) (c .put-number .last .0) (c .put-number .last .1 .0))
+    (watchAt (args .times .now) (args .small .now) (args .wider .now) (c .put-number .last .0) (c .put-number .last .1 .0))
     (not-true _ (c .before .before .before .if1 .taken))
-    (c .put-number .ensures (selectorAt (args .times .now) (args .small .now) (args .words .now)))
+    (c .put-number .ensures (selectorAt (args .times .now) (args .small .now) (args .wider .now)))
 
 profile-in-requires : tie.Need-profile-in-requires
 profile-in-requires c κs = search needs
@@ -44,9 +44,9 @@ unfolding watchAt
 returns-2 c = let args = c .before .before .before .before .before .before .before .before .before .before .before .before .args in
     let all = c .start-watch .last in
     start-fresh
-    (watchAt (args .times .now) (args .small .now) (args .words .now) (args .due .now) (args .told .now))
+    (watchAt (args .times .now) (args .small .now) (args .wider .now) (args .due .now) (args .told .now))
     (args .option)
-    (args .place)
+    (args .provplace)
     (args .marks)
     (c .before .before .before .before .before .before .before .before .before .before .names-option .result)
     (c .before .before .before .before .before .before .before .before .before .before .names-option .ensures)
@@ -66,9 +66,9 @@ returns-3 : tie.Need-returns-3
 unfolding watchAt
 returns-3 c = let args = c .before .before .before .before .before .before .before .before .before .args in
     start-refused
-    (watchAt (args .times .now) (args .small .now) (args .words .now) (args .due .now) (args .told .now))
+    (watchAt (args .times .now) (args .small .now) (args .wider .now) (args .due .now) (args .told .now))
     (args .option)
-    (args .place)
+    (args .provplace)
     (args .marks)
     (c .before .before .before .before .before .before .before .names-option .result)
     (c .before .before .before .before .before .before .before .names-option .ensures)
@@ -77,9 +77,9 @@ returns-3 c = let args = c .before .before .before .before .before .before .befo
     (c .before .before .before .before .before .profile-in .ensures)
     (c .before .before .before .before .start-number .result)
     (c .before .before .before .before .start-number .ensures)
-    (watchAt (args .times .now) (args .small .now) (args .words .now) (c .put-number2 .last .0) (c .put-number2 .last .1 .0))
+    (watchAt (args .times .now) (args .small .now) (args .wider .now) (c .put-number2 .last .0) (c .put-number2 .last .1 .0))
     (c .before .before .before .if2 .left)
-    (c .put-number2 .ensures (selectorAt (args .times .now) (args .small .now) (args .words .now)))
+    (c .put-number2 .ensures (selectorAt (args .times .now) (args .small .now) (args .wider .now)))
 
 pub start-lent-spec : {M : Type 1} → statement M
 start-lent-spec =

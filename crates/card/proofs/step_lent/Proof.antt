@@ -19,8 +19,8 @@ returns c = let args = c .before .before .before .before .before .before .before
     let ranged = c .before .before .before .before .before .before .make-ranged in
     let all = c .step-watch .last in
     step-called
-    (watchAt (args .times .now) (args .small .now) (args .words .now) (args .due .now) (args .told .now))
-    (watchAt (args .times .now) (args .small .now) (args .words .now) (ranged .last .1 .1 .1 .0) (ranged .last .1 .1 .1 .1 .0))
+    (watchAt (args .times .now) (args .small .now) (args .wider .now) (args .due .now) (args .told .now))
+    (watchAt (args .times .now) (args .small .now) (args .wider .now) (ranged .last .1 .1 .1 .0) (ranged .last .1 .1 .1 .1 .0))
     (watchAt (all .0) (all .1 .0) (all .1 .1 .0) (all .1 .1 .1 .0) (all .1 .1 .1 .1 .0))
     (args .kind)
     (args .time)

@@ -51,10 +51,10 @@ returns c = let args = c .before .before .before .before .before .before .before
       c .before .before .before .before .clock-quality .ensures,
       c .before .before .before .before .before .selected-at .ensures,
       c .before .before .before .before .before .before .before .limits-of .ensures,
-      c .before .before .before .before .before .before .before .before .was-locked-at .ensures (args .times .now) (args .words .now),
-      c .before .before .before .before .before .before .before .before .before .switch-at .ensures (args .times .now) (args .words .now),
-      c .before .before .before .before .before .before .before .before .before .before .selection-at .ensures (args .times .now) (args .words .now),
-      c .before .before .before .before .before .before .before .before .before .before .before .mode-at .ensures (args .times .now) (args .words .now),
+      c .before .before .before .before .before .before .before .before .was-locked-at .ensures (args .times .now) (args .wider .now),
+      c .before .before .before .before .before .before .before .before .before .switch-at .ensures (args .times .now) (args .wider .now),
+      c .before .before .before .before .before .before .before .before .before .before .selection-at .ensures (args .times .now) (args .wider .now),
+      c .before .before .before .before .before .before .before .before .before .before .before .mode-at .ensures (args .times .now) (args .wider .now),
       c .before .before .before .before .before .before .before .before .before .before .before .before .profile-at .ensures (args .times .now),
     )
 

@@ -10,11 +10,11 @@ use Rattle.inplace.proofs.are_timely.Statement.{statement}
 use Rattle.inplace.proofs.are_timely.Tie as tie
 
 abbrev Inv-loop : tie.InvT-loop
-Inv-loop times small words mode at₀ at =
-    (at ≤ 16) × ((number : ℕ) → number < at → isTimely (inputAt times small words number) mode ≡ true)
+Inv-loop times small wider mode at₀ at =
+    (at ≤ 16) × ((number : ℕ) → number < at → isTimely (inputAt times small wider number) mode ≡ true)
 
 abbrev μ-loop : tie.MeasureT-loop
-μ-loop times small words mode at₀ at = 16 - at
+μ-loop times small wider mode at₀ at = 16 - at
 
 loop-holds : tie.Need-loop-holds Inv-loop μ-loop
 loop-holds c = (search needs, λ number h. absurd (search needs))
@@ -36,7 +36,7 @@ loop-again c =
     let args = c .before .before .before .before .before .args in
     let loop = c .before .before .before .before .loop in (
       search needs,
-      timely-one-more (args .times .now) (args .small .now) (args .words .now) (args .mode) (loop .at)
+      timely-one-more (args .times .now) (args .small .now) (args .wider .now) (args .mode) (loop .at)
           (c .before .before .input-in .result)
           (c .before .is-timely .result)
           (c .before .before .input-in .ensures)
@@ -49,7 +49,7 @@ returns : tie.Need-returns Inv-loop μ-loop
 returns c =
     let args = c .before .before .before .before .before .args in
     let loop = c .before .before .before .before .loop in
-    timely-one-not (args .times .now) (args .small .now) (args .words .now) (args .mode) (loop .at)
+    timely-one-not (args .times .now) (args .small .now) (args .wider .now) (args .mode) (loop .at)
     (c .before .before .input-in .result)
     (c .before .is-timely .result)
     (c .before .before .input-in .ensures)
@@ -60,7 +60,7 @@ returns c =
 returns-2 : tie.Need-returns-2 Inv-loop μ-loop
 returns-2 c =
     let args = c .before .before .args in
-    timely-all (args .times .now) (args .small .now) (args .words .now) (args .mode) (c .before .loop .at)
+    timely-all (args .times .now) (args .small .now) (args .wider .now) (args .mode) (c .before .loop .at)
     (c .loop-test .left)
     (c .before .loop .inv .1)
 

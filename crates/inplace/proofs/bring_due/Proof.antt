@@ -19,19 +19,19 @@ use Rattle.inplace.proofs.bring_due.Statement.{statement}
 use Rattle.inplace.proofs.bring_due.Tie as tie
 
 abbrev Inv-loop : tie.InvT-loop
-Inv-loop times₀ small₀ words own₀ time until mode next₀ alike₀ at₀ times small own next alike at =
+Inv-loop times₀ small₀ wider own₀ time until mode next₀ alike₀ at₀ times small own next alike at =
     (at ≤ 16) ×
-    (selectorAt times small words ≡
-    changed (λ (input : Input). inputBroughtTo input time mode) at (selectorAt times₀ small₀ words)) ×
-    (own ≡ filled (ownThen mode time) at (selectorAt times₀ small₀ words .inputs) own₀) ×
+    (selectorAt times small wider ≡
+    changed (λ (input : Input). inputBroughtTo input time mode) at (selectorAt times₀ small₀ wider)) ×
+    (own ≡ filled (ownThen mode time) at (selectorAt times₀ small₀ wider .inputs) own₀) ×
     (next ≡
-    nextAmong (map (λ (input : Input). inputBroughtTo input time mode) (selectorAt times₀ small₀ words .inputs)) mode time
+    nextAmong (map (λ (input : Input). inputBroughtTo input time mode) (selectorAt times₀ small₀ wider .inputs)) mode time
     at) ×
     (alike ≡ true → (number : ℕ) → number < at
-    → PassesAlike (getD (selectorAt times₀ small₀ words .inputs) number freshInput) mode time)
+    → PassesAlike (getD (selectorAt times₀ small₀ wider .inputs) number freshInput) mode time)
 
 abbrev μ-loop : tie.MeasureT-loop
-μ-loop times₀ small₀ words own₀ time until mode next₀ alike₀ at₀ times small own next alike at = 16 - at
+μ-loop times₀ small₀ wider own₀ time until mode next₀ alike₀ at₀ times small own next alike at = 16 - at
 
 know-own-requires : tie.Need-know-own-requires Inv-loop μ-loop
 know-own-requires c κs = search needs
@@ -45,9 +45,9 @@ bring-input-requires c κs =
     let args = start .args in
     let loop = c .before .before .before .before .loop in (
       c .before .before .before .loop-test .taken,
-      awaits-still (loop .times) (loop .small) (args .words .now) (loop .at) (c .before .before .before .loop-test .taken)
+      awaits-still (loop .times) (loop .small) (args .wider .now) (loop .at) (c .before .before .before .loop-test .taken)
           (λ (input : Input). inputBroughtTo input (args .time) (args .mode))
-          (selectorAt (args .times .now) (args .small .now) (args .words .now))
+          (selectorAt (args .times .now) (args .small .now) (args .wider .now))
           (loop .inv .1)
           (ownThen (args .mode) (args .time))
           (args .mode)
@@ -75,15 +75,15 @@ loop-again c =
     let loop = c .before .before .before .before .before .before .before .loop in
     let inside = c .before .before .before .before .before .before .loop-test .taken in
     let one = c .before .before .bring-input in
-    let first = selectorAt (args .times .now) (args .small .now) (args .words .now) in
-    let sixteen = inputs-length (args .times .now) (args .small .now) (args .words .now) in
-    let input = inputAt (loop .times) (loop .small) (args .words .now) (loop .at) in
-    let same = untouched (loop .times) (loop .small) (args .words .now) (loop .at) inside
+    let first = selectorAt (args .times .now) (args .small .now) (args .wider .now) in
+    let sixteen = inputs-length (args .times .now) (args .small .now) (args .wider .now) in
+    let input = inputAt (loop .times) (loop .small) (args .wider .now) (loop .at) in
+    let same = untouched (loop .times) (loop .small) (args .wider .now) (loop .at) inside
     (λ (input : Input). inputBroughtTo input (args .time) (args .mode)) first (loop .inv .1) in (
       search needs,
       turn (λ (input : Input). inputBroughtTo input (args .time) (args .mode)) first (loop .times) (loop .small)
-          (args .words .now)
-          (selectorAt (one .last .0) (one .last .1 .0) (args .words .now))
+          (args .wider .now)
+          (selectorAt (one .last .0) (one .last .1 .0) (args .wider .now))
           (loop .at)
           (inputBroughtTo input (args .time) (args .mode))
           sixteen
@@ -114,10 +114,10 @@ returns : tie.Need-returns Inv-loop μ-loop
 returns c =
     let args = c .before .before .before .before .args in
     let loop = c .before .loop in
-    let first = selectorAt (args .times .now) (args .small .now) (args .words .now) in
-    let sixteen = inputs-length (args .times .now) (args .small .now) (args .words .now) in (
+    let first = selectorAt (args .times .now) (args .small .now) (args .wider .now) in
+    let sixteen = inputs-length (args .times .now) (args .small .now) (args .wider .now) in (
       done (λ (input : Input). inputBroughtTo input (args .time) (args .mode)) first
-          (selectorAt (loop .times) (loop .small) (args .words .now))
+          (selectorAt (loop .times) (loop .small) (args .wider .now))
           (loop .at)
           sixteen
           (loop .inv .1)

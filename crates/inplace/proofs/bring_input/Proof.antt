@@ -19,8 +19,8 @@ returns c =
     let args = c .before .before .args in
     let pre = c .before .before .pre in
     let awaits = pre .1 (c .if1 .taken) in
-    let input = inputAt (args .times .now) (args .small .now) (args .words .now) (args .at) in (
-      same-stored (args .times .now) (args .small .now) (args .words .now) (args .at) (pre .0)
+    let input = inputAt (args .times .now) (args .small .now) (args .wider .now) (args .at) in (
+      same-stored (args .times .now) (args .small .now) (args .wider .now) (args .at) (pre .0)
           (inputBroughtTo input (args .time) (args .mode))
           (awaits .stays),
       sym (set-getD (args .own .now) (args .at) 0),
@@ -55,19 +55,19 @@ passed-quality-requires-2 c κs = search needs
 returns-2 : tie.Need-returns-2
 returns-2 c =
     let args = c .before .before .before .before .before .before .before .before .before .before .before .before .before .before .before .before .args in
-    let input = inputAt (args .times .now) (args .small .now) (args .words .now) (args .at) in
+    let input = inputAt (args .times .now) (args .small .now) (args .wider .now) (args .at) in
     let read = c .before .before .before .before .before .before .before .before .before .before .before .input-in in
     let after = c .before .before .before .before .before .before .before .before .before .before .brought-to in
     let next = c .before .before .before .before .next-of in
     let old = c .before .before .before .passed-quality in
     let new = c .before .before .passed-quality2 in (
-      brought-stored (args .times .now) (args .small .now) (args .words .now) (args .at)
+      brought-stored (args .times .now) (args .small .now) (args .wider .now) (args .at)
           _
           (read .result)
           (after .result)
           (args .time)
           (args .mode)
-          (c .before .before .before .before .before .put-run .ensures (args .words .now))
+          (c .before .before .before .before .before .put-run .ensures (args .wider .now))
           (read .ensures)
           (after .ensures),
       refl,

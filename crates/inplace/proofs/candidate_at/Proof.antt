@@ -24,10 +24,10 @@ returns : tie.Need-returns
 returns c =
     let modes = c .before .before .before in
     let args = modes .before .before .before .before .args in
-    candidate-inside (args .times .now) (args .small .now) (args .words .now) _ _ (c .before .input-in .ensures)
+    candidate-inside (args .times .now) (args .small .now) (args .wider .now) _ _ (c .before .input-in .ensures)
     (modes .before .before .if1 .taken) _ _ _
     (modes .before .profile-at .ensures (args .times .now))
-    (modes .mode-at .ensures (args .times .now) (args .words .now))
+    (modes .mode-at .ensures (args .times .now) (args .wider .now))
     (c .candidate-for .ensures)
 
 returns-2 : tie.Need-returns-2

@@ -34,7 +34,7 @@ codes-for-requires c κs = search needs
 returns : tie.Need-returns
 unfolding outgoingCodes
 returns c = let args = c .before .before .before .before .before .before .before .before .args in
-    signs-told outgoingCode codeOfQuality (selectorAt (args .times .now) (args .small .now) (args .words .now))
+    signs-told outgoingCode codeOfQuality (selectorAt (args .times .now) (args .small .now) (args .wider .now))
     (c .before .before .before .before .before .before .profile-at .result)
     (c .before .before .before .before .before .mode-at .result)
     (c .before .before .before .before .before .before .before .answer-at .result)
@@ -45,7 +45,7 @@ returns c = let args = c .before .before .before .before .before .before .before
     (c .codes-for .result)
     (c .before .before .before .before .before .before .before .answer-at .ensures)
     (c .before .before .before .before .before .before .profile-at .ensures (args .times .now))
-    (c .before .before .before .before .before .mode-at .ensures (args .times .now) (args .words .now))
+    (c .before .before .before .before .before .mode-at .ensures (args .times .now) (args .wider .now))
     (c .before .before .before .before .code-of-quality .ensures)
     (c .before .before .before .told-by .ensures)
     (c .before .before .code-of-quality2 .ensures)

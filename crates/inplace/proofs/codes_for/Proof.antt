@@ -13,13 +13,13 @@ use Rattle.inplace.proofs.codes_for.Statement.{statement}
 use Rattle.inplace.proofs.codes_for.Tie as tie
 
 abbrev Inv-loop : tie.InvT-loop
-Inv-loop times small words mode selected marks code first codes₀ rest₀ port₀ codes rest port =
+Inv-loop times small wider mode selected marks code first codes₀ rest₀ port₀ codes rest port =
     (port ≤ 16) × (length codes₀ ≡ 16) × (rest ≡ halved port marks) ×
     (codes ≡
-    filled (signFor outgoingCode (selectorAt times small words .inputs) mode selected marks code first) port ports codes₀)
+    filled (signFor outgoingCode (selectorAt times small wider .inputs) mode selected marks code first) port ports codes₀)
 
 abbrev μ-loop : tie.MeasureT-loop
-μ-loop times small words mode selected marks code first codes₀ rest₀ port₀ codes rest port = 16 - port
+μ-loop times small wider mode selected marks code first codes₀ rest₀ port₀ codes rest port = 16 - port
 
 loop-holds : tie.Need-loop-holds Inv-loop μ-loop
 loop-holds c = (search needs, search needs, search halved-laws, search needs)

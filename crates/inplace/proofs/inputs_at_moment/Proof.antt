@@ -12,13 +12,13 @@ use Rattle.inplace.proofs.inputs_at_moment.Statement.{statement}
 use Rattle.inplace.proofs.inputs_at_moment.Tie as tie
 
 abbrev Inv-loop : tie.InvT-loop
-Inv-loop times₀ small₀ words time mode at₀ times small at =
+Inv-loop times₀ small₀ wider time mode at₀ times small at =
     (at ≤ 16) ×
-    (selectorAt times small words ≡
-    changed (λ (input : Input). inputAtMoment input time mode false) at (selectorAt times₀ small₀ words))
+    (selectorAt times small wider ≡
+    changed (λ (input : Input). inputAtMoment input time mode false) at (selectorAt times₀ small₀ wider))
 
 abbrev μ-loop : tie.MeasureT-loop
-μ-loop times₀ small₀ words time mode at₀ times small at = 16 - at
+μ-loop times₀ small₀ wider time mode at₀ times small at = 16 - at
 
 loop-holds : tie.Need-loop-holds Inv-loop μ-loop
 loop-holds c = (search needs, refl)
@@ -44,17 +44,17 @@ loop-again c =
     let loop = c .before .before .before .before .before .before .before .before .before .loop in (
       search needs,
       turn (λ (input : Input). inputAtMoment input (args .time) (args .mode) false)
-          (selectorAt (args .times .now) (args .small .now) (args .words .now))
+          (selectorAt (args .times .now) (args .small .now) (args .wider .now))
           (loop .times)
           (loop .small)
-          (args .words .now)
-          (selectorAt (c .put-run .last .0) (c .put-run .last .1 .0) (args .words .now))
+          (args .wider .now)
+          (selectorAt (c .put-run .last .0) (c .put-run .last .1 .0) (args .wider .now))
           (loop .at)
-          (withRun (inputAt (loop .times) (loop .small) (args .words .now) (loop .at)) (c .before .before .before .before .at-moment .result .run))
-          (inputs-length (args .times .now) (args .small .now) (args .words .now))
+          (withRun (inputAt (loop .times) (loop .small) (args .wider .now) (loop .at)) (c .before .before .before .before .at-moment .result .run))
+          (inputs-length (args .times .now) (args .small .now) (args .wider .now))
           (loop .inv .1)
-          (c .put-run .ensures (args .words .now))
-          (momentary (inputAt (loop .times) (loop .small) (args .words .now) (loop .at)) (c .before .before .before .before .before .input-in .result)
+          (c .put-run .ensures (args .wider .now))
+          (momentary (inputAt (loop .times) (loop .small) (args .wider .now) (loop .at)) (c .before .before .before .before .before .input-in .result)
           (c .before .before .before .before .at-moment .result)
           (args .time)
           (args .mode)
@@ -69,10 +69,10 @@ returns c =
     let args = c .before .before .args in
     let loop = c .before .loop in
     done (λ (input : Input). inputAtMoment input (args .time) (args .mode) false)
-    (selectorAt (args .times .now) (args .small .now) (args .words .now))
-    (selectorAt (loop .times) (loop .small) (args .words .now))
+    (selectorAt (args .times .now) (args .small .now) (args .wider .now))
+    (selectorAt (loop .times) (loop .small) (args .wider .now))
     (loop .at)
-    (inputs-length (args .times .now) (args .small .now) (args .words .now))
+    (inputs-length (args .times .now) (args .small .now) (args .wider .now))
     (loop .inv .1)
     (loop .inv .0)
     (c .loop-test .left)

@@ -12,14 +12,14 @@ use Rattle.inplace.proofs.leader_at.Statement.{statement}
 use Rattle.inplace.proofs.leader_at.Tie as tie
 
 abbrev Inv-loop : tie.InvT-loop
-Inv-loop times small words profile mode leader₀ number₀ leader number =
+Inv-loop times small wider profile mode leader₀ number₀ leader number =
     (number ≤ 16)
     × ((before : Selection)
-    → leader₀ ≡ leadsAfter (candidatesOf profile (selectorAt times small words .inputs) mode) 0 before
-    → leader ≡ leadsAfter (candidatesOf profile (selectorAt times small words .inputs) mode) number before)
+    → leader₀ ≡ leadsAfter (candidatesOf profile (selectorAt times small wider .inputs) mode) 0 before
+    → leader ≡ leadsAfter (candidatesOf profile (selectorAt times small wider .inputs) mode) number before)
 
 abbrev μ-loop : tie.MeasureT-loop
-μ-loop times small words profile mode leader₀ number₀ leader number = 16 - number
+μ-loop times small wider profile mode leader₀ number₀ leader number = 16 - number
 
 profile-at-requires : tie.Need-profile-at-requires Inv-loop μ-loop
 profile-at-requires c κs = search needs
@@ -63,7 +63,7 @@ loop-again c =
     let args = turn .before .before .before .before .before .before .before .args in (
       search needs,
       λ before first.
-          leader-turn (args .times .now) (args .small .now) (args .words .now) _ _ (c .before .before .input-in .ensures)
+          leader-turn (args .times .now) (args .small .now) (args .wider .now) _ _ (c .before .before .input-in .ensures)
           (turn .loop-test .taken) _ _ before _ _ _ (turn .before .loop .inv .1 before first)
           (c .before .candidate-for .ensures) (c .offer .ensures),
     )
@@ -74,10 +74,10 @@ returns c =
     let modes = seeded .before .before .before in
     let args = modes .before .before .args in
     let profile = modes .before .profile-at .ensures (args .times .now) in
-    let mode = modes .mode-at .ensures (args .times .now) (args .words .now) in
-    leader-end (args .times .now) (args .small .now) (args .words .now) _ _ (args .before) _ _
+    let mode = modes .mode-at .ensures (args .times .now) (args .wider .now) in
+    leader-end (args .times .now) (args .small .now) (args .wider .now) _ _ (args .before) _ _
     (c .before .loop .inv .1 (args .before)
-    (leader-begin (args .times .now) (args .small .now) (args .words .now) _ _ (args .before) _ _ _ profile mode
+    (leader-begin (args .times .now) (args .small .now) (args .wider .now) _ _ (args .before) _ _ _ profile mode
     (seeded .before .before .selected-number .ensures)
     (seeded .before .candidate-at .ensures)
     (seeded .seed .ensures)))

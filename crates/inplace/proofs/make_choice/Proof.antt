@@ -40,8 +40,8 @@ returns c =
     let selection = held .before .before in
     let switch = selection .before .before in
     let args = switch .before .before .args in
-    chosen (selectorAt (args .times .now) (args .small .now) (args .words .now))
-    (selectorAt (args .times .now) (c .put-choice .last .0) (args .words .now))
+    chosen (selectorAt (args .times .now) (args .small .now) (args .wider .now))
+    (selectorAt (args .times .now) (c .put-choice .last .0) (args .wider .now))
     (decided .decide .result)
     (switch .switch-at .result)
     (selection .selection-at .result)
@@ -49,16 +49,16 @@ returns c =
     (on .switch-input .result)
     (own .candidate-at .result)
     (leader .leader-at .result)
-    (switch-on (args .times .now) (args .small .now) (args .words .now))
-    (inputs-length (args .times .now) (args .small .now) (args .words .now))
-    (c .put-choice .ensures (args .times .now) (args .words .now))
+    (switch-on (args .times .now) (args .small .now) (args .wider .now))
+    (inputs-length (args .times .now) (args .small .now) (args .wider .now))
+    (c .put-choice .ensures (args .times .now) (args .wider .now))
     (decided .decide .ensures)
     (leader .leader-at .ensures)
     (own .candidate-at .ensures)
     (on .switch-input .ensures)
-    (switch .switch-at .ensures (args .times .now) (args .words .now))
-    (selection .selection-at .ensures (args .times .now) (args .words .now))
-    (held .was-locked-at .ensures (args .times .now) (args .words .now))
+    (switch .switch-at .ensures (args .times .now) (args .wider .now))
+    (selection .selection-at .ensures (args .times .now) (args .wider .now))
+    (held .was-locked-at .ensures (args .times .now) (args .wider .now))
 
 pub make-choice-spec : {M : Type 1} → statement M
 make-choice-spec =

@@ -10,11 +10,11 @@ use Rattle.inplace.proofs.next_due.Statement.{statement}
 use Rattle.inplace.proofs.next_due.Tie as tie
 
 abbrev Inv-loop : tie.InvT-loop
-Inv-loop times small words mode time due₀ at₀ due at =
-    (at ≤ 16) × (due ≡ nextAmong (selectorAt times small words .inputs) mode time at)
+Inv-loop times small wider mode time due₀ at₀ due at =
+    (at ≤ 16) × (due ≡ nextAmong (selectorAt times small wider .inputs) mode time at)
 
 abbrev μ-loop : tie.MeasureT-loop
-μ-loop times small words mode time due₀ at₀ due at = 16 - at
+μ-loop times small wider mode time due₀ at₀ due at = 16 - at
 
 mode-at-requires : tie.Need-mode-at-requires Inv-loop μ-loop
 mode-at-requires c κs = search needs
@@ -45,13 +45,13 @@ loop-again c = (search needs, search due-turn)
 
 returns : tie.Need-returns Inv-loop μ-loop
 returns c = let args = c .before .before .before .before .args in
-    due-done (args .times .now) (args .small .now) (args .words .now) (c .before .before .before .mode-at .result)
+    due-done (args .times .now) (args .small .now) (args .wider .now) (c .before .before .before .mode-at .result)
     (c .before .before .time-at .result)
     (c .before .loop .at)
     (c .before .loop .due)
     (c .before .loop .inv .1)
-    (c .before .before .before .mode-at .ensures (args .times .now) (args .words .now))
-    (c .before .before .time-at .ensures (args .small .now) (args .words .now))
+    (c .before .before .before .mode-at .ensures (args .times .now) (args .wider .now))
+    (c .before .before .time-at .ensures (args .small .now) (args .wider .now))
     (c .before .loop .inv .0)
     (c .loop-test .left)
 

@@ -10,13 +10,13 @@ use Rattle.inplace.proofs.put_fresh.Statement.{statement}
 use Rattle.inplace.proofs.put_fresh.Tie as tie
 
 abbrev Inv-loop : tie.InvT-loop
-Inv-loop times₀ small₀ words₀ fresh at₀ times small words at =
+Inv-loop times₀ small₀ wider₀ fresh at₀ times small wider at =
     (at ≤ 16) ×
-    (selectorAt times small words ≡
-    changed (λ (one : Input). freshInput) at (selectorAt times₀ small₀ words₀))
+    (selectorAt times small wider ≡
+    changed (λ (one : Input). freshInput) at (selectorAt times₀ small₀ wider₀))
 
 abbrev μ-loop : tie.MeasureT-loop
-μ-loop times₀ small₀ words₀ fresh at₀ times small words at = 16 - at
+μ-loop times₀ small₀ wider₀ fresh at₀ times small wider at = 16 - at
 
 fresh-requires : tie.Need-fresh-requires Inv-loop μ-loop
 fresh-requires c κs = search needs
@@ -39,14 +39,14 @@ loop-again c =
     let loop = c .before .before .before .before .before .loop in (
       search needs,
       turn (λ (one : Input). freshInput)
-          (selectorAt (args .times .now) (args .small .now) (args .words .now))
+          (selectorAt (args .times .now) (args .small .now) (args .wider .now))
           (loop .times)
           (loop .small)
-          (loop .words)
+          (loop .wider)
           (selectorAt (c .put-in .last .0) (c .put-in .last .1 .0) (c .put-in .last .1 .1 .0))
           (loop .at)
           (c .before .before .before .before .before .before .fresh .result)
-          (inputs-length (args .times .now) (args .small .now) (args .words .now))
+          (inputs-length (args .times .now) (args .small .now) (args .wider .now))
           (loop .inv .1)
           (c .put-in .ensures)
           (c .before .before .before .before .before .before .fresh .ensures)
@@ -57,8 +57,8 @@ returns : tie.Need-returns Inv-loop μ-loop
 returns c =
     let args = c .before .before .before .args in
     let loop = c .before .loop in
-    fresh-done (args .times .now) (args .small .now) (args .words .now)
-    (selectorAt (loop .times) (loop .small) (loop .words))
+    fresh-done (args .times .now) (args .small .now) (args .wider .now)
+    (selectorAt (loop .times) (loop .small) (loop .wider))
     (loop .at)
     (loop .inv .1)
     (loop .inv .0)

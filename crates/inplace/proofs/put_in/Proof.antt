@@ -11,8 +11,8 @@ know-times-requires c κs = search needs
 know-small-requires : tie.Need-know-small-requires
 know-small-requires c κs = search needs
 
-know-words-requires : tie.Need-know-words-requires
-know-words-requires c κs = search needs
+know-wider-requires : tie.Need-know-wider-requires
+know-wider-requires c κs = search needs
 
 kind-argument-requires : tie.Need-kind-argument-requires
 kind-argument-requires c κs = search needs
@@ -32,20 +32,20 @@ mul-times-2 c = search needs
 element-write-times-2 : tie.Need-element-write-times-2
 element-write-times-2 c = search needs
 
-mul-words : tie.Need-mul-words
-mul-words c = search needs
+mul-wider : tie.Need-mul-wider
+mul-wider c = search needs
 
-element-write-words : tie.Need-element-write-words
-element-write-words c = search needs
+element-write-wider : tie.Need-element-write-wider
+element-write-wider c = search needs
 
-add-words : tie.Need-add-words
-add-words c = search needs
+add-wider : tie.Need-add-wider
+add-wider c = search needs
 
-mul-words-2 : tie.Need-mul-words-2
-mul-words-2 c = search needs
+mul-wider-2 : tie.Need-mul-wider-2
+mul-wider-2 c = search needs
 
-element-write-words-2 : tie.Need-element-write-words-2
-element-write-words-2 c = search needs
+element-write-wider-2 : tie.Need-element-write-wider-2
+element-write-wider-2 c = search needs
 
 element-write-small : tie.Need-element-write-small
 element-write-small c = search needs
@@ -146,12 +146,12 @@ element-write-small-14 c = search needs
 returns : tie.Need-returns
 returns c = let args = c .before .before .before .before .before .before .before .before .before .before .before .before .before .before .before .args in
     rw (add-zero (args .at)) at
-    (input-stored (args .times .now) (args .small .now) (args .words .now) (args .at) (args .input)
+    (input-stored (args .times .now) (args .small .now) (args .wider .now) (args .at) (args .input)
     (c .before .before .before .before .before .kind-argument .result)
     (c .before .before .before .before .before .before .before .before .before .before .before .before .before .before .before .pre)
     (c .before .before .before .before .before .before .before .before .before .before .before .before .before .know-times .ensures)
     (c .before .before .before .before .before .before .before .before .before .before .before .know-small .ensures)
-    (c .before .before .before .before .before .before .before .before .before .know-words .ensures)
+    (c .before .before .before .before .before .before .before .before .before .know-wider .ensures)
     (c .before .before .before .before .before .kind-argument .ensures))
 
 pub put-in-spec : {M : Type 1} → statement M
@@ -160,18 +160,18 @@ put-in-spec =
     (tie.spec
     know-times-requires
     know-small-requires
-    know-words-requires
+    know-wider-requires
     kind-argument-requires
     mul-times
     element-write-times
     add-times
     mul-times-2
     element-write-times-2
-    mul-words
-    element-write-words
-    add-words
-    mul-words-2
-    element-write-words-2
+    mul-wider
+    element-write-wider
+    add-wider
+    mul-wider-2
+    element-write-wider-2
     element-write-small
     add-small
     element-write-small-2

@@ -44,8 +44,8 @@ element-write-small-3 : tie.Need-element-write-small-3
 element-write-small-3 c = search needs
 
 returns : tie.Need-returns
-returns c = let args = c .before .before .before .before .before .before .args in λ words.
-    run-stored (args .times .now) (args .small .now) words (args .at) (args .run) (c .before .before .before .before .before .before .pre)
+returns c = let args = c .before .before .before .before .before .before .args in λ wider.
+    run-stored (args .times .now) (args .small .now) wider (args .at) (args .run) (c .before .before .before .before .before .before .pre)
     (c .before .before .before .before .know-times .ensures) (c .before .before .know-small .ensures)
 
 pub put-run-spec : {M : Type 1} → statement M

@@ -20,11 +20,11 @@ bring-due-requires c κs =
     let start = c .before .before .before .before .before in
     let args = start .args in
     subst
-    (λ (mode : Bool). Awaiting (selectorAt (args .times .now) (args .small .now) (args .words .now) .inputs) mode
+    (λ (mode : Bool). Awaiting (selectorAt (args .times .now) (args .small .now) (args .wider .now) .inputs) mode
     (args .time)
     (args .until)
     (args .own .now))
-    (sym (c .before .before .before .mode-at .ensures (args .times .now) (args .words .now)))
+    (sym (c .before .before .before .mode-at .ensures (args .times .now) (args .wider .now)))
     (start .pre .0)
 
 put-time-requires : tie.Need-put-time-requires
@@ -37,16 +37,16 @@ returns c =
     let asked = c .before .before .before .before .before .before .before .before .mode-at in
     let brought = c .before .before .before .before .bring-due in
     let timed = c .before .before .put-time in
-    let state = selectorAt (args .times .now) (args .small .now) (args .words .now) in
-    let after = selectorAt (timed .last .0) (brought .last .1 .0) (args .words .now) in
-    let mode = asked .ensures (args .times .now) (args .words .now) in
+    let state = selectorAt (args .times .now) (args .small .now) (args .wider .now) in
+    let after = selectorAt (timed .last .0) (brought .last .1 .0) (args .wider .now) in
+    let mode = asked .ensures (args .times .now) (args .wider .now) in
     let both = c .if1 .taken in
-    let ticked = moment-alike state (selectorAt (brought .last .0) (brought .last .1 .0) (args .words .now)) after (args .time)
+    let ticked = moment-alike state (selectorAt (brought .last .0) (brought .last .1 .0) (args .wider .now)) after (args .time)
     (asked .result)
-    (inputs-length (args .times .now) (args .small .now) (args .words .now))
+    (inputs-length (args .times .now) (args .small .now) (args .wider .now))
     mode
     (brought .ensures .0)
-    (timed .ensures (brought .last .1 .0) (args .words .now))
+    (timed .ensures (brought .last .1 .0) (args .wider .now))
     (start .pre .1 (both-first (args .chosen) (brought .result .alike) both))
     (brought .ensures .3 (both-second (args .chosen) (brought .result .alike) both)) in (
       ticked,
@@ -63,17 +63,17 @@ returns-2 c =
     let asked = c .before .before .before .before .before .before .before .before .before .before .before .mode-at in
     let brought = c .before .before .before .before .before .before .before .bring-due in
     let timed = c .before .before .before .before .before .put-time in
-    let state = selectorAt (args .times .now) (args .small .now) (args .words .now) in
-    let after = selectorAt (timed .last .0) (c .make-choice .last .1 .0) (args .words .now) in
-    let mode = asked .ensures (args .times .now) (args .words .now) in
-    let ticked = moment state (selectorAt (brought .last .0) (brought .last .1 .0) (args .words .now))
-    (selectorAt (timed .last .0) (brought .last .1 .0) (args .words .now))
+    let state = selectorAt (args .times .now) (args .small .now) (args .wider .now) in
+    let after = selectorAt (timed .last .0) (c .make-choice .last .1 .0) (args .wider .now) in
+    let mode = asked .ensures (args .times .now) (args .wider .now) in
+    let ticked = moment state (selectorAt (brought .last .0) (brought .last .1 .0) (args .wider .now))
+    (selectorAt (timed .last .0) (brought .last .1 .0) (args .wider .now))
     after
     (args .time)
     (asked .result)
     mode
     (brought .ensures .0)
-    (timed .ensures (brought .last .1 .0) (args .words .now))
+    (timed .ensures (brought .last .1 .0) (args .wider .now))
     (c .make-choice .ensures) in (
       ticked,
       moment-own state after (args .time) (asked .result) mode ticked _ (brought .ensures .1),

@@ -35,7 +35,7 @@ words-for-requires c κs = search needs
 returns : tie.Need-returns
 unfolding outgoingWords
 returns c = let args = c .before .before .before .before .before .before .before .before .args in
-    signs-told outgoingWord (λ (profile : Profile). wordOfQuality) (selectorAt (args .times .now) (args .small .now) (args .words .now))
+    signs-told outgoingWord (λ (profile : Profile). wordOfQuality) (selectorAt (args .times .now) (args .small .now) (args .wider .now))
     (c .before .before .before .before .before .before .profile-at .result)
     (c .before .before .before .before .before .mode-at .result)
     (c .before .before .before .before .before .before .before .answer-at .result)
@@ -46,7 +46,7 @@ returns c = let args = c .before .before .before .before .before .before .before
     (c .words-for .result)
     (c .before .before .before .before .before .before .before .answer-at .ensures)
     (c .before .before .before .before .before .before .profile-at .ensures (args .times .now))
-    (c .before .before .before .before .before .mode-at .ensures (args .times .now) (args .words .now))
+    (c .before .before .before .before .before .mode-at .ensures (args .times .now) (args .wider .now))
     (c .before .before .before .before .word-of-quality .ensures)
     (c .before .before .before .told-by .ensures)
     (c .before .before .word-of-quality2 .ensures)

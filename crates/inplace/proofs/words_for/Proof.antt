@@ -13,13 +13,13 @@ use Rattle.inplace.proofs.words_for.Statement.{statement}
 use Rattle.inplace.proofs.words_for.Tie as tie
 
 abbrev Inv-loop : tie.InvT-loop
-Inv-loop times small words mode selected marks word first out₀ rest₀ port₀ out rest port =
+Inv-loop times small wider mode selected marks word first out₀ rest₀ port₀ out rest port =
     (port ≤ 16) × (length out₀ ≡ 16) × (rest ≡ halved port marks) ×
     (out ≡
-    filled (signFor outgoingWord (selectorAt times small words .inputs) mode selected marks word first) port ports out₀)
+    filled (signFor outgoingWord (selectorAt times small wider .inputs) mode selected marks word first) port ports out₀)
 
 abbrev μ-loop : tie.MeasureT-loop
-μ-loop times small words mode selected marks word first out₀ rest₀ port₀ out rest port = 16 - port
+μ-loop times small wider mode selected marks word first out₀ rest₀ port₀ out rest port = 16 - port
 
 loop-holds : tie.Need-loop-holds Inv-loop μ-loop
 loop-holds c = (search needs, search needs, search halved-laws, search needs)

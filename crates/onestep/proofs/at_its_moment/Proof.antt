@@ -33,7 +33,7 @@ make-choice-requires c κs = search needs
 returns : tie.Need-returns
 returns c = let args = c .before .before .before .before .before .before .before .before .before .before .before .before .before .before .before .before .before .before .before .args in
     let all = c .before .before .before .before .before .before .inputs-after in
-    own-moment (selectorAt (args .times .now) (args .small .now) (args .words .now))
+    own-moment (selectorAt (args .times .now) (args .small .now) (args .wider .now))
     (selectorAt (all .last .0) (all .last .1 .0) (all .last .1 .1 .0))
     (selectorAt (all .last .0) (c .before .before .before .before .put-command .last .0) (all .last .1 .1 .0))
     (selectorAt (all .last .0) (c .make-choice .last .1 .0) (all .last .1 .1 .0))
@@ -43,11 +43,11 @@ returns c = let args = c .before .before .before .before .before .before .before
     (c .before .before .before .before .before .before .before .before .before .before .before .before .before .before .before .before .mode-after .result)
     (c .before .before .before .before .before .before .before .before .before .before .before .before .before .before .switch-at .result)
     (c .before .before .before .before .before .before .before .before .before .before .before .before .before .commanded .result)
-    (switch-on (args .times .now) (args .small .now) (args .words .now))
+    (switch-on (args .times .now) (args .small .now) (args .wider .now))
     (c .before .before .before .before .before .before .before .before .before .before .before .before .before .before .before .before .before .before .before .pre)
-    (c .before .before .before .before .before .before .before .before .before .before .before .before .before .before .before .before .before .mode-at .ensures (args .times .now) (args .words .now))
+    (c .before .before .before .before .before .before .before .before .before .before .before .before .before .before .before .before .before .mode-at .ensures (args .times .now) (args .wider .now))
     (c .before .before .before .before .before .before .before .before .before .before .before .before .before .before .before .before .mode-after .ensures)
-    (c .before .before .before .before .before .before .before .before .before .before .before .before .before .before .switch-at .ensures (args .times .now) (args .words .now))
+    (c .before .before .before .before .before .before .before .before .before .before .before .before .before .before .switch-at .ensures (args .times .now) (args .wider .now))
     (c .before .before .before .before .before .before .before .before .before .before .before .before .before .commanded .ensures)
     (c .before .before .before .before .before .before .before .before .before .before .profile-at .ensures (args .times .now))
     (all .ensures)

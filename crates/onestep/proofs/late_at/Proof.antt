@@ -27,12 +27,12 @@ returns c =
     let leader = c .before .before .before in
     let own = leader .before in
     let args = own .before .before .before .args in
-    late-judged (selectorAt (args .times .now) (args .small .now) (args .words .now)) (args .event)
+    late-judged (selectorAt (args .times .now) (args .small .now) (args .wider .now)) (args .event)
     (c .before .switch-at .result) (own .candidate-at .result) (leader .leader-at .result) (c .late-refusal .result) S.Nothing
-    (c .before .switch-at .ensures (args .times .now) (args .words .now))
+    (c .before .switch-at .ensures (args .times .now) (args .wider .now))
     (own .candidate-at .ensures)
     (leader .leader-at .ensures)
-    (inputs-length (args .times .now) (args .small .now) (args .words .now))
+    (inputs-length (args .times .now) (args .small .now) (args .wider .now))
     (c .late-refusal .ensures)
 
 returns-2 : tie.Need-returns-2

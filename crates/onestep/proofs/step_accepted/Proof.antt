@@ -15,8 +15,8 @@ returns : tie.Need-returns
 returns c = let args = c .before .before .before .before .before .before .before .before .args in
     let tick = c .before .before .before .before .serve in
     let after = c .step-ticked in
-    accepted-step (selectorAt (args .times .now) (args .small .now) (args .words .now))
-    (selectorAt (tick .last .0) (tick .last .1 .0) (args .words .now))
+    accepted-step (selectorAt (args .times .now) (args .small .now) (args .wider .now))
+    (selectorAt (tick .last .0) (tick .last .1 .0) (args .wider .now))
     (selectorAt (after .last .0) (after .last .1 .0) (after .last .1 .1 .0))
     (tick .result)
     (after .result)

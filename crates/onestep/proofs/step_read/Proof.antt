@@ -21,7 +21,7 @@ early-refusal-requires c κs = search needs
 returns : tie.Need-returns
 returns c = let args = c .before .before .before .before .before .before .before .before .before .before .before .before .args in
     read-refused
-    (selectorAt (args .times .now) (args .small .now) (args .words .now))
+    (selectorAt (args .times .now) (args .small .now) (args .wider .now))
     (args .event)
     (args .read)
     (c .before .before .before .before .before .before .before .before .input-at .result)
@@ -30,16 +30,16 @@ returns c = let args = c .before .before .before .before .before .before .before
     (c .before .early-refusal .result)
     (c .before .before .before .before .before .before .before .before .input-at .ensures)
     (c .before .before .before .before .profile-at .ensures (args .times .now))
-    (c .before .before .time-at .ensures (args .small .now) (args .words .now))
+    (c .before .before .time-at .ensures (args .small .now) (args .wider .now))
     (c .before .early-refusal .ensures)
-    (selectorAt (args .times .now) (args .small .now) (args .words .now))
+    (selectorAt (args .times .now) (args .small .now) (args .wider .now))
     (search needs)
     refl
 
 step-accepted-requires : tie.Need-step-accepted-requires
 step-accepted-requires c κs = let args = c .before .before .before .before .before .before .before .before .before .before .before .before .before .before .before .args in
     read-accepted
-    (selectorAt (args .times .now) (args .small .now) (args .words .now))
+    (selectorAt (args .times .now) (args .small .now) (args .wider .now))
     (args .event)
     (args .read)
     (c .before .before .before .before .before .before .before .before .before .before .before .input-at .result)
@@ -48,7 +48,7 @@ step-accepted-requires c κs = let args = c .before .before .before .before .bef
     (c .before .before .before .before .early-refusal .result)
     (c .before .before .before .before .before .before .before .before .before .before .before .input-at .ensures)
     (c .before .before .before .before .before .before .before .profile-at .ensures (args .times .now))
-    (c .before .before .before .before .before .time-at .ensures (args .small .now) (args .words .now))
+    (c .before .before .before .before .before .time-at .ensures (args .small .now) (args .wider .now))
     (c .before .before .before .before .early-refusal .ensures)
     (search needs)
 

@@ -8,8 +8,8 @@ use Rattle.selector.proofs.candidate_for.Tie as tie
 seen-of-requires : tie.Need-seen-of-requires
 seen-of-requires c κs = search needs
 
-place-of-requires : tie.Need-place-of-requires
-place-of-requires c κs = search needs
+prov-place-of-requires : tie.Need-prov-place-of-requires
+prov-place-of-requires c κs = search needs
 
 limits-of-requires : tie.Need-limits-of-requires
 limits-of-requires c κs = search needs
@@ -27,7 +27,7 @@ returns c =
       c .candidate-of .ensures,
       c .before .floor-in .ensures,
       c .before .before .before .limits-of .ensures,
-      c .before .before .before .before .place-of .ensures,
+      c .before .before .before .before .prov-place-of .ensures,
       c .before .before .before .before .before .before .before .seen-of .ensures,
     )
 
@@ -36,7 +36,7 @@ candidate-for-spec =
     tie.close
     (tie.spec
     seen-of-requires
-    place-of-requires
+    prov-place-of-requires
     limits-of-requires
     floor-in-requires
     candidate-of-requires

@@ -31,8 +31,8 @@ slice-aggregate-arg-3 c = search needs
 arg-requires-3 : tie.Need-arg-requires-3
 arg-requires-3 c κs = search needs
 
-word-count-requires : tie.Need-word-count-requires
-word-count-requires c κs = search needs
+argument-count-requires : tie.Need-argument-count-requires
+argument-count-requires c κs = search needs
 
 array-share-prefix-option : tie.Need-array-share-prefix-option
 array-share-prefix-option c = c .before .before .before .before .before .before .before .before .arg .ensures .0
@@ -40,8 +40,8 @@ array-share-prefix-option c = c .before .before .before .before .before .before 
 slice-aggregate-start-by : tie.Need-slice-aggregate-start-by
 slice-aggregate-start-by c = c .before .before .before .before .before .before .before .before .before .arg .ensures .1
 
-array-share-prefix-place : tie.Need-array-share-prefix-place
-array-share-prefix-place c = c .before .before .before .before .before .before .arg2 .ensures .0
+array-share-prefix-provplace : tie.Need-array-share-prefix-provplace
+array-share-prefix-provplace c = c .before .before .before .before .before .before .arg2 .ensures .0
 
 slice-aggregate-start-by-2 : tie.Need-slice-aggregate-start-by-2
 slice-aggregate-start-by-2 c = c .before .before .before .before .before .before .before .arg2 .ensures .1
@@ -60,7 +60,7 @@ returns c =
     record {
       count = _;
       option = _;
-      place = _;
+      provplace = _;
       marks = _;
       is = c .start-by .ensures;
     }
@@ -77,10 +77,10 @@ read-start-spec =
     arg-requires-2
     slice-aggregate-arg-3
     arg-requires-3
-    word-count-requires
+    argument-count-requires
     array-share-prefix-option
     slice-aggregate-start-by
-    array-share-prefix-place
+    array-share-prefix-provplace
     slice-aggregate-start-by-2
     array-share-prefix-marks
     slice-aggregate-start-by-3

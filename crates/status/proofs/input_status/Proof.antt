@@ -25,8 +25,8 @@ returns c = let args = c .before .before .before .before .before .args in
     c .status-of .ensures ∙
     (λ j.
     statusOf (c .before .before .before .before .profile-at .ensures (args .times .now) j) (c .before .input-at .ensures j)
-    (c .before .before .before .mode-at .ensures (args .times .now) (args .words .now) j)
-    (c .before .before .time-at .ensures (args .small .now) (args .words .now) j))
+    (c .before .before .before .mode-at .ensures (args .times .now) (args .wider .now) j)
+    (c .before .before .time-at .ensures (args .small .now) (args .wider .now) j))
 
 pub input-status-spec : {M : Type 1} → statement M
 input-status-spec =

@@ -16,7 +16,7 @@ returns c =
     let args = c .before .before .before .before .before .before .before .before .before .args in
     let tick = c .before .before .before .before .before .step-read in
     let step = c .step-read2 in
-    half-taken (selectorAt (args .times .now) (args .small .now) (args .words .now)) (args .goes) (args .event) (args .read) (tick .result .number) (tick .result .count)
+    half-taken (selectorAt (args .times .now) (args .small .now) (args .wider .now)) (args .goes) (args .event) (args .read) (tick .result .number) (tick .result .count)
     (selectorAt (tick .last .0) (tick .last .1 .0) (tick .last .1 .1 .0)) (tick .ensures) (step .result .number) (step .result .count)
     (selectorAt (step .last .0) (step .last .1 .0) (step .last .1 .1 .0)) (c .before .before .before .before .if1 .taken) (step .ensures)
 
@@ -24,7 +24,7 @@ returns-2 : tie.Need-returns-2
 returns-2 c =
     let args = c .before .before .before .before .before .args in
     let tick = c .before .step-read in
-    half-ticked (selectorAt (args .times .now) (args .small .now) (args .words .now)) (args .goes) (args .event) (args .read) (tick .result .number) (tick .result .count)
+    half-ticked (selectorAt (args .times .now) (args .small .now) (args .wider .now)) (args .goes) (args .event) (args .read) (tick .result .number) (tick .result .count)
     (selectorAt (tick .last .0) (tick .last .1 .0) (tick .last .1 .1 .0)) (tick .ensures) (c .if1 .left)
 
 pub half-step-spec : {M : Type 1} → statement M

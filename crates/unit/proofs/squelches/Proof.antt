@@ -8,8 +8,8 @@ use Rattle.unit.proofs.squelches.Tie as tie
 returns : tie.Need-returns
 returns c = search squelchedBy-laws
 
-place-of-requires : tie.Need-place-of-requires
-place-of-requires c κs = search needs
+prov-place-of-requires : tie.Need-prov-place-of-requires
+prov-place-of-requires c κs = search needs
 
 rank-of-requires : tie.Need-rank-of-requires
 rank-of-requires c κs = search needs
@@ -26,4 +26,4 @@ returns-3 c = search squelchedBy-laws
 pub squelches-spec : {M : Type 1} → statement M
 squelches-spec =
     tie.close
-    (tie.spec returns place-of-requires rank-of-requires rank-of-requires-2 returns-2 returns-3)
+    (tie.spec returns prov-place-of-requires rank-of-requires rank-of-requires-2 returns-2 returns-3)

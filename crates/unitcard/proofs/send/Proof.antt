@@ -26,10 +26,10 @@ cast-t13 c = search needs
 returns : tie.Need-returns
 returns c =
     let args = c .before .before .before .before .before .args in
-    sent-told (selectorAt (args .times .now) (args .small .now) (args .words .now)) (args .minimum) (c .before .before .before .before .answer-at .result)
+    sent-told (selectorAt (args .times .now) (args .small .now) (args .wider .now)) (args .minimum) (c .before .before .before .before .answer-at .result)
     (c .before .before .before .mode-at .result) (c .before .before .profile-at .result) (c .before .squelches .result) (c .source-by .result)
     (c .before .before .before .before .answer-at .ensures)
-    (c .before .before .before .mode-at .ensures (args .times .now) (args .words .now))
+    (c .before .before .before .mode-at .ensures (args .times .now) (args .wider .now))
     (c .before .before .profile-at .ensures (args .times .now))
     (c .before .squelches .ensures)
     (c .source-by .ensures)

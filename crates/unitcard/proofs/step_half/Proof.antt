@@ -17,7 +17,7 @@ returns : tie.Need-returns
 returns c =
     let args = c .before .before .before .before .before .before .before .before .before .before .args in
     let step = c .before .before .before .before .before .before .half-step in
-    half-stepped (halfStep (selectorAt (args .times .now) (args .small .now) (args .words .now)) (args .goes) (args .event) (args .read)) (step .result)
+    half-stepped (halfStep (selectorAt (args .times .now) (args .small .now) (args .wider .now)) (args .goes) (args .event) (args .read)) (step .result)
     (selectorAt (step .last .0) (step .last .1 .0) (step .last .1 .1 .0))
     (watchAt (step .last .0) (step .last .1 .0) (step .last .1 .1 .0) (c .tell-half .last .1 .1 .1 .0)
     (c .tell-half .last .1 .1 .1 .1 .0))

@@ -19,7 +19,7 @@ returns : tie.Need-returns
 unfolding watchAt
 returns c =
     let args = c .before .before .before .before .before .args in
-    let state = selectorAt (args .times .now) (args .small .now) (args .words .now) in
+    let state = selectorAt (args .times .now) (args .small .now) (args .wider .now) in
     half-told (args .number) state (c .before .before .before .before .next-due .result) (c .before .before .before .answer-at .result)
     (watchHeld state (c .tell .last .0) (c .tell .last .1 .0))
     (c .before .before .before .before .next-due .ensures)

@@ -48,8 +48,9 @@ slice-aggregate-unit-start-by : tie.Need-slice-aggregate-unit-start-by
 slice-aggregate-unit-start-by c =
     c .before .before .before .before .before .before .before .before .before .before .before .before .arg .ensures .1
 
-array-share-prefix-place : tie.Need-array-share-prefix-place
-array-share-prefix-place c = c .before .before .before .before .before .before .before .before .before .arg2 .ensures .0
+array-share-prefix-provplace : tie.Need-array-share-prefix-provplace
+array-share-prefix-provplace c =
+    c .before .before .before .before .before .before .before .before .before .arg2 .ensures .0
 
 slice-aggregate-unit-start-by-2 : tie.Need-slice-aggregate-unit-start-by-2
 slice-aggregate-unit-start-by-2 c =
@@ -75,7 +76,7 @@ returns c =
     record {
       count = _;
       option = _;
-      place = _;
+      provplace = _;
       marks = _;
       minimum = _;
       is = c .unit-start-by .ensures;
@@ -98,7 +99,7 @@ read-unit-start-spec =
     arg-count-requires
     array-share-prefix-option
     slice-aggregate-unit-start-by
-    array-share-prefix-place
+    array-share-prefix-provplace
     slice-aggregate-unit-start-by-2
     array-share-prefix-marks
     slice-aggregate-unit-start-by-3

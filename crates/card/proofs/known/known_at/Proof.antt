@@ -31,7 +31,7 @@ cast-t13 c = search needs
 
 returns-2 : tie.Need-returns-2
 returns-2 c = let args = c .before .before .before .before .before .before .before .before .before .args in
-    inputKnown-known (selectorAt (args .times .now) (args .small .now) (args .words .now)) (args .input)
+    inputKnown-known (selectorAt (args .times .now) (args .small .now) (args .wider .now)) (args .input)
     (c .before .before .before .before .before .before .before .profile-at .result)
     (c .before .before .before .before .before .before .input-status .result)
     (c .before .before .before .before .paper-number .result)

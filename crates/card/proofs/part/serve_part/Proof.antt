@@ -10,12 +10,12 @@ use Rattle.card.proofs.part.serve_part.Statement.{statement}
 use Rattle.card.proofs.part.serve_part.Tie as tie
 
 abbrev Inv-loop : tie.InvT-loop
-Inv-loop times₀ small₀ words₀ due₀ told₀ time most count₀ next₀ times small words due told count next =
-    (count ≤ most) × (next ≡ nextDue (watchAt times small words due told .state))
-    × Parted most (watchAt times₀ small₀ words₀ due₀ told₀) time (watchAt times small words due told) count
+Inv-loop times₀ small₀ wider₀ due₀ told₀ time most count₀ next₀ times small wider due told count next =
+    (count ≤ most) × (next ≡ nextDue (watchAt times small wider due told .state))
+    × Parted most (watchAt times₀ small₀ wider₀ due₀ told₀) time (watchAt times small wider due told) count
 
 abbrev μ-loop : tie.MeasureT-loop
-μ-loop times₀ small₀ words₀ due₀ told₀ time most count₀ next₀ times small words due told count next = most - count
+μ-loop times₀ small₀ wider₀ due₀ told₀ time most count₀ next₀ times small wider due told count next = most - count
 
 next-due-requires : tie.Need-next-due-requires Inv-loop μ-loop
 next-due-requires c κs = search needs
@@ -45,9 +45,9 @@ loop-again c =
       search needs,
       search needs,
       parted-turn (args .most)
-          (watchAt (args .times .now) (args .small .now) (args .words .now) (args .due .now) (args .told .now))
+          (watchAt (args .times .now) (args .small .now) (args .wider .now) (args .due .now) (args .told .now))
           (args .time)
-          (watchAt (loop .times) (loop .small) (loop .words) (loop .due) (loop .told))
+          (watchAt (loop .times) (loop .small) (loop .wider) (loop .due) (loop .told))
           (watchAt (all .0) (all .1 .0) (all .1 .1 .0) (all .1 .1 .1 .0) (all .1 .1 .1 .1 .0))
           (loop .count)
           (loop .next)
@@ -62,8 +62,8 @@ returns : tie.Need-returns Inv-loop μ-loop
 returns c =
     let args = c .before .before .before .before .before .before .before .args in
     let loop = c .before .before .loop in (
-      parted-late (args .most) (watchAt (args .times .now) (args .small .now) (args .words .now) (args .due .now) (args .told .now)) (args .time)
-          (watchAt (loop .times) (loop .small) (loop .words) (loop .due) (loop .told))
+      parted-late (args .most) (watchAt (args .times .now) (args .small .now) (args .wider .now) (args .due .now) (args .told .now)) (args .time)
+          (watchAt (loop .times) (loop .small) (loop .wider) (loop .due) (loop .told))
           (loop .count)
           (loop .next)
           (loop .inv .2)
@@ -76,8 +76,8 @@ returns-2 : tie.Need-returns-2 Inv-loop μ-loop
 returns-2 c =
     let args = c .before .before .before .before .before .before .args in
     let loop = c .before .loop in (
-      parted-full (args .most) (watchAt (args .times .now) (args .small .now) (args .words .now) (args .due .now) (args .told .now)) (args .time)
-          (watchAt (loop .times) (loop .small) (loop .words) (loop .due) (loop .told))
+      parted-full (args .most) (watchAt (args .times .now) (args .small .now) (args .wider .now) (args .due .now) (args .told .now)) (args .time)
+          (watchAt (loop .times) (loop .small) (loop .wider) (loop .due) (loop .told))
           (loop .count)
           (loop .inv .2)
           (c .loop-test .left),

@@ -12,7 +12,7 @@ returns : tie.Need-returns
 returns c = let args = c .before .before .before .before .before .before .before .args in
     let all = c .tick-at .last in
     part-limit (args .most)
-    (watchAt (args .times .now) (args .small .now) (args .words .now) (args .due .now) (args .told .now))
+    (watchAt (args .times .now) (args .small .now) (args .wider .now) (args .due .now) (args .told .now))
     (args .time)
     (watchAt (all .0) (all .1 .0) (all .1 .1 .0) (all .1 .1 .1 .0) (all .1 .1 .1 .1 .0))
     (search needs)
@@ -29,7 +29,7 @@ returns-2 c = let args = c .before .before .before .before .before .before .befo
     let part = c .before .serve-part in
     let all = part .last in
     part-more (args .most)
-    (watchAt (args .times .now) (args .small .now) (args .words .now) (args .due .now) (args .told .now))
+    (watchAt (args .times .now) (args .small .now) (args .wider .now) (args .due .now) (args .told .now))
     (args .time)
     (c .before .before .before .before .before .before .before .at-least-one .result)
     (part .result)
@@ -49,7 +49,7 @@ returns-3 c = let args = c .before .before .before .before .before .before .befo
     let some = part .last in
     let all = c .tick-at2 .last in
     part-done (args .most)
-    (watchAt (args .times .now) (args .small .now) (args .words .now) (args .due .now) (args .told .now))
+    (watchAt (args .times .now) (args .small .now) (args .wider .now) (args .due .now) (args .told .now))
     (args .time)
     (c .before .before .before .before .before .before .before .before .before .before .before .before .before .at-least-one .result)
     (part .result)

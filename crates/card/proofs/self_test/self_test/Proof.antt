@@ -10,11 +10,11 @@ use Rattle.card.proofs.self_test.self_test.Statement.{statement}
 use Rattle.card.proofs.self_test.self_test.Tie as tie
 
 abbrev Inv-loop : tie.InvT-loop
-Inv-loop lines times₀ small₀ words₀ due₀ told₀ right₀ at₀ times small words due told right at =
-    (at ≤ 18) × (length lines ≡ 18) × (lines ≡ testLines) × Answered lines at right (watchAt times small words due told)
+Inv-loop lines times₀ small₀ wider₀ due₀ told₀ right₀ at₀ times small wider due told right at =
+    (at ≤ 18) × (length lines ≡ 18) × (lines ≡ testLines) × Answered lines at right (watchAt times small wider due told)
 
 abbrev μ-loop : tie.MeasureT-loop
-μ-loop lines times₀ small₀ words₀ due₀ told₀ right₀ at₀ times small words due told right at = 18 - at
+μ-loop lines times₀ small₀ wider₀ due₀ told₀ right₀ at₀ times small wider due told right at = 18 - at
 
 test-lines-requires : tie.Need-test-lines-requires Inv-loop μ-loop
 test-lines-requires c κs = search needs
@@ -60,7 +60,7 @@ loop-again c =
       inv .1,
       inv .2,
       answered-more _ (loop .at) (loop .right) _
-          (watchAt (loop .times) (loop .small) (loop .words) (loop .due) (loop .told))
+          (watchAt (loop .times) (loop .small) (loop .wider) (loop .due) (loop .told))
           (watchAt (all .0) (all .1 .0) (all .1 .1 .0) (all .1 .1 .1 .0) (all .1 .1 .1 .1 .0))
           _
           (inv .3)
@@ -79,7 +79,7 @@ returns c =
     let lines = c .before .before .before .before .before .before .before .before .test-lines .result in
     let past : length lines ≤ loop .at = search needs in
     answered-all lines (loop .at) (loop .right)
-    (watchAt (loop .times) (loop .small) (loop .words) (loop .due) (loop .told))
+    (watchAt (loop .times) (loop .small) (loop .wider) (loop .due) (loop .told))
     (inv .3)
     past
     (inv .2)

@@ -41,21 +41,21 @@ unfolding watchAt
 returns c = let args = c .before .before .before .before .before .before .before .before .before .before .before .before .before .before .before .before .args in
     let again = c .before .before .before .before .before .before .before .before .serve in
     sound-told
-    (watchAt (args .times .now) (args .small .now) (args .words .now) (args .due .now) (args .told .now))
+    (watchAt (args .times .now) (args .small .now) (args .wider .now) (args .due .now) (args .told .now))
     (c .before .before .before .before .before .before .before .before .before .before .before .before .before .before .before .time-at .result)
     (c .before .before .before .before .before .before .before .before .before .before .before .before .before .before .next-due .result)
     (again .result)
     (c .before .before .before .before .before .before .before .before .before .before .before .before .before .answer-at .result)
-    (selectorAt (again .last .0) (again .last .1 .0) (args .words .now))
+    (selectorAt (again .last .0) (again .last .1 .0) (args .wider .now))
     (c .before .before .before .before .before .same-runs .result)
     (c .before .before .before .same-once .result)
     (c .before .before .same-answer .result)
-    (c .before .before .before .before .before .before .before .before .before .before .before .before .before .before .before .time-at .ensures (args .small .now) (args .words .now))
+    (c .before .before .before .before .before .before .before .before .before .before .before .before .before .before .before .time-at .ensures (args .small .now) (args .wider .now))
     (c .before .before .before .before .before .before .before .before .before .before .before .before .before .before .next-due .ensures)
     (c .before .before .before .before .before .before .before .before .before .before .before .before .before .answer-at .ensures)
     (again .ensures)
     (c .before .before .before .before .before .same-runs .ensures)
-    (c .before .before .before .same-once .ensures (args .times .now) (again .last .0) (args .words .now))
+    (c .before .before .before .same-once .ensures (args .times .now) (again .last .0) (args .wider .now))
     (c .before .before .same-answer .ensures)
 
 pub is-sound-spec : {M : Type 1} → statement M

@@ -49,8 +49,8 @@ selected-number-requires-2 c κs = search needs
 
 returns : tie.Need-returns
 returns c = let args = c .before .before .before .before .before .before .before .before .before .before .before .before .args in
-    λ times later words.
-    once-told (selectorAt times (args .small .now) words) (selectorAt later (args .after .now) words)
+    λ times later wider.
+    once-told (selectorAt times (args .small .now) wider) (selectorAt later (args .after .now) wider)
     (c .before .before .before .before .before .before .before .before .before .before .before .switch-at .result)
     (c .before .before .before .before .before .before .before .before .before .before .switch-at2 .result)
     (c .before .before .before .before .before .before .before .before .before .selection-at .result)
@@ -63,12 +63,12 @@ returns c = let args = c .before .before .before .before .before .before .before
     (c .before .before .switch-input2 .result)
     (c .before .selected-number .result)
     (c .selected-number2 .result)
-    (c .before .before .before .before .before .before .before .before .before .before .before .switch-at .ensures times words)
-    (c .before .before .before .before .before .before .before .before .before .before .switch-at2 .ensures later words)
-    (c .before .before .before .before .before .before .before .before .before .selection-at .ensures times words)
-    (c .before .before .before .before .before .before .before .before .selection-at2 .ensures later words)
-    (c .before .before .before .before .before .before .before .was-locked-at .ensures times words)
-    (c .before .before .before .before .before .before .was-locked-at2 .ensures later words)
+    (c .before .before .before .before .before .before .before .before .before .before .before .switch-at .ensures times wider)
+    (c .before .before .before .before .before .before .before .before .before .before .switch-at2 .ensures later wider)
+    (c .before .before .before .before .before .before .before .before .before .selection-at .ensures times wider)
+    (c .before .before .before .before .before .before .before .before .selection-at2 .ensures later wider)
+    (c .before .before .before .before .before .before .before .was-locked-at .ensures times wider)
+    (c .before .before .before .before .before .before .was-locked-at2 .ensures later wider)
     (c .before .before .before .before .before .switch-number .ensures)
     (c .before .before .before .before .switch-number2 .ensures)
     (c .before .before .before .switch-input .ensures)

@@ -9,12 +9,12 @@ use Rattle.card.proofs.sound.same_runs.Statement.{statement}
 use Rattle.card.proofs.sound.same_runs.Tie as tie
 
 abbrev Inv-loop : tie.InvT-loop
-Inv-loop times small words later after same₀ at₀ same at =
+Inv-loop times small wider later after same₀ at₀ same at =
     (at ≤ 16) ×
-    (same ≡ sameAmong (selectorAt times small words .inputs) (selectorAt later after words .inputs) at)
+    (same ≡ sameAmong (selectorAt times small wider .inputs) (selectorAt later after wider .inputs) at)
 
 abbrev μ-loop : tie.MeasureT-loop
-μ-loop times small words later after same₀ at₀ same at = 16 - at
+μ-loop times small wider later after same₀ at₀ same at = 16 - at
 
 loop-holds : tie.Need-loop-holds Inv-loop μ-loop
 loop-holds c = (search needs, search sameAmong-none)
@@ -39,8 +39,8 @@ loop-again c =
     let loop = c .before .before .before .before .loop in
     let args = c .before .before .before .before .before .args in (
       search needs,
-      sameAmong-more (selectorAt (args .times .now) (args .small .now) (args .words .now) .inputs)
-          (selectorAt (args .later .now) (args .after .now) (args .words .now) .inputs)
+      sameAmong-more (selectorAt (args .times .now) (args .small .now) (args .wider .now) .inputs)
+          (selectorAt (args .later .now) (args .after .now) (args .wider .now) .inputs)
           (loop .at)
           (loop .same)
           (c .also-same .result)

@@ -4,8 +4,8 @@ use Rattle.numbers.proofs.Profiles.{profileIn-laws}
 use Rattle.numbers.proofs.profile.profile_in.Statement.{statement}
 use Rattle.numbers.proofs.profile.profile_in.Tie as tie
 
-place-in-requires : tie.Need-place-in-requires
-place-in-requires c κs = search needs
+prov-place-in-requires : tie.Need-prov-place-in-requires
+prov-place-in-requires c κs = search needs
 
 profile-with-requires : tie.Need-profile-with-requires
 profile-with-requires c κs = search needs
@@ -14,4 +14,4 @@ returns : tie.Need-returns
 returns c = search profileIn-laws
 
 pub profile-in-spec : {M : Type 1} → statement M
-profile-in-spec = tie.close (tie.spec place-in-requires profile-with-requires returns)
+profile-in-spec = tie.close (tie.spec prov-place-in-requires profile-with-requires returns)

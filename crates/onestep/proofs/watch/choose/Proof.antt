@@ -18,8 +18,8 @@ tell-requires c κs = search needs
 returns : tie.Need-returns
 unfolding watchAt
 returns c = let args = c .before .before .before .before .before .before .before .args in
-    let after = selectorAt (args .times .now) (c .before .before .before .before .before .make-choice .last .1 .0) (args .words .now) in
-    chosen-told (selectorAt (args .times .now) (args .small .now) (args .words .now)) after (args .next) (args .number)
+    let after = selectorAt (args .times .now) (c .before .before .before .before .before .make-choice .last .1 .0) (args .wider .now) in
+    chosen-told (selectorAt (args .times .now) (args .small .now) (args .wider .now)) after (args .next) (args .number)
     (c .before .before .before .answer-at .result)
     (watchHeld after (c .tell .last .0) (c .tell .last .1 .0))
     (c .before .before .before .before .before .make-choice .ensures)

@@ -14,9 +14,9 @@ put-time-requires c κs = search needs
 
 returns : tie.Need-returns
 returns c = let args = c .before .before .before .before .args in
-    λ small words.
-    c .put-time .ensures small words ∙
-    ap (λ (one : Selector). withTime one (args .time)) (c .before .before .put-framed .ensures small words)
+    λ small wider.
+    c .put-time .ensures small wider ∙
+    ap (λ (one : Selector). withTime one (args .time)) (c .before .before .put-framed .ensures small wider)
 
 pub put-again-spec : {M : Type 1} → statement M
 put-again-spec = tie.close (tie.spec put-framed-requires put-time-requires returns)

@@ -14,7 +14,7 @@ put-time-requires c κs = search needs
 returns : tie.Need-returns
 returns c = let args = c .before .before .before .before .before .before .args in
     let put = c .before .before .put-input in
-    own-moved (selectorAt (args .times .now) (args .small .now) (args .words .now))
+    own-moved (selectorAt (args .times .now) (args .small .now) (args .wider .now))
     (selectorAt (put .last .0) (put .last .1 .0) (put .last .1 .1 .0))
     (selectorAt (c .put-time .last .0) (put .last .1 .0) (put .last .1 .1 .0))
     (args .number .0)

@@ -23,7 +23,7 @@ unfolding watchAt
 returns c = let args = c .before .before .before .before .before .before .before .before .before .before .before .before .before .before .before .args in
     let step = c .before .before .before .before .before .before .before .before .before .before .before .step-accepted in
     let after = selectorAt (step .last .0) (step .last .1 .0) (step .last .1 .1 .0) in
-    served-told (selectorAt (args .times .now) (args .small .now) (args .words .now)) after (args .next)
+    served-told (selectorAt (args .times .now) (args .small .now) (args .wider .now)) after (args .next)
     (c .before .before .before .before .before .before .before .due-left .result)
     (step .result .number)
     (step .result .count)

@@ -44,7 +44,7 @@ start a =
     a .before .before .before .before .before .before .before .before .before .before .before .before .before .before
 
 abbrev watch : tie.Start → Watch
-watch s = watchAt (s .args .times .now) (s .args .small .now) (s .args .words .now) (s .args .due .now) (s .args .told .now)
+watch s = watchAt (s .args .times .now) (s .args .small .now) (s .args .wider .now) (s .args .due .now) (s .args .told .now)
 
 -- what was read of it
 asking : (a : tie.After-says-again) → Asking (watch (start a)) (start a .args .event) (start a .args .read)
@@ -61,7 +61,7 @@ asking a =
       again = a .says-again .result;
       isBefore = input .input-at .ensures;
       isProfile = profile .profile-at .ensures (args .times .now);
-      isTime = time .time-at .ensures (args .small .now) (args .words .now);
+      isTime = time .time-at .ensures (args .small .now) (args .wider .now);
       isAgain = a .says-again .ensures;
     }
 
@@ -72,12 +72,12 @@ returns c =
     let own = c .before .before .before .before .before .before .before in
     let a = own .before .before in
     let args = start a .args in
-    let after = selectorAt (put .last .0) (args .small .now) (args .words .now) in
+    let after = selectorAt (put .last .0) (args .small .now) (args .wider .now) in
     step-again _ _ _ (asking a) (own .again-own .result) after
     (watchHeld after (c .put-number .last .0) (c .put-number .last .1 .0))
     (own .before .if2 .taken)
     (own .again-own .ensures)
-    (put .ensures (args .small .now) (args .words .now))
+    (put .ensures (args .small .now) (args .wider .now))
     (c .put-number .ensures after)
 
 handed-requires : tie.Need-handed-requires

@@ -51,7 +51,7 @@ start a = a .before .before .before .before .before .before .before .before .bef
 abbrev watch : tie.After-own-step → Watch
 watch a =
     let args = start a .args in
-    watchAt (args .times .now) (args .small .now) (args .words .now) (args .due .now) (args .told .now)
+    watchAt (args .times .now) (args .small .now) (args .wider .now) (args .due .now) (args .told .now)
 
 -- what was read of it, and what the event makes of its own input
 taking : (a : tie.After-own-step)
@@ -72,8 +72,8 @@ taking a =
       own = a .own-step .result;
       isBefore = input .input-at .ensures;
       isProfile = profile .profile-at .ensures (args .times .now);
-      isMode = mode .mode-at .ensures (args .times .now) (args .words .now);
-      isTime = time .time-at .ensures (args .small .now) (args .words .now);
+      isMode = mode .mode-at .ensures (args .times .now) (args .wider .now);
+      isTime = time .time-at .ensures (args .small .now) (args .wider .now);
       isOwn = a .own-step .ensures;
     }
 

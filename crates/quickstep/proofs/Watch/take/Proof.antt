@@ -5,8 +5,8 @@ use borrow.Author.Needs.{needs}
 use Rattle.quickstep.proofs.Watch.take.Statement.{statement}
 use Rattle.quickstep.proofs.Watch.take.Tie as tie
 
-own-place-requires : tie.Need-own-place-requires
-own-place-requires c κs = search needs
+own-index-requires : tie.Need-own-index-requires
+own-index-requires c κs = search needs
 
 mul-before : tie.Need-mul-before
 mul-before c = search needs
@@ -30,7 +30,7 @@ pub take-spec : {M : Type 1} → statement M
 take-spec =
     tie.close
     (tie.spec
-    own-place-requires
+    own-index-requires
     mul-before
     element-copy-out-before
     due-anew-requires

@@ -11,8 +11,8 @@ raw-at-requires c κs = search needs
 is-failed-requires : tie.Need-is-failed-requires
 is-failed-requires c κs = search needs
 
-run-start-requires : tie.Need-run-start-requires
-run-start-requires c κs = search needs
+began-after-requires : tie.Need-began-after-requires
+began-after-requires c κs = search needs
 
 is-up-after-requires : tie.Need-is-up-after-requires
 is-up-after-requires c κs = search needs
@@ -26,7 +26,7 @@ returns c =
     rw (
       c .last-good .ensures,
       c .before .before .is-up-after .ensures,
-      c .before .before .before .run-start .ensures,
+      c .before .before .before .began-after .ensures,
       c .before .before .before .before .is-failed .ensures,
       c .before .before .before .before .before .raw-at .ensures,
     )
@@ -37,7 +37,7 @@ at-moment-spec =
     (tie.spec
     raw-at-requires
     is-failed-requires
-    run-start-requires
+    began-after-requires
     is-up-after-requires
     last-good-requires
     returns)

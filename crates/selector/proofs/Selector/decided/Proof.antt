@@ -9,8 +9,8 @@ use Rattle.selector.proofs.Selector.decided.Tie as tie
 switch-input-requires : tie.Need-switch-input-requires
 switch-input-requires c κs = search needs
 
-place-in-requires : tie.Need-place-in-requires
-place-in-requires c κs = search needs
+index-in-requires : tie.Need-index-in-requires
+index-in-requires c κs = search needs
 
 mul-input : tie.Need-mul-input
 mul-input c = search needs
@@ -32,12 +32,12 @@ unfolding decided
 returns c =
     let state = c .before .before .before .before .before .before .before .args .t1 in
     let own = c .before .before in
-    let place = own .before .before in
+    let index = own .before .before in
     let made =
     decided-one (state .profile) (state .mode) (state .inputs) (state .switch) (state .selection) (state .waslocked) _ _ _
-    (seen-on _ _ _ _ _ _ _ _ (place .before .switch-input .ensures) (place .place-in .ensures)
+    (seen-on _ _ _ _ _ _ _ _ (index .before .switch-input .ensures) (index .index-in .ensures)
     (own .candidate-for .ensures))
-    (c .before .leader .ensures) (c .decide .ensures) (place .place-in .ensures .sixteen) in
+    (c .before .leader .ensures) (c .decide .ensures) (index .index-in .ensures .sixteen) in
     rw made
 
 pub decided-spec : {M : Type 1} → statement M
@@ -45,7 +45,7 @@ decided-spec =
     tie.close
     (tie.spec
     switch-input-requires
-    place-in-requires
+    index-in-requires
     mul-input
     element-copy-out-input
     candidate-for-requires

@@ -10,18 +10,18 @@ use Rattle.selector.proofs.Selector.leader.Statement.{statement}
 use Rattle.selector.proofs.Selector.leader.Tie as tie
 
 abbrev Inv-loop : tie.InvT-loop
-Inv-loop self profile mode place leader₀ number₀ leader number =
+Inv-loop self profile mode index leader₀ number₀ leader number =
     (number ≤ 16) × (length (self .inputs) ≡ 16)
     × (leader ≡ leadsAfter (candidatesOf profile (self .inputs) mode) number (self .selection))
 
 abbrev μ-loop : tie.MeasureT-loop
-μ-loop self profile mode place leader₀ number₀ leader number = 16 - number
+μ-loop self profile mode index leader₀ number₀ leader number = 16 - number
 
 selected-number-requires : tie.Need-selected-number-requires Inv-loop μ-loop
 selected-number-requires c κs = search needs
 
-place-in-requires : tie.Need-place-in-requires Inv-loop μ-loop
-place-in-requires c κs = search needs
+index-in-requires : tie.Need-index-in-requires Inv-loop μ-loop
+index-in-requires c κs = search needs
 
 mul-earlier : tie.Need-mul-earlier Inv-loop μ-loop
 mul-earlier c = search needs
@@ -80,7 +80,7 @@ leader-spec =
     Inv-loop
     μ-loop
     selected-number-requires
-    place-in-requires
+    index-in-requires
     mul-earlier
     element-copy-out-earlier
     candidate-for-requires

@@ -72,7 +72,7 @@ returns-3 c =
     (args .t1)
     (args .port)
     (args .time)
-    (selectorAt (args .times .now) (args .small .now) (args .words .now))
+    (selectorAt (args .times .now) (args .small .now) (args .wider .now))
     (args .source .now)
     (args .buffer .now)
     (number .question-number2 .result)

@@ -22,15 +22,15 @@ returns : tie.Need-returns
 unfolding lentAt watchAt
 returns c =
     let args = c .before .before .before .before .before .before .before .before .args in
-    start-neither (watchAt (args .times .now) (args .small .now) (args .words .now) (args .due .now) (args .told .now))
-    (watchAt (args .station-times .now) (args .station-small .now) (args .station-words .now) (args .station-due .now) (args .station-told .now))
-    (args .sent .now) (args .option) (args .place) (args .marks) (args .minimum) (c .before .before .before .before .before .before .before .names-option .result)
+    start-neither (watchAt (args .times .now) (args .small .now) (args .wider .now) (args .due .now) (args .told .now))
+    (watchAt (args .station-times .now) (args .station-small .now) (args .station-wider .now) (args .station-due .now) (args .station-told .now))
+    (args .sent .now) (args .option) (args .provplace) (args .marks) (args .minimum) (c .before .before .before .before .before .before .before .names-option .result)
     (c .before .before .before .before .before .before .before .names-option .ensures)
-    (watchAt (args .times .now) (args .small .now) (args .words .now) (c .before .before .before .refuse-half .last .0) (c .before .before .before .refuse-half .last .1 .0))
-    (watchAt (args .station-times .now) (args .station-small .now) (args .station-words .now) (c .refuse-half2 .last .0) (c .refuse-half2 .last .1 .0))
+    (watchAt (args .times .now) (args .small .now) (args .wider .now) (c .before .before .before .refuse-half .last .0) (c .before .before .before .refuse-half .last .1 .0))
+    (watchAt (args .station-times .now) (args .station-small .now) (args .station-wider .now) (c .refuse-half2 .last .0) (c .refuse-half2 .last .1 .0))
     (not-true _ (c .before .before .before .before .before .before .if1 .taken))
-    (c .before .before .before .refuse-half .ensures (selectorAt (args .times .now) (args .small .now) (args .words .now)))
-    (c .refuse-half2 .ensures (selectorAt (args .station-times .now) (args .station-small .now) (args .station-words .now)))
+    (c .before .before .before .refuse-half .ensures (selectorAt (args .times .now) (args .small .now) (args .wider .now)))
+    (c .refuse-half2 .ensures (selectorAt (args .station-times .now) (args .station-small .now) (args .station-wider .now)))
 
 profile-in-requires : tie.Need-profile-in-requires
 profile-in-requires c κs = search needs
@@ -51,9 +51,9 @@ returns-2 : tie.Need-returns-2
 unfolding lentAt watchAt
 returns-2 c =
     let args = c .before .before .before .before .before .before .before .before .before .before .before .before .before .before .before .before .before .before .before .before .before .before .args in
-    start-fresh (watchAt (args .times .now) (args .small .now) (args .words .now) (args .due .now) (args .told .now))
-    (watchAt (args .station-times .now) (args .station-small .now) (args .station-words .now) (args .station-due .now) (args .station-told .now))
-    (args .sent .now) (args .option) (args .place) (args .marks) (args .minimum) (c .before .before .before .before .before .before .before .before .before .before .before .before .before .before .before .before .before .before .before .before .before .names-option .result)
+    start-fresh (watchAt (args .times .now) (args .small .now) (args .wider .now) (args .due .now) (args .told .now))
+    (watchAt (args .station-times .now) (args .station-small .now) (args .station-wider .now) (args .station-due .now) (args .station-told .now))
+    (args .sent .now) (args .option) (args .provplace) (args .marks) (args .minimum) (c .before .before .before .before .before .before .before .before .before .before .before .before .before .before .before .before .before .before .before .before .before .names-option .result)
     (c .before .before .before .before .before .before .before .before .before .before .before .before .before .before .before .before .before .before .before .before .before .names-option .ensures)
     (watchAt (c .before .before .before .before .before .before .before .before .before .before .before .start-half .last .0) (c .before .before .before .before .before .before .before .before .before .before .before .start-half .last .1 .0) (c .before .before .before .before .before .before .before .before .before .before .before .start-half .last .1 .1 .0) (c .before .before .before .before .before .before .before .before .before .before .before .start-half .last .1 .1 .1 .0) (c .before .before .before .before .before .before .before .before .before .before .before .start-half .last .1 .1 .1 .1 .0))
     (watchAt (c .before .before .before .before .before .start-half2 .last .0) (c .before .before .before .before .before .start-half2 .last .1 .0) (c .before .before .before .before .before .start-half2 .last .1 .1 .0) (c .before .before .before .before .before .start-half2 .last .1 .1 .1 .0) (c .before .before .before .before .before .start-half2 .last .1 .1 .1 .1 .0))
@@ -78,20 +78,20 @@ returns-3 : tie.Need-returns-3
 unfolding lentAt watchAt
 returns-3 c =
     let args = c .before .before .before .before .before .before .before .before .before .before .before .args in
-    start-refused (watchAt (args .times .now) (args .small .now) (args .words .now) (args .due .now) (args .told .now))
-    (watchAt (args .station-times .now) (args .station-small .now) (args .station-words .now) (args .station-due .now) (args .station-told .now))
-    (args .sent .now) (args .option) (args .place) (args .marks) (args .minimum) (c .before .before .before .before .before .before .before .before .before .before .names-option .result)
+    start-refused (watchAt (args .times .now) (args .small .now) (args .wider .now) (args .due .now) (args .told .now))
+    (watchAt (args .station-times .now) (args .station-small .now) (args .station-wider .now) (args .station-due .now) (args .station-told .now))
+    (args .sent .now) (args .option) (args .provplace) (args .marks) (args .minimum) (c .before .before .before .before .before .before .before .before .before .before .names-option .result)
     (c .before .before .before .before .before .before .before .before .before .before .names-option .ensures)
-    (watchAt (args .times .now) (args .small .now) (args .words .now) (c .before .before .before .refuse-half3 .last .0) (c .before .before .before .refuse-half3 .last .1 .0))
-    (watchAt (args .station-times .now) (args .station-small .now) (args .station-words .now) (c .refuse-half4 .last .0) (c .refuse-half4 .last .1 .0))
+    (watchAt (args .times .now) (args .small .now) (args .wider .now) (c .before .before .before .refuse-half3 .last .0) (c .before .before .before .refuse-half3 .last .1 .0))
+    (watchAt (args .station-times .now) (args .station-small .now) (args .station-wider .now) (c .refuse-half4 .last .0) (c .refuse-half4 .last .1 .0))
     (not-false _ (c .before .before .before .before .before .before .before .before .before .if1 .left))
     (c .before .before .before .before .before .before .before .before .profile-in .result)
     (c .before .before .before .before .before .before .before .before .profile-in .ensures)
     (c .before .before .before .before .before .before .before .unit-start-number .result)
     (c .before .before .before .before .before .before .before .unit-start-number .ensures)
     (c .before .before .before .before .before .before .if2 .left)
-    (c .before .before .before .refuse-half3 .ensures (selectorAt (args .times .now) (args .small .now) (args .words .now)))
-    (c .refuse-half4 .ensures (selectorAt (args .station-times .now) (args .station-small .now) (args .station-words .now)))
+    (c .before .before .before .refuse-half3 .ensures (selectorAt (args .times .now) (args .small .now) (args .wider .now)))
+    (c .refuse-half4 .ensures (selectorAt (args .station-times .now) (args .station-small .now) (args .station-wider .now)))
 
 pub nurrispane-unit-fresh-in-spec : {M : Type 1} → statement M
 nurrispane-unit-fresh-in-spec =

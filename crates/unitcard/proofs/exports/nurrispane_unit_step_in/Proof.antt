@@ -25,11 +25,11 @@ returns : tie.Need-returns
 unfolding lentAt watchAt
 returns c =
     let args = c .before .before .before .before .before .before .before .before .before .before .before .before .before .before .before .before .before .before .before .before .args in
-    step-neither (watchAt (args .times .now) (args .small .now) (args .words .now) (args .due .now) (args .told .now))
-    (watchAt (args .station-times .now) (args .station-small .now) (args .station-words .now) (args .station-due .now) (args .station-told .now))
+    step-neither (watchAt (args .times .now) (args .small .now) (args .wider .now) (args .due .now) (args .told .now))
+    (watchAt (args .station-times .now) (args .station-small .now) (args .station-wider .now) (args .station-due .now) (args .station-told .now))
     (args .sent .now) (c .send .last .1 .1 .1 .0) (args .half) (args .kind) (args .time) (args .input) (args .argument) (args .frame .now)
-    (watchAt (args .times .now) (args .small .now) (args .words .now) (c .before .before .before .before .before .before .before .before .before .before .before .tell-half .last .1 .1 .1 .0) (c .before .before .before .before .before .before .before .before .before .before .before .tell-half .last .1 .1 .1 .1 .0))
-    (watchAt (args .station-times .now) (args .station-small .now) (args .station-words .now) (c .before .before .before .before .before .tell-half2 .last .1 .1 .1 .0) (c .before .before .before .before .before .tell-half2 .last .1 .1 .1 .1 .0))
+    (watchAt (args .times .now) (args .small .now) (args .wider .now) (c .before .before .before .before .before .before .before .before .before .before .before .tell-half .last .1 .1 .1 .0) (c .before .before .before .before .before .before .before .before .before .before .before .tell-half .last .1 .1 .1 .1 .0))
+    (watchAt (args .station-times .now) (args .station-small .now) (args .station-wider .now) (c .before .before .before .before .before .tell-half2 .last .1 .1 .1 .0) (c .before .before .before .before .before .tell-half2 .last .1 .1 .1 .1 .0))
     (c .send .ensures)
     (c .before .before .before .before .before .before .before .before .before .before .before .before .before .before .before .before .before .if1 .taken)
     (c .before .before .before .before .before .before .before .before .before .before .before .tell-half .ensures)
@@ -66,8 +66,8 @@ returns-2 : tie.Need-returns-2
 unfolding lentAt watchAt
 returns-2 c =
     let args = c .before .before .before .before .before .before .before .before .before .before .before .before .before .before .before .before .before .before .before .before .before .before .before .before .before .before .before .before .args in
-    step-taken (watchAt (args .times .now) (args .small .now) (args .words .now) (args .due .now) (args .told .now))
-    (watchAt (args .station-times .now) (args .station-small .now) (args .station-words .now) (args .station-due .now) (args .station-told .now))
+    step-taken (watchAt (args .times .now) (args .small .now) (args .wider .now) (args .due .now) (args .told .now))
+    (watchAt (args .station-times .now) (args .station-small .now) (args .station-wider .now) (args .station-due .now) (args .station-told .now))
     (args .sent .now) (c .send2 .last .1 .1 .1 .0) (args .half) (args .kind) (args .time) (args .input) (args .argument) (args .frame .now)
     (watchAt (c .before .before .before .before .before .before .before .before .before .before .before .step-half .last .0) (c .before .before .before .before .before .before .before .before .before .before .before .step-half .last .1 .0) (c .before .before .before .before .before .before .before .before .before .before .before .step-half .last .1 .1 .0) (c .before .before .before .before .before .before .before .before .before .before .before .step-half .last .1 .1 .1 .0) (c .before .before .before .before .before .before .before .before .before .before .before .step-half .last .1 .1 .1 .1 .0))
     (watchAt (c .before .before .before .before .before .step-half2 .last .0) (c .before .before .before .before .before .step-half2 .last .1 .0) (c .before .before .before .before .before .step-half2 .last .1 .1 .0) (c .before .before .before .before .before .step-half2 .last .1 .1 .1 .0) (c .before .before .before .before .before .step-half2 .last .1 .1 .1 .1 .0))

@@ -14,8 +14,8 @@ new-from-requires c κs = search needs
 returns : tie.Need-returns
 returns c = search told-laws
 
-place-of-requires : tie.Need-place-of-requires
-place-of-requires c κs = search needs
+value-index-requires : tie.Need-value-index-requires
+value-index-requires c κs = search needs
 
 last-at-requires : tie.Need-last-at-requires
 last-at-requires c κs = search needs
@@ -23,8 +23,8 @@ last-at-requires c κs = search needs
 right-requires : tie.Need-right-requires
 right-requires c κs = search needs
 
-place-of-requires-2 : tie.Need-place-of-requires-2
-place-of-requires-2 c κs = search needs
+value-index-requires-2 : tie.Need-value-index-requires-2
+value-index-requires-2 c κs = search needs
 
 capped-requires : tie.Need-capped-requires
 capped-requires c κs = search needs
@@ -50,10 +50,10 @@ push-spec =
     (tie.spec
     new-from-requires
     returns
-    place-of-requires
+    value-index-requires
     last-at-requires
     right-requires
-    place-of-requires-2
+    value-index-requires-2
     capped-requires
     mul-room
     element-write-room

@@ -5,8 +5,8 @@ use borrow.Author.Needs.{needs}
 use Rattle.verdict.proofs.tell.show.Statement.{statement}
 use Rattle.verdict.proofs.tell.show.Tie as tie
 
-place-of-requires : tie.Need-place-of-requires
-place-of-requires c κs = search needs
+value-index-requires : tie.Need-value-index-requires
+value-index-requires c κs = search needs
 
 last-at-requires : tie.Need-last-at-requires
 last-at-requires c κs = search needs
@@ -23,4 +23,4 @@ returns c = search told-laws
 pub show-spec : {M : Type 1} → statement M
 show-spec =
     tie.close
-    (tie.spec place-of-requires last-at-requires shown-requires write-stretch-requires returns)
+    (tie.spec value-index-requires last-at-requires shown-requires write-stretch-requires returns)
