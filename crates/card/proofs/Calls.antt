@@ -27,9 +27,8 @@ use Rattle.due.specs.Next.{never, nextDue}
 use Rattle.due.proofs.Calm.{movedTo}
 use Rattle.due.proofs.Jump.{each-before, nextDue-later}
 use Rattle.due.proofs.ServesEachDue.{ticked-each}
-use Rattle.events.specs.declared.Stepped.{Stepped}
 use Rattle.events.specs.Refusals.{earlyRefusal}
-use Rattle.events.specs.Step.{earlyNumber, stepRead, step}
+use Rattle.events.specs.Step.{Stepped, earlyNumber, stepRead, step}
 use Rattle.events.specs.Given.{Given, Sequence, tickAt}
 use Rattle.events.specs.Sequence.{stateAfter, numberAfter, countAfter}
 use Rattle.events.specs.Due.{mostDue}
@@ -49,10 +48,9 @@ use Rattle.events.proofs.Demand4.{demand-4}
 use Rattle.status.specs.declared.Status.{Status}
 use Rattle.status.specs.Kept.{inputStatus}
 use Rattle.status.proofs.WhatHappened.{status-right}
-use Rattle.quickstep.specs.declared.Watch.{Watch}
 use Rattle.quickstep.specs.Again.{saysAgain, againOwn, isAgain}
 use Rattle.quickstep.specs.Own.{ownStep}
-use Rattle.quickstep.specs.Watch.{numbered, freshWatch, dueAnew, completed, ownPut, ownAt, takeStep, watchStep}
+use Rattle.quickstep.specs.Watch.{Watch, numbered, freshWatch, dueAnew, completed, ownPut, ownAt, takeStep, watchStep}
 use Rattle.quickstep.proofs.Due.{againDue-later}
 use Rattle.quickstep.proofs.Step.{ever}
 use Rattle.quickstep.proofs.SameAsPlain.{Kept, Right, own-early, fresh-kept, takeStep-right, watchStep-right, numbered-answer}

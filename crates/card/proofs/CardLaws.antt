@@ -20,8 +20,7 @@ use Rattle.frame.specs.Read.{readCode}
 use Rattle.frame.specs.Write.{WriteFrame}
 use Rattle.selector.specs.declared.Selector.{Selector}
 use Rattle.selector.specs.Answer.{answerOf, outgoingCodes}
-use Rattle.quickstep.specs.declared.Watch.{Watch}
-use Rattle.quickstep.specs.Watch.{watchOf, freshWatch, watchStep}
+use Rattle.quickstep.specs.Watch.{Watch, watchOf, freshWatch, watchStep}
 use Rattle.sender.specs.Heartbeat.{codeOfPort}
 use Rattle.card.specs.Lent.{withNumber, namesOption, startLent, eventOf, readFor, isRanged, rangedWatch, eventLent, stepLent, numberOfWrite, WritePort}
 

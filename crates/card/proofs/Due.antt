@@ -19,11 +19,9 @@ use Rattle.selector.specs.State.{decided}
 use Rattle.due.specs.Next.{lesser, nextOf, nextDue}
 use Rattle.due.proofs.Millisecond.{lesser-one, lesser-other}
 use Rattle.due.proofs.Jump.{nextDue-later}
-use Rattle.events.specs.declared.Stepped.{Stepped}
-use Rattle.events.specs.Step.{earlyNumber, stepRead}
-use Rattle.quickstep.specs.declared.Watch.{Watch}
+use Rattle.events.specs.Step.{Stepped, earlyNumber, stepRead}
 use Rattle.quickstep.specs.Own.{isCommand, isServed, seenAlike, ownTake, ownStep}
-use Rattle.quickstep.specs.Watch.{movedTo, dueAnew, dueAfter, servedWatch, completed, ownPut, takeStep}
+use Rattle.quickstep.specs.Watch.{Watch, movedTo, dueAnew, dueAfter, servedWatch, completed, ownPut, takeStep}
 use Rattle.quickstep.proofs.Due.{lesser-least, nextAmong-least, dueAnew-bound, dueAfter-later}
 use Rattle.quickstep.proofs.Step.{ownBefore, ownAfter, ownTaken, stepRead-own, stepRead-time, ever, inside}
 use Rattle.quickstep.proofs.SameAsPlain.{Kept, own-here, own-early, put-back, takeStep-right}

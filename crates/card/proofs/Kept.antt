@@ -26,14 +26,13 @@ use Rattle.due.specs.Served.{ticked}
 use Rattle.due.specs.Each.{each}
 use Rattle.due.proofs.Calm.{Calm}
 use Rattle.due.proofs.ServesEachDue.{ticked-each}
-use Rattle.events.specs.declared.Stepped.{Stepped}
 use Rattle.events.specs.Given.{Given, Sequence}
-use Rattle.events.specs.Step.{atItsMoment, kindAt, earlyNumber, lateNumber, stepRead, step}
+use Rattle.events.specs.Step.{Stepped, atItsMoment, kindAt, earlyNumber, lateNumber, stepRead, step}
 use Rattle.events.specs.Sequence.{stateAfter}
 use Rattle.events.proofs.Refused.{accepted-limit}
 use Rattle.events.proofs.Calm.{accepted-or-not, stepRead-refused, stepRead-barred, stepRead-taken, brought-time, sequence-calm}
 use Rattle.events.proofs.Extra.{sequence-ever}
-use Rattle.quickstep.specs.declared.Watch.{Watch}
+use Rattle.quickstep.specs.Watch.{Watch}
 use Rattle.onestep.specs.Watched.{answerIn, watchAt}
 use Rattle.inplace.specs.Lists.{selectorAt}
 use Rattle.card.specs.Sound.{sameRun, sameAmong, sameRuns, sameOnce, sameAnswer, isSound}

@@ -22,17 +22,15 @@ use Rattle.due.specs.Next.{never, nextDue}
 use Rattle.due.specs.Served.{ticked}
 use Rattle.due.proofs.Jump.{nextDue-later}
 use Rattle.due.proofs.ServesEachDue.{ticked-twice, served-time}
-use Rattle.events.specs.declared.Stepped.{Stepped}
 use Rattle.events.specs.Given.{Given, Sequence, tickAt}
-use Rattle.events.specs.Step.{recordedEvent, atItsMoment, earlyNumber, lateNumber, stepRead, step}
+use Rattle.events.specs.Step.{Stepped, recordedEvent, atItsMoment, earlyNumber, lateNumber, stepRead, step}
 use Rattle.events.specs.Sequence.{stateAfter, numberAfter}
 use Rattle.events.proofs.Calm.{accepted-or-not, stepRead-taken, stepRead-barred, sequence-calm, not-never}
 use Rattle.events.proofs.Agrees.{step-accepted}
 use Rattle.events.proofs.EventLaws.{lateRefusal-other}
 use Rattle.events.proofs.Demand1.{tick-early, tick-state}
 use Rattle.events.proofs.Extra.{sequence-ever}
-use Rattle.quickstep.specs.declared.Watch.{Watch}
-use Rattle.quickstep.specs.Watch.{watchStep}
+use Rattle.quickstep.specs.Watch.{Watch, watchStep}
 use Rattle.card.specs.Lent.{eventOf, readFor, rangedWatch, eventLent, stepLent}
 use Rattle.card.specs.Calls.{lentAfter, latestNumber}
 use Rattle.card.specs.Part.{tickLent, atLeastOne, partServed, partLent, moreLent, partSequence, PartRight}

@@ -31,10 +31,9 @@ use Rattle.selector.specs.State.{candidatesOf, decided, allBroughtTo}
 use Rattle.selector.specs.State as State
 use Rattle.due.specs.Next.{nextDue}
 use Rattle.due.specs.Served.{served, servedFrom, ticked}
-use Rattle.events.specs.declared.Stepped.{Stepped}
 use Rattle.events.specs.Given.{Sequence}
 use Rattle.events.specs.Refusals.{frameRefusal, earlyRefusal}
-use Rattle.events.specs.Step.{recordedArgument, recordedEvent, eventTaken, atItsMoment, kindAt, earlyNumber, lateNumber, stepRead, step}
+use Rattle.events.specs.Step.{Stepped, recordedArgument, recordedEvent, eventTaken, atItsMoment, kindAt, earlyNumber, lateNumber, stepRead, step}
 use Rattle.events.specs.Sequence.{stateAfter}
 use Rattle.events.proofs.Refused.{accepted-input}
 use Rattle.events.proofs.Calm.{accepted-or-not, stepRead-refused, stepRead-barred, stepRead-taken}
@@ -43,9 +42,8 @@ use Rattle.inplace.proofs.Named.{On, switchOf-on, selectionOf-inside, judged-on
 use Rattle.quickstep.specs.declared.Left.{Left}
 use Rattle.quickstep.specs.declared.Left.the-variants as L
 use Rattle.quickstep.specs.declared.Own.{Own}
-use Rattle.quickstep.specs.declared.Watch.{Watch}
 use Rattle.quickstep.specs.Again.{saysAgain, againOwn}
-use Rattle.quickstep.specs.Watch.{numbered, servedWatch, completed, ownPut, ownAt, takeStep, watchStep}
+use Rattle.quickstep.specs.Watch.{Watch, numbered, servedWatch, completed, ownPut, ownAt, takeStep, watchStep}
 use Rattle.onestep.specs.Watched.{watchAt}
 use Rattle.card.specs.Lent.{eventOf, readFor, namesInput, isRanged, rangedWatch, eventLent, stepLent}
 use Rattle.card.specs.Range.{IsInput, InRange, AnyLent}

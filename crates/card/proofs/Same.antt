@@ -19,10 +19,9 @@ use Rattle.switch.specs.declared.Switch.{Switch}
 use Rattle.selector.specs.declared.Selector.{Selector}
 use Rattle.selector.specs.Clock.{selectedNumber, switchNumber, switchInput}
 use Rattle.selector.specs.Answer.{answerOf}
-use Rattle.due.specs.declared.Served.{Served}
 use Rattle.due.specs.Next.{nextDue}
-use Rattle.due.specs.Served.{servedOf, served, ticked}
-use Rattle.quickstep.specs.declared.Watch.{Watch}
+use Rattle.due.specs.Served.{Served, servedOf, served, ticked}
+use Rattle.quickstep.specs.Watch.{Watch}
 use Rattle.card.specs.Sound.{sameRun, sameAmong, sameRuns, sameOnce, sameAnswer, isSound}
 
 -- a yes or no as a number

@@ -22,8 +22,7 @@ use Rattle.frame.specs.Write.{writeAnswer, contentAfter}
 use Rattle.selector.specs.declared.Selector.{Selector}
 use Rattle.selector.specs.Clock.{noInput, locked, switchManual}
 use Rattle.selector.specs.Answer.{answerOf}
-use Rattle.quickstep.specs.declared.Watch.{Watch}
-use Rattle.quickstep.specs.Watch.{watchOf, numbered, freshWatch, watchStep}
+use Rattle.quickstep.specs.Watch.{Watch, watchOf, numbered, freshWatch, watchStep}
 use Rattle.sender.specs.Heartbeat.{codeOfPort}
 
 -- the header's version

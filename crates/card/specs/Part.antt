@@ -14,7 +14,7 @@ use Rattle.due.specs.Next.{nextDue}
 use Rattle.events.specs.Given.{Given, Sequence, tickAt}
 use Rattle.events.specs.Step.{earlyNumber}
 use Rattle.events.specs.Sequence.{stateAfter, numberAfter}
-use Rattle.quickstep.specs.declared.Watch.{Watch}
+use Rattle.quickstep.specs.Watch.{Watch}
 use Rattle.card.specs.Lent.{stepLent}
 use Rattle.card.specs.Calls.{lentAfter}
 

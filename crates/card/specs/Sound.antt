@@ -16,7 +16,7 @@ use Rattle.selector.specs.Clock.{selectedNumber, switchNumber, switchInput}
 use Rattle.selector.specs.Answer.{answerOf}
 use Rattle.due.specs.Next.{nextDue}
 use Rattle.due.specs.Served.{ticked}
-use Rattle.quickstep.specs.declared.Watch.{Watch}
+use Rattle.quickstep.specs.Watch.{Watch}
 
 -- two inputs have the same run
 abbrev pub sameRun : Input → Input → Bool

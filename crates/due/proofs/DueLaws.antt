@@ -169,5 +169,3 @@ module _ (state : Selector) (time : ℕ) where
         sym (servedFrom-full now count time) ∙
         ap (λ (left : ℕ). servedFrom left now count time) (sym z) ∙
         todo
-
-pub ruleset left-laws = (left-first, left-turn, left-last, left-full)

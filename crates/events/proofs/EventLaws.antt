@@ -39,15 +39,13 @@ use Rattle.switch.specs.Choices.{commanded}
 use Rattle.selector.specs.declared.Selector.{Selector}
 use Rattle.selector.specs.State.{candidateFor, seenAll, decided}
 use Rattle.selector.proofs.Scanning.{map-length}
-use Rattle.due.specs.declared.Served.{Served}
-use Rattle.due.specs.Served.{mostServed, served, ticked}
+use Rattle.due.specs.Served.{Served, mostServed, served, ticked}
 use Rattle.due.proofs.ServesEachDue.{served-most}
 use Rattle.numbers.specs.Rows.{firstThatApplies}
 use Rattle.numbers.proofs.Truth.{byBool, contra, or-first, or-second}
 use Rattle.numbers.proofs.Rows.{first-own}
 use Rattle.events.specs.Refusals.{isWrongKind, frameRefusal, earlyRefusal, isForcedSwitch, isJudgedLate, ScannedOn, lateRefusal}
-use Rattle.events.specs.declared.Stepped.{Stepped}
-use Rattle.events.specs.Step.{kindAt, lowByte, isHeldInByte, heldArgument, inputAfter, inputsAfter, modeAfter, recordedArgument, readEvent, atItsMoment, stepped, earlyNumber, lateNumber, stepTicked, stepRead}
+use Rattle.events.specs.Step.{Stepped, kindAt, lowByte, isHeldInByte, heldArgument, inputAfter, inputsAfter, modeAfter, recordedArgument, readEvent, atItsMoment, stepped, earlyNumber, lateNumber, stepTicked, stepRead}
 
 -- ---- isWrongKind
 
@@ -321,8 +319,6 @@ module _ (state : Selector) (event : Event) where
       (eqb-false (event .kind) kindManual
       (or-second (eqb (event .kind) kindForced) (eqb (event .kind) kindManual) never))
 
-pub ruleset lateNumber-laws = (late-judged, late-never)
-
 -- ---- modeAfter, commanded, recordedArgument
 
 module _ (kind argument : ℕ) (mode : Bool) where
@@ -557,14 +553,6 @@ module _ (inputs : List Input) (profile : Profile) (event : Event) (mode : Bool)
   unfolding inputsAfter
   inputsAfter-own before after n b a = rw (ne-eqb _ _ n, a, b)
 
-  pub inputsAfter-past : (event .kind ≡ kindQualityMode → ⊥) → length inputs ≡ 16 → 16 ≤ event .input
-      → inputs ≡ inputsAfter inputs (saidEvent profile event) mode
-  unfolding inputsAfter
-  inputsAfter-past n h p =
-      let m : length inputs ≤ event .input = omega arith in rw (ne-eqb _ _ n) (sym (set-past inputs (event .input) _ m))
-
-pub ruleset inputsAfter-laws = (inputsAfter-mode, inputsAfter-own, inputsAfter-past)
-
 -- ---- readEvent, atItsMoment
 
 pub readEvent-calls : (event : Event) (read : FrameRead) (argument : ℕ)
@@ -608,8 +596,6 @@ module _ (state : Selector) (count : ℕ) (event : Event) (read : FrameRead) (la
       rw (← l, n, a) (ap (λ (event : Event). stepped accepted count
       (atItsMoment state (saidEvent (state .profile) event))) r)
 
-pub ruleset stepTicked-laws = (stepTicked-late, stepTicked-accepted)
-
 -- ---- stepRead
 
 module _ (state : Selector) (event : Event) (read : FrameRead) (inputkind : InputKind) (early : ℕ) where
@@ -629,8 +615,6 @@ module _ (state : Selector) (event : Event) (read : FrameRead) (inputkind : Inpu
       a ∙
       ap (λ (brought : Served). stepTicked (brought .state) (brought .count) event read) t ∙
       rw (← i, ← e, z)
-
-pub ruleset stepRead-laws = (stepRead-early, stepRead-late)
 
 -- ---- its count
 

@@ -1,8 +1,8 @@
 -- 08FF goes out exactly with sending off or for STU, and what a port tells of the clock reads back. Cites
 -- `demand-2-answers` and `never-usable`. Assumes nothing.
 use Prim.Native.Nat.{ℕ, zero, suc, _≤_, _<_}
-use mathlib.Core.Bool.{Bool, true, false, not, _&&_, _||_, cond, true≢false}
-use mathlib.Core.Logic.{_⊎_, inl, inr, _↔_, _≢_}
+use mathlib.Core.Bool.{Bool, true, false, not, _&&_, _||_}
+use mathlib.Core.Logic.{_⊎_, inl, inr, _≢_}
 use mathlib.Core.Path.{_≡_, refl, sym, _∙_, ap, subst}
 use native.Mathlib.Omega.{arith}
 use lib.Dec.{eqb}
@@ -14,21 +14,21 @@ use Rattle.numbers.specs.declared.profile.Profile.{Profile}
 use Rattle.numbers.specs.declared.profile.Profile.the-variants as P
 use Rattle.numbers.specs.From.{profileOf}
 use Rattle.numbers.specs.Inputs.{inputCount}
-use Rattle.numbers.specs.Profile.{limitsOf, numberOfProvPlace, provPlaceOf, lastProvPlace, marksOf, halved, isMarked, toldBy}
-use Rattle.numbers.specs.Quality.{quality, stu, tnc, st3e, st3, st4, prov}
-use Rattle.numbers.specs.Codes.{saidBy, signOf, qualityOfCode, codeOfQuality, qualityOfWord, wordOfQuality, wordStu, wordDus}
+use Rattle.numbers.specs.Profile.{limitsOf, numberOfProvPlace, provPlaceOf, marksOf, halved, isMarked, toldBy}
+use Rattle.numbers.specs.Quality.{quality, stu, tnc, st3e, st4, prov}
+use Rattle.numbers.specs.Codes.{saidBy, signOf, qualityOfCode, codeOfQuality, qualityOfWord, wordOfQuality, wordStu}
 use Rattle.numbers.proofs.Truth.{byBool, both-first}
-use Rattle.input.specs.Recorded.{modeOn, isSending, floorOf, timeOf, passedAt}
+use Rattle.input.specs.Recorded.{modeOn, isSending, floorOf}
 use Rattle.choice.specs.Rank.{isPlaced, Within}
 use Rattle.selector.specs.Clock.{clockQuality, outgoingCode, outgoingWord}
 use Rattle.selector.proofs.Ports.{getD-ports}
-use Rattle.events.specs.Sequence.{Sequence, stateAfter}
+use Rattle.events.specs.Sequence.{Sequence}
 use Rattle.events.specs.Past.{Past, pastOf, recorded}
 use Rattle.events.specs.Told.{candidateSelected, qualityBy, toldAt, isSelectedPort, codeBy, wordBy}
 use Rattle.events.specs.Outgoing.{TellsClock, wordAt, codeAt, OutgoingRight}
 use Rattle.events.proofs.Agrees.{recorded-profile}
 use Rattle.events.proofs.Demand2.{demand-2-answers}
-use Rattle.events.proofs.Usable.{quality-stated, something-usable, floor-range, floor-last}
+use Rattle.events.proofs.Usable.{quality-stated, something-usable, floor-range}
 
 -- ---- tables read back, by the number of a quality
 

@@ -3,7 +3,6 @@
 -- Assumes nothing.
 use Prim.Native.Nat.{ℕ, _≤_, _<_}
 use mathlib.Core.Bool.{Bool, true, false, not, _&&_, cond, true≢false}
-use mathlib.Core.List.{List, map}
 use mathlib.Core.Logic.{_⊎_, inl, inr, _↔_}
 use mathlib.Core.Path.{_≡_, refl, sym, _∙_, ap, subst}
 use native.Mathlib.Omega.{arith}
@@ -30,16 +29,15 @@ use Rattle.choice.specs.Choice.{selected}
 use Rattle.choice.specs.Rank.{isPlaced, Within}
 use Rattle.choice.proofs.Choosing.{selected-injective}
 use Rattle.choice.proofs.Ranks.{eligible-exact}
-use Rattle.switch.specs.Choices.{forcedOn}
 use Rattle.numbers.specs.declared.Answer.{Answer}
 use Rattle.selector.specs.Clock.{freeRun, holdover, locked, clockState}
 use Rattle.events.specs.Given.{Given, asRecorded}
 use Rattle.events.specs.Step.{recordedArgument}
-use Rattle.events.specs.Sequence.{Sequence, stateAfter}
+use Rattle.events.specs.Sequence.{Sequence}
 use Rattle.events.specs.Past.{Past, candidateBy, decidedBy, earlyBy, lateBy, withTick, withEvent, pastOf, recorded, madeIn}
 use Rattle.events.specs.Told.{shown, candidateSelected}
 use Rattle.events.specs.Demand3.{StandsForced}
-use Rattle.events.specs.Usable.{SelectedPasses, UsableFrom, SomethingUsable, NothingUsable, EverLocked, clockStateAfter, LockedExactly, NeverUsable}
+use Rattle.events.specs.Usable.{SelectedPasses, UsableFrom, SomethingUsable, NothingUsable, clockStateAfter, LockedExactly, NeverUsable}
 use Rattle.events.proofs.Refused.{earlyRefusal-rows, argument-within, argument-least}
 use Rattle.events.proofs.Agrees.{recorded-profile}
 use Rattle.events.proofs.Stated.{passedAt-passes, passedAt-only}

@@ -153,17 +153,6 @@ module _ (times small wider : List ℕ) (at : ℕ) (input : Input) (seen : input
   seen-at : (d : Input) → input ≡ getD (selectorAt times small wider .inputs) at d
   seen-at d = seen ∙ sym (inputs-at times small wider at d h)
 
-  -- and fills a place
-  pub seen-turn : {B : Type 0} (g : Input → B) (into now : List B) (result : B)
-      → now ≡ filled g at (selectorAt times small wider .inputs) into → result ≡ g input → length into ≡ 16
-      → set now at result ≡ filled g (at + 1) (selectorAt times small wider .inputs) into
-  seen-turn g into now result e q l =
-      filled-turn g 16 at (selectorAt times small wider .inputs) into now freshInput result e
-      (q ∙ ap g (seen-at freshInput))
-      (inputs-length times small wider)
-      l
-      h
-
   -- and is offered to a choice
   pub leader-turn : (profile : Profile) (mode : Bool) (before : Selection) (leader next : Leader) (candidate : Candidate)
       → leader ≡ leadsAfter (candidatesOf profile (selectorAt times small wider .inputs) mode) at before
@@ -216,12 +205,6 @@ module _ (times small wider : List ℕ) (at : ℕ) (input : Input) (seen : input
       n
       (inputs-length times small wider)
       h
-
-pub seen-done : (times small wider : List ℕ) {B : Type 0} (g : Input → B) (at : ℕ) (into now : List B)
-    → now ≡ filled g at (selectorAt times small wider .inputs) into → length into ≡ 16 → at ≤ 16 → 16 ≤ at
-    → now ≡ map g (selectorAt times small wider .inputs)
-seen-done times small wider g at into now e l h k =
-    filled-done g 16 at (selectorAt times small wider .inputs) into now e (inputs-length times small wider) l h k
 
 -- no such input is seen by a choice
 pub candidate-outside : (times small wider : List ℕ) (number : ℕ) → 16 ≤ number

@@ -1,21 +1,16 @@
 -- Values, indexes and spans: a law for each way through. Assumes nothing.
-use Prim.Native.Nat.{ℕ, _+_, _-_, _*_, _/_, _%_, _≤_, _<_, min}
-use mathlib.Core.Bool.{Bool, true, false}
+use Prim.Native.Nat.{ℕ, _+_, _-_, _*_, _/_, _%_, _≤_, _<_}
+use mathlib.Core.Bool.{true, false}
 use mathlib.Core.List.{List}
-use mathlib.Core.Path.{_≡_, refl, sym, _∙_, ap}
+use mathlib.Core.Path.{_≡_}
 use native.Mathlib.Omega.{arith}
 use borrow.Author.Tests.{lt-ltb, le-ltb, eq-eqb, ne-eqb}
-use lib.Dec.{eqb, ltb}
 use lib.ListN.{getD}
 use Rattle.numbers.specs.declared.Answer.{Answer}
 use Rattle.selector.specs.declared.Selector.{Selector}
 use Rattle.selector.specs.Answer.{answerOf, outgoingCodes}
-use Rattle.selector.specs.State.{tickedOnce}
-use Rattle.due.specs.Next.{nextDue}
 use Rattle.lanes.specs.declared.View.{View}
-use Rattle.lanes.specs.declared.Span.{Span}
 use Rattle.lanes.specs.Value.{answerValue, codeValue, valueOf, indexCount, inputIndex, noSwitchIndex, switchIndex, fourIndex, answerIndex, codeIndex, valueIndex, Indexed}
-use Rattle.lanes.specs.Span.{spanOf, nextSpan}
 
 module _ (view : View) (state : Selector) (lane value : ℕ) where
   pub valueOf-codes : (codes : List ℕ) → view .codes ≡ true → codes ≡ outgoingCodes state → value ≡ codeValue codes lane
@@ -151,16 +146,4 @@ module _ (view : View) (lane value index : ℕ) where
   unfolding valueIndex
   valueIndex-answer t p = record { value = rw t (p .value); bound = p .bound }
 
-pub spanOf-made : (state : Selector) (until due before to : ℕ) → due ≡ nextDue state → before ≡ due - 1
-    → to ≡ min until before
-    → record { state = state; from = state .time; to = to } ≡ spanOf state until
-spanOf-made state until due before to d b t = rw (t, b, d)
-
-pub nextSpan-made : (span : Span) (until time : ℕ) (after : Selector) (answer : Span)
-    → time ≡ min (span .to + 1) 18446744073709551615
-    → after ≡ tickedOnce (span .state) time
-    → answer ≡ spanOf after until
-    → answer ≡ nextSpan span until
-nextSpan-made span until time after answer t a e = e ∙ rw (a, t)
-
-pub ruleset lanes-laws = (valueOf-codes, valueOf-answer, codeValue-code, codeValue-none, inputIndex-none, inputIndex-input, inputIndex-other, noSwitchIndex-none, noSwitchIndex-unjudged, noSwitchIndex-other, switchIndex-none, switchIndex-other, switchIndex-on, switchIndex-outside, fourIndex-selected, fourIndex-state, fourIndex-quality, fourIndex-switch, fourIndex-all, answerIndex-made, codeIndex-code, codeIndex-lane, codeIndex-both, valueIndex-code, valueIndex-answer, spanOf-made, nextSpan-made)
+pub ruleset lanes-laws = (valueOf-codes, valueOf-answer, codeValue-code, codeValue-none, inputIndex-none, inputIndex-input, inputIndex-other, noSwitchIndex-none, noSwitchIndex-unjudged, noSwitchIndex-other, switchIndex-none, switchIndex-other, switchIndex-on, switchIndex-outside, fourIndex-selected, fourIndex-state, fourIndex-quality, fourIndex-switch, fourIndex-all, answerIndex-made, codeIndex-code, codeIndex-lane, codeIndex-both, valueIndex-code, valueIndex-answer)

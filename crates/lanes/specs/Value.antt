@@ -1,10 +1,10 @@
 -- What is judged of an answer or of a port, as a number, and the index of a number among those that can be right. Cited
 -- by `src/lib.rt`. Assumes nothing.
 use Prim.Native.Nat.{ℕ, _+_, _-_, _*_, _/_, _%_, _≤_}
-use mathlib.Core.Bool.{Bool, _&&_, _||_, cond}
+use mathlib.Core.Bool.{Bool, cond}
 use mathlib.Core.List.{List}
 use mathlib.Core.Path.{_≡_}
-use lib.Dec.{eqb, leb, ltb}
+use lib.Dec.{eqb, ltb}
 use lib.ListN.{getD}
 use Rattle.numbers.specs.declared.Answer.{Answer}
 use Rattle.selector.specs.declared.Selector.{Selector}

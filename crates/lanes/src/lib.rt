@@ -1,15 +1,21 @@
 // What a selector shows, and what is right from when to when: the lanes of a card.
 //
 // A value is what is judged of an answer, five octets as one number with 0 for what is not judged;
-// or the code of a port. A state with any numbers in it is answered for, no sum can wrap, and no
-// public function has a `requires`.
-use due::next_due;
+// or the code of a port. A state stands in three lent arrays; with any numbers in them it is
+// answered for, no sum can wrap, and no public function has a `requires`.
+use inplace::SMALL;
+use inplace::TIMES;
+use inplace::WIDER;
+use inplace::answer_at;
+use inplace::codes_at;
+use inplace::next_due;
+use inplace::tick_once;
 use numbers::Answer;
-use selector::Selector;
 ghost use mathlib.Core.Path.{_≡_};
-ghost use Prim.Native.Nat.{_≤_, _-_, _+_, min};
+ghost use Prim.Native.Nat.{_+_, _-_, min};
 ghost use Rattle.lanes.specs.Value.{Judging, answerValue, codeValue, valueOf, indexCount, inputIndex, noSwitchIndex, switchIndex, fourIndex, answerIndex, codeIndex, valueIndex, Indexed};
-ghost use Rattle.lanes.specs.Span.{spanOf, nextSpan};
+ghost use Rattle.inplace.specs.Lists.{selectorAt};
+ghost use Rattle.lanes.specs.Span.{spanOf, stateBehind};
 
 // How many values have an index.
 pub const ROOM: usize = 36_992;
@@ -25,13 +31,6 @@ pub struct View {
     pub state: bool,
     pub quality: bool,
     pub switch: bool,
-}
-
-// What is right from one millisecond to another, both included: what this state shows.
-pub struct Span {
-    pub state: Selector,
-    pub from: u64,
-    pub to: u64,
 }
 
 // An octet if it is judged, otherwise 0.
@@ -67,14 +66,21 @@ fn code_value(codes: [u8; 16], lane: usize) -> u64
 }
 
 // What a state shows in a lane.
-pub fn value_of(view: View, state: Selector, lane: usize) -> u64
-    ensures { λ value. ⌜ value ≡ valueOf view state lane ⌝ }
+pub fn value_of(
+    view: View,
+    times: &[u64; TIMES],
+    small: &[u8; SMALL],
+    wider: &[u16; WIDER],
+    lane: usize,
+) -> u64
+    ensures { λ value. ⌜ value ≡ valueOf view
+        (selectorAt (now (times .entry)) (now (small .entry)) (now (wider .entry))) lane ⌝ }
 {
     if view.codes {
-        let codes = state.outgoing_codes();
+        let codes = codes_at(times, small, wider);
         return code_value(codes, lane);
     }
-    let answer = state.answer(0);
+    let answer = answer_at(times, small, wider, 0);
     answer_value(view, answer)
 }
 
@@ -191,18 +197,21 @@ fn one_less(number: u64) -> u64
     number - 1
 }
 
-// The span that begins with a state: to before the next due moment, or up to `until`.
-pub fn span_of(state: Selector, until: u64) -> Span
-    ensures { λ span. ⌜ span ≡ spanOf state until ⌝ }
+// When a span ends before what is next due, or with `until`.
+fn end_before(due: u64, until: u64) -> u64
+    ensures { λ end. ⌜ end ≡ min until (due - 1) ⌝ }
 {
-    let due = next_due(state);
     let before = one_less(due);
-    let to = lesser(until, before);
-    Span {
-        state,
-        from: state.time,
-        to,
-    }
+    lesser(until, before)
+}
+
+// The end of the span that begins with a state: before the next due moment, or `until`.
+pub fn span_end(times: &[u64; TIMES], small: &[u8; SMALL], wider: &[u16; WIDER], until: u64) -> u64
+    ensures { λ end. ⌜ end ≡ spanOf
+        (selectorAt (now (times .entry)) (now (small .entry)) (now (wider .entry))) until .to ⌝ }
+{
+    let due = next_due(times, small, wider);
+    end_before(due, until)
 }
 
 // The millisecond behind one.
@@ -215,12 +224,22 @@ fn behind(time: u64) -> u64
     time + 1
 }
 
-// The span behind one that ends before `until`: after the tick that is due there.
-pub fn next_span(span: Span, until: u64) -> Span
-    ensures { λ answer. ⌜ answer ≡ nextSpan span until ⌝ }
+// Brings a state on to behind a span's end, by the tick that is due there, and answers with the end
+// of the span that begins then.
+pub fn next_span(
+    times: &mut [u64; TIMES],
+    small: &mut [u8; SMALL],
+    wider: &[u16; WIDER],
+    to: u64,
+    until: u64,
+) -> u64
+    ensures { λ end. ⌜
+        (selectorAt (now (times .exit)) (now (small .exit)) (now (wider .entry)) ≡
+        stateBehind (selectorAt (now (times .entry)) (now (small .entry)) (now (wider .entry))) to) ×
+        (end ≡ spanOf (selectorAt (now (times .exit)) (now (small .exit)) (now (wider .entry)))
+        until .to) ⌝ }
 {
-    let state = span.state;
-    let time = behind(span.to);
-    let after = state.tick(time);
-    span_of(after, until)
+    let time = behind(to);
+    let due = tick_once(times, small, wider, time);
+    end_before(due, until)
 }

@@ -19,14 +19,12 @@ use Rattle.switch.specs.declared.Switch.{Switch}
 use Rattle.switch.specs.Choices.{commanded}
 use Rattle.selector.specs.declared.Selector.{Selector}
 use Rattle.selector.specs.State.{decided}
-use Rattle.due.specs.declared.Served.{Served}
-use Rattle.due.specs.Served.{servedOf, served}
+use Rattle.due.specs.Served.{Served, servedOf, served}
 use Rattle.inplace.specs.Lists.{withInputs, withInput, withCommand, heldSwitch}
 use Rattle.inplace.proofs.Named.{On, switchOf-back, commanded-on}
-use Rattle.events.specs.declared.Stepped.{Stepped}
 use Rattle.events.specs.Given.{readEvent}
 use Rattle.events.specs.Refusals.{earlyRefusal}
-use Rattle.events.specs.Step.{inputAfter, inputsAfter, modeAfter, atItsMoment, kindAt, stepped, earlyNumber, lateNumber, stepTicked, stepRead}
+use Rattle.events.specs.Step.{Stepped, inputAfter, inputsAfter, modeAfter, atItsMoment, kindAt, stepped, earlyNumber, lateNumber, stepTicked, stepRead}
 use Rattle.events.proofs.EventLaws.{inputsAfter-mode, inputsAfter-own, atItsMoment-calls, stepTicked-late, stepTicked-accepted, stepRead-early, stepRead-late}
 use Rattle.events.proofs.Refused.{accepted-input}
 

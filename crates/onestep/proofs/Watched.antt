@@ -26,18 +26,16 @@ use Rattle.selector.specs.Answer.{answerOf}
 use Rattle.due.specs.Next.{nextDue}
 use Rattle.inplace.specs.Lists.{rest, selectorAt, withInput, framedAt, withFramed, withTime}
 use Rattle.inplace.proofs.Once.{onces-rest}
-use Rattle.events.specs.declared.Stepped.{Stepped}
 use Rattle.events.specs.Refusals.{earlyRefusal}
-use Rattle.events.specs.Step.{inputAfter, stepped, earlyNumber, stepRead}
+use Rattle.events.specs.Step.{Stepped, inputAfter, stepped, earlyNumber, stepRead}
 use Rattle.events.specs.Given.{recordedEvent}
 use Rattle.events.proofs.Refused.{accepted-input}
 use Rattle.quickstep.specs.declared.Left.{Left}
 use Rattle.quickstep.specs.declared.Left.the-variants.{Nothing, Choice, Service}
 use Rattle.quickstep.specs.declared.Own.{Own}
-use Rattle.quickstep.specs.declared.Watch.{Watch}
 use Rattle.quickstep.specs.Again.{ownOf, saysAgain, againInput, againOwn}
 use Rattle.quickstep.specs.Own.{isServed, seenAlike, ownTake, ownStep, isLeft}
-use Rattle.quickstep.specs.Watch.{watchOf, freshWatch, numbered, movedTo, dueAnew, dueAfter, servedWatch, completed, ownIndex, ownPut, ownAt, ownFrom, takeWith, dueAt, takeStep, isPutAtOnce, watchStep, isAnew}
+use Rattle.quickstep.specs.Watch.{Watch, watchOf, freshWatch, numbered, movedTo, dueAnew, dueAfter, servedWatch, completed, ownIndex, ownPut, ownAt, ownFrom, takeWith, dueAt, takeStep, isPutAtOnce, watchStep, isAnew}
 use Rattle.onestep.specs.Watched.{sixValues, answerIn, watchHeld, watchAt}
 
 -- ---- what was answered

@@ -6,9 +6,8 @@ use lib.ListN.{getD}
 use Rattle.numbers.specs.declared.Answer.{Answer}
 use Rattle.selector.specs.declared.Selector.{Selector}
 use Rattle.inplace.specs.Lists.{rest, selectorAt}
-use Rattle.quickstep.specs.declared.Watch.{Watch}
 use Rattle.onestep.specs.declared.held.Held.{Held}
-use Rattle.quickstep.specs.Watch.{watchOf}
+use Rattle.quickstep.specs.Watch.{Watch, watchOf}
 
 -- an answer, by its six values in the order of an answer line
 abbrev pub sixValues : (ℕ → ℕ) → Answer

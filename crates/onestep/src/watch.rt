@@ -50,7 +50,7 @@ pub const DUE: usize = 1;
 pub const TOLD: usize = 7;
 
 // Where they stand: the answer's six as an answer line has them, and how many moments were served.
-const NEXT: usize = 0;
+pub const NEXT: usize = 0;
 
 const NUMBER: usize = 0;
 

@@ -1,19 +1,17 @@
 -- An answer that is not made anew is the answer before it with another number. Assumes nothing.
-use mathlib.Core.Bool.{Bool, true, false, not, true≢false}
-use mathlib.Core.Path.{_≡_, refl, sym, _∙_}
-use Rattle.numbers.specs.declared.Answer.{Answer}
+use mathlib.Core.Bool.{false, true≢false}
+use mathlib.Core.Path.{_≡_, refl}
 use Rattle.numbers.specs.declared.Event.{Event}
 use Rattle.numbers.proofs.Truth.{byBool}
 use Rattle.frame.specs.declared.FrameRead.{FrameRead}
 use Rattle.quickstep.specs.declared.Left.{Left}
 use Rattle.quickstep.specs.declared.Left.the-variants.{Nothing, Choice, Service}
 use Rattle.quickstep.specs.declared.Own.{Own}
-use Rattle.quickstep.specs.declared.Watch.{Watch}
 use Rattle.quickstep.specs.Again.{againOwn}
 use Rattle.quickstep.specs.Own.{isLeft}
-use Rattle.quickstep.specs.Watch.{numbered, completed, ownPut, ownAt, ownFrom, dueAt, takeStep, isPutAtOnce, watchStep, isAnew}
+use Rattle.quickstep.specs.Watch.{Watch, numbered, completed, ownPut, ownAt, ownFrom, dueAt, takeStep, isPutAtOnce, watchStep, isAnew}
 
-nothing-left : (left : Left) → isLeft left ≡ false → left ≡ Nothing
+pub nothing-left : (left : Left) → isLeft left ≡ false → left ≡ Nothing
 unfolding isLeft
 nothing-left Nothing none = refl
 nothing-left Choice none = absurd (true≢false none)

@@ -97,12 +97,6 @@ ifLater-later : (time when : ℕ) → time < never → time < ifLater time when
 unfolding ifLater
 ifLater-later time when ever = byBool (ltb time when) (λ y. rw y (ltb-true time when y)) (λ n. rw n ever)
 
-pub nextOf-later : (input : Input) (mode : Bool) (time : ℕ) → time < never → time < nextOf input mode time
-unfolding nextOf
-nextOf-later input mode time ever =
-    lesser-least (suc time) _ _ (ifLater-later time (timerDue (input .run) (forecast input mode)) ever)
-    (ifLater-later time (frameDue (input .heard)) ever)
-
 -- ---- a state with another input in its place, at a later time
 
 module _ (state : Selector) (due time : ℕ) (bound : due ≤ nextDue state) (later : state .time ≤ time) where
@@ -114,10 +108,6 @@ module _ (state : Selector) (due time : ℕ) (bound : due ≤ nextDue state) (la
   still-due number few =
       nextOf-keeps (getD (state .inputs) number freshInput) (state .mode) due (state .time) time ever later
       (omega (arith, nextAmong-least (state .inputs) (state .mode) (state .time) 16 number few))
-
-  -- a later time alone makes nothing due earlier
-  pub moved-due : due ≤ nextDue (movedTo state (state .inputs) time)
-  moved-due = nextAmong-from (state .inputs) (state .mode) due time 16 ever still-due
 
   -- nor does another input, but for what is due of itself
   pub put-due : (index next : ℕ) (input : Input) → index < length (state .inputs) → next ≤ due

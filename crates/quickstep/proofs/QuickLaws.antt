@@ -5,7 +5,7 @@ use mathlib.Core.List.{List}
 use mathlib.Core.Path.{_≡_, refl, sym, _∙_, ap}
 use native.Mathlib.Omega.{arith}
 use lib.Dec.{eqb, leb, ltb}
-use lib.ListN.{getD, set}
+use lib.ListN.{getD}
 use borrow.Author.Tests.{eqb-true, eqb-false, eq-eqb, ne-eqb, le-leb, lt-leb, lt-ltb, le-ltb, ltb-true, ltb-false}
 use Rattle.numbers.specs.declared.Answer.{Answer}
 use Rattle.numbers.specs.declared.Event.{Event}
@@ -23,28 +23,23 @@ use Rattle.frame.specs.declared.FrameRead.{FrameRead}
 use Rattle.frame.specs.declared.FrameRead.the-variants.{Code, Refused}
 use Rattle.input.specs.declared.Heard.{Heard}
 use Rattle.input.specs.declared.Input.{Input}
-use Rattle.input.specs.Record.{freshInput}
 use Rattle.choice.specs.declared.Seen.{Seen}
 use Rattle.choice.specs.Candidate.{isLike}
 use Rattle.selector.specs.declared.Selector.{Selector}
-use Rattle.selector.specs.State.{seenOf, decided}
-use Rattle.selector.specs.Answer.{answerOf}
-use Rattle.selector.proofs.SelectorLaws.{getD-any}
-use Rattle.due.specs.Next.{lesser, sumOrNever, nextOf, nextOfAll, nextDue}
+use Rattle.selector.specs.State.{seenOf}
+use Rattle.due.specs.Next.{lesser, sumOrNever, nextOf, nextDue}
 use Rattle.due.specs.Served.{mostServed}
 use Rattle.events.specs.Refusals.{earlyRefusal, isWrongKind, frameRefusal}
-use Rattle.events.specs.declared.Stepped.{Stepped}
-use Rattle.events.specs.Step.{inputAfter, stepRead}
+use Rattle.events.specs.Step.{inputAfter}
 use Rattle.events.specs.Given.{readEvent, recordedEvent}
 use Rattle.events.proofs.EventLaws.{stepRead-most}
 use Rattle.events.proofs.Refused.{accepted-limit, accepted-time}
 use Rattle.quickstep.specs.declared.Left.{Left}
 use Rattle.quickstep.specs.declared.Left.the-variants.{Nothing, Choice, Service}
 use Rattle.quickstep.specs.declared.Own.{Own}
-use Rattle.quickstep.specs.declared.Watch.{Watch}
 use Rattle.quickstep.specs.Again.{codeAgain, frameAgain, readAgain, isAgain, saysAgain, repeats, framedInput, againInput, againDue, ownOf, againOwn}
 use Rattle.quickstep.specs.Own.{OwnIndex, isCommand, isServed, seenAlike, ownTake, ownStep}
-use Rattle.quickstep.specs.Watch.{watchOf, numbered, movedTo, dueAnew, dueAfter, servedWatch, completed, ownPut, ownAt, takeStep, watchStep}
+use Rattle.quickstep.specs.Watch.{Watch, dueAnew, dueAfter, servedWatch, completed, ownPut, ownAt, takeStep, watchStep}
 
 -- ---- dueAnew, dueAfter
 
@@ -52,13 +47,6 @@ module _ (inputs : List Input) (mode : Bool) (last due time : ℕ) where
   pub dueAnew-before : time < due → due ≡ dueAnew inputs mode last due time
   unfolding dueAnew
   dueAnew-before h = rw (lt-ltb _ _ h)
-
-  pub dueAnew-come : (next : ℕ) → due ≤ time → next ≡ nextOfAll inputs mode last
-      → next ≡ dueAnew inputs mode last due time
-  unfolding dueAnew
-  dueAnew-come next h n = n ∙ (rw (le-ltb _ _ h))
-
-pub ruleset dueAnew-laws = (dueAnew-before, dueAnew-come)
 
 module _ (due time : ℕ) (state : Selector) (next : ℕ) (n : next ≡ nextDue state) where
   pub dueAfter-before : (least : ℕ) → time < due → least ≡ lesser due next → least ≡ dueAfter due time state
@@ -498,34 +486,7 @@ pub ruleset ownStep-laws = (ownStep-refused, ownStep-served, ownStep-taken)
 
 -- ---- servedWatch
 
-pub servedWatch-calls : (state : Selector) (due : ℕ) (event : Event) (read : FrameRead) (after : Stepped) (next : ℕ)
-    (answer : Answer)
-    → after ≡ stepRead state event read
-    → next ≡ dueAfter due (event .time) (after .state)
-    → answer ≡ answerOf (after .number) (after .state)
-    → watchOf (after .state) next answer (after .count) ≡ servedWatch state due event read
-unfolding servedWatch
-servedWatch-calls state due event read after next answer a n w = rw (n, w, a)
-
 -- ---- completed
-
-module _ (state : Selector) (due : ℕ) (answer : Answer) (left : Left) (event : Event) (read : FrameRead) where
-  pub completed-nothing : left ≡ Nothing → watchOf state due answer 0 ≡ completed state due answer left event read
-  unfolding completed
-  completed-nothing is = rw is
-
-  pub completed-choice : (chosen : Selector) (told : Answer) → left ≡ Choice → chosen ≡ decided state
-      → told ≡ answerOf (answer .number) chosen
-      → watchOf chosen due told 0 ≡ completed state due answer left event read
-  unfolding completed
-  completed-choice chosen told is c t = rw (is, t, c)
-
-  pub completed-service : (after : Watch) → left ≡ Service → after ≡ servedWatch state due event read
-      → after ≡ completed state due answer left event read
-  unfolding completed
-  completed-service after is s = s ∙ (rw is)
-
-pub ruleset completed-laws = (completed-nothing, completed-choice, completed-service)
 
 -- ---- ownPut, watchStep
 
@@ -535,51 +496,11 @@ pub ownIndex-unique : (inputs : List Input) (number one other : ℕ) → OwnInde
     → one ≡ other
 ownIndex-unique inputs number one other first second = first .own ∙ sym (second .own)
 
-pub ownPut-completed : (watch : Watch) (own : Own) (event : Event) (read : FrameRead) (index : ℕ) (after : Watch)
-    → OwnIndex (watch .state .inputs) (event .input) index
-    → after ≡
-    completed (movedTo (watch .state) (set (watch .state .inputs) index (own .input)) (own .time)) (own .due)
-    (numbered (own .number) (watch .answer))
-    (own .left)
-    event
-    read
-    → after ≡ ownPut watch own event read
-unfolding ownPut
-ownPut-completed watch own event read index after at a = a ∙ (rw (at .own))
-
 -- the event's own input is read from an array, whose element past its end is not told
 module _ (watch : Watch) (event : Event) (read : FrameRead) (zeroed : Input) (index : ℕ)
     (at : OwnIndex (watch .state .inputs) (event .input) index) where
   abbrev before : Input
   before = getD (watch .state .inputs) index zeroed
-
-  pub own-at : before ≡ ownAt (watch .state) event
-  own-at =
-      getD-any (watch .state .inputs) index zeroed freshInput (at .inside) ∙
-      ap (λ (n : ℕ). getD (watch .state .inputs) n freshInput) (at .own)
-
-  pub takeStep-own : (due : ℕ) (own : Own) (after : Watch)
-      → due ≡ dueAnew (watch .state .inputs) (watch .state .mode) (watch .state .time) (watch .due) (event .time)
-      → own ≡ ownStep before (watch .state .profile) (watch .state .mode) (watch .state .time) due event read
-      → after ≡ ownPut watch own event read
-      → after ≡ takeStep watch event read
-  unfolding takeStep
-  takeStep-own due own after d o a = a ∙ (rw (o, d, ← own-at))
-
-  module _ (again : Bool)
-      (s : again ≡ saysAgain before (watch .state .profile) (watch .state .time) (watch .due) event read) where
-    pub watchStep-again : (own : Own) (after : Watch) → again ≡ true → own ≡ againOwn before (watch .due) event
-        → after ≡ ownPut watch own event read
-        → after ≡ watchStep watch event read
-    unfolding watchStep
-    watchStep-again own after y o a = a ∙ (rw (o, ← own-at, ← s, y))
-
-    pub watchStep-taken : (after : Watch) → again ≡ false → after ≡ takeStep watch event read
-        → after ≡ watchStep watch event read
-    unfolding watchStep
-    watchStep-taken after n a = a ∙ (rw (← own-at, ← s, n))
-
-pub ruleset watchStep-laws = (watchStep-again, watchStep-taken)
 
 -- ---- the count
 

@@ -29,17 +29,15 @@ use Rattle.due.specs.Next.{lesser, nextOf, nextDue}
 use Rattle.due.proofs.Every.{every-at, every-replicate}
 use Rattle.due.proofs.Millisecond.{lesser-one, lesser-other}
 use Rattle.due.proofs.Calm.{Calm, calm-fresh}
-use Rattle.events.specs.declared.Stepped.{Stepped}
 use Rattle.events.specs.Given.{Sequence}
 use Rattle.events.specs.Refusals.{earlyRefusal}
 use Rattle.events.specs.Sequence.{stateAfter, numberAfter, countAfter}
-use Rattle.events.specs.Step.{stepped, earlyNumber, stepRead, step}
+use Rattle.events.specs.Step.{Stepped, stepped, earlyNumber, stepRead, step}
 use Rattle.events.proofs.Calm.{accepted-or-not, stepRead-refused, calm-stepRead}
 use Rattle.events.proofs.Refused.{earlyRefusal-outside}
-use Rattle.quickstep.specs.declared.Watch.{Watch}
 use Rattle.quickstep.specs.Again.{frameAgain, readAgain, isAgain, saysAgain, againInput, againDue, againOwn}
 use Rattle.quickstep.specs.Own.{isCommand, isServed, seenAlike, ownTake, ownStep}
-use Rattle.quickstep.specs.Watch.{watchOf, numbered, freshWatch, dueAnew, dueAfter, servedWatch, completed, ownIndex, ownPut, ownAt, takeStep, watchStep}
+use Rattle.quickstep.specs.Watch.{Watch, watchOf, numbered, freshWatch, dueAnew, dueAfter, servedWatch, completed, ownIndex, ownPut, ownAt, takeStep, watchStep}
 use Rattle.quickstep.specs.Sequence.{watchAfter, WatchRight}
 use Rattle.quickstep.proofs.Again.{again-input, again-free}
 use Rattle.quickstep.proofs.Due.{lesser-same, put-due, again-due, againDue-least, againDue-other, dueAnew-bound, dueAfter-bound}

@@ -34,9 +34,8 @@ use Rattle.due.proofs.Millisecond.{SettledAt}
 use Rattle.due.proofs.Calm.{Calm, decided-moved}
 use Rattle.due.proofs.Jump.{each-before, dueIn-before}
 use Rattle.due.proofs.ServesEachDue.{ticked-each, served-count}
-use Rattle.events.specs.declared.Stepped.{Stepped}
 use Rattle.events.specs.Given.{recordedEvent}
-use Rattle.events.specs.Step.{inputAfter, inputsAfter, modeAfter, atItsMoment, stepped, earlyNumber, lateNumber, stepRead}
+use Rattle.events.specs.Step.{Stepped, inputAfter, inputsAfter, modeAfter, atItsMoment, stepped, earlyNumber, lateNumber, stepRead}
 use Rattle.events.proofs.EventLaws.{lateRefusal-other}
 use Rattle.events.proofs.Refused.{accepted-input}
 use Rattle.events.proofs.Calm.{accepted-or-not, stepRead-barred, stepRead-taken, not-before, not-never, calm-brought, brought-time}

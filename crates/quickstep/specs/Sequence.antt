@@ -9,8 +9,7 @@ use Rattle.selector.specs.Answer.{answerOf}
 use Rattle.due.specs.Next.{nextDue}
 use Rattle.events.specs.Given.{Given, Sequence}
 use Rattle.events.specs.Sequence.{stateAfter, numberAfter, countAfter}
-use Rattle.quickstep.specs.declared.Watch.{Watch}
-use Rattle.quickstep.specs.Watch.{freshWatch, watchStep}
+use Rattle.quickstep.specs.Watch.{Watch, freshWatch, watchStep}
 
 -- the watch after a sequence of events
 unfoldable pub watchAfter : Sequence → Watch

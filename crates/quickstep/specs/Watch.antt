@@ -22,9 +22,16 @@ use Rattle.events.specs.Step.{stepRead}
 use Rattle.quickstep.specs.declared.Left.{Left}
 use Rattle.quickstep.specs.declared.Left.the-variants.{Nothing, Choice, Service}
 use Rattle.quickstep.specs.declared.Own.{Own}
-use Rattle.quickstep.specs.declared.Watch.{Watch}
 use Rattle.quickstep.specs.Again.{saysAgain, againOwn}
 use Rattle.quickstep.specs.Own.{ownStep, isLeft}
+
+-- the state; a time before which nothing is due; the answer to the last event, which but for its number changes only
+-- where a choice is made; and how many due moments that event's tick served
+pub record Watch : Type 0 where
+  pub state : Selector
+  pub due : ℕ
+  pub answer : Answer
+  pub count : ℕ
 
 -- a watch by its parts
 abbrev pub watchOf : Selector → ℕ → Answer → ℕ → Watch

@@ -1,32 +1,25 @@
--- The choice over a state's inputs, one offered after another: laws of the loop of `Selector::leader` and of what a
--- choice sees of the switch's input, for any sixteen inputs. Assumes nothing.
-use Prim.{tt}
-use Prim.Native.Nat.{ℕ, zero, suc, _+_, _%_, _≤_, _<_}
+-- The choice over a state's inputs, one offered after another: laws of a loop over any sixteen. Assumes nothing.
+use Prim.Native.Nat.{ℕ, zero, suc, _+_, _≤_, _<_}
 use mathlib.Core.Bool.{Bool}
 use mathlib.Core.List.{List, [], _∷_, map}
 use mathlib.Core.Path.{_≡_, refl, ap, sym, _∙_}
 use native.Mathlib.Omega.{arith}
 use lib.ListN.{length, getD, List·getD-eq-default}
-use Rattle.numbers.specs.declared.InputNumber.{InputNumber}
 use Rattle.numbers.specs.declared.profile.Profile.{Profile}
-use Rattle.numbers.specs.Inputs.{inputCount}
 use Rattle.input.specs.declared.Input.{Input}
 use Rattle.choice.specs.declared.Candidate.{Candidate}
 use Rattle.choice.specs.declared.Leader.{Leader}
 use Rattle.choice.specs.declared.Selection.{Selection}
-use Rattle.choice.specs.declared.Selection.the-variants as S
 use Rattle.choice.specs.Candidate.{nobody, eligibleAmong, betterAmong}
 use Rattle.choice.specs.Choice.{seeded, scanned}
-use Rattle.choice.specs.Leader.{seed, offer, leaderAmong, chosenAmong, SeenAt}
-use Rattle.choice.proofs.Leading.{leader-seeded, scan-none, scan-more, scan-all}
+use Rattle.choice.specs.Leader.{offer, leaderAmong, chosenAmong}
+use Rattle.choice.proofs.Leading.{scan-more, scan-all}
 use Rattle.switch.specs.declared.Switch.{Switch}
-use Rattle.switch.specs.declared.Switch.the-variants as W
 use Rattle.switch.specs.declared.AfterChoice.{AfterChoice}
 use Rattle.switch.specs.OneChoice.{decide}
 use Rattle.switch.specs.OneScan.{decideBy, SeenOn}
 use Rattle.switch.proofs.Scanned.{decideBy-decide}
-use Rattle.selector.specs.State.{candidateFor, candidatesOf, IndexIn}
-use Rattle.selector.specs.Clock.{selectedNumber, switchInput}
+use Rattle.selector.specs.State.{candidateFor, candidatesOf}
 
 getD-seen : {A B : Type 0} (f : A → B) (list : List A) (number : ℕ) (d : A) (e : B) → number < length list
     → f (getD list number d) ≡ getD (map f list) number e
@@ -55,32 +48,6 @@ module _ (profile : Profile) (mode : Bool) (inputs : List Input) (zeroed : Input
       let m : number < length inputs = omega arith in
       c ∙ getD-seen (candidateFor profile mode) inputs number zeroed nobody m
 
-  -- one found by its number taken round
-  seen-round : (on : InputNumber) (index : ℕ) (candidate : Candidate) → index ≡ on .0 % inputCount
-      → candidate ≡ candidateFor profile mode (getD inputs index zeroed) → length inputs ≡ 16 → SeenAt all on candidate
-  seen-round on index candidate at c k inside =
-      let same : index ≡ on .0 = omega (arith, at, inside) in
-      let found : candidate ≡ candidateFor profile mode (getD inputs (on .0) zeroed) =
-      c ∙ ap (λ x. candidateFor profile mode (getD inputs x zeroed)) same in
-      seen-one (on .0) candidate found inside k
-
-  -- before the loop
-  pub leader-first : (before : Selection) (number index : ℕ) (seen : Candidate) (leader : Leader)
-      → number ≡ selectedNumber before → IndexIn inputs number index
-      → seen ≡ candidateFor profile mode (getD inputs index zeroed) → leader ≡ seed before seen
-      → leader ≡ leadsAfter all 0 before
-  unfolding selectedNumber
-  leader-first before number index seen leader n at c l =
-      scan-none all leader (seeded (eligibleAmong all) before) (l ∙ leader-seeded all before seen sees)
-    where
-      numbered : (earlier : InputNumber) → before ≡ S.At earlier → number ≡ earlier .0
-      numbered earlier is = n ∙ ap selectedNumber is
-
-      sees : (earlier : InputNumber) → before ≡ S.At earlier → SeenAt all earlier seen
-      sees earlier is =
-          let own = numbered earlier is in
-          seen-round earlier index seen (at .own ∙ ap (λ x. x % inputCount) own) c (at .sixteen)
-
   -- a turn of the loop
   pub leader-more : (before : Selection) (leader next : Leader) (count : ℕ) (candidate : Candidate)
       → leader ≡ leadsAfter all count before
@@ -89,17 +56,6 @@ module _ (profile : Profile) (mode : Bool) (inputs : List Input) (zeroed : Input
   leader-more before leader next count candidate l c o h k =
       scan-more all (seeded (eligibleAmong all) before) leader next count (record { 0 = count }) candidate refl l
       (seen-one count candidate c h k) o
-
-  -- what a choice sees of the switch's input
-  pub seen-on : (switch : Switch) (number index : ℕ) (own : Candidate) → number ≡ switchInput switch
-      → IndexIn inputs number index → own ≡ candidateFor profile mode (getD inputs index zeroed)
-      → SeenOn all switch own
-  unfolding switchInput
-  seen-on W.Nothing number index own n at c = tt
-  seen-on (W.Forced on) number index own n at c =
-      seen-round on index own (at .own ∙ ap (λ x. x % inputCount) n) c (at .sixteen)
-  seen-on (W.Manual on) number index own n at c =
-      seen-round on index own (at .own ∙ ap (λ x. x % inputCount) n) c (at .sixteen)
 
 -- the loop's end
 pub leader-done : (candidates : List Candidate) (before : Selection) (leader : Leader) (count : ℕ)
@@ -118,12 +74,7 @@ decided-one profile mode inputs switch before waslocked own leader choice seen l
     ∙ decideBy-decide (candidatesOf profile inputs mode) before
     (map-length (candidateFor profile mode) inputs ∙ k) switch own waslocked seen
 
--- ---- candidate_in
-
-pub candidateIn-inside : (profile : Profile) (mode : Bool) (inputs : List Input) (zeroed : Input) (number : ℕ)
-    (candidate : Candidate) → candidate ≡ candidateFor profile mode (getD inputs number zeroed)
-    → number < 16 → length inputs ≡ 16 → candidate ≡ getD (candidatesOf profile inputs mode) number nobody
-candidateIn-inside = seen-one
+-- ---- a number that no input has
 
 pub candidateIn-outside : (profile : Profile) (mode : Bool) (inputs : List Input) (number : ℕ) → 16 ≤ number
     → length inputs ≡ 16 → nobody ≡ getD (candidatesOf profile inputs mode) number nobody
@@ -131,7 +82,3 @@ candidateIn-outside profile mode inputs number h k =
     let m : length (candidatesOf profile inputs mode) ≤ number =
     omega (arith, h, k, map-length (candidateFor profile mode) inputs) in
     sym (List·getD-eq-default (candidatesOf profile inputs mode) nobody m)
-
-pub ruleset candidateIn-laws = (candidateIn-inside, candidateIn-outside)
-
-pub ruleset leader-laws = (leader-first, leader-more, leader-done)

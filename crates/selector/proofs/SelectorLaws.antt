@@ -1,7 +1,7 @@
 -- The definitions of `specs/`, a law for each way through the function that meets it. Assumes nothing.
 use Prim.Native.Nat.{ℕ, zero, suc, _+_, _/_, _%_, _≤_, _<_}
 use mathlib.Core.Bool.{Bool, true, false, cond}
-use mathlib.Core.List.{List, [], _∷_, map}
+use mathlib.Core.List.{List, [], _∷_}
 use mathlib.Core.Path.{_≡_, refl, sym, _∙_, ap}
 use native.Mathlib.Omega.{arith}
 use native.Mathlib.Numerals.{add-one}
@@ -11,7 +11,7 @@ use Rattle.numbers.specs.declared.InputNumber.{InputNumber}
 use Rattle.numbers.specs.declared.profile.Profile.{Profile}
 use Rattle.numbers.specs.declared.quality.Quality.{Quality}
 use Rattle.numbers.specs.Quality.{notTold}
-use Rattle.numbers.specs.Profile.{isMarked, halved, marksOf, toldBy}
+use Rattle.numbers.specs.Profile.{isMarked, halved}
 use Rattle.numbers.specs.Codes.{codeDnu, wordStu, wordDus}
 use Rattle.input.specs.declared.Input.{Input}
 use Rattle.input.specs.Record.{freshInput}
@@ -21,11 +21,10 @@ use Rattle.choice.specs.declared.Selection.the-variants as S
 use Rattle.choice.specs.Candidate.{nobody}
 use Rattle.switch.specs.declared.Switch.{Switch}
 use Rattle.switch.specs.declared.Switch.the-variants as W
-use Rattle.selector.specs.declared.Selector.{Selector}
 use Rattle.selector.specs.State.{candidateFor}
 use Rattle.selector.proofs.Filled.{filled, filled-turn}
 use Rattle.selector.proofs.Ports.{port-number}
-use Rattle.selector.specs.Answer.{noInput, freeRun, holdover, locked, selectedCandidate, clockState, clockQuality, outgoingCode, selectedNumber, switchNumber, switchInput, outgoingWord, qualityOf, signFor, ports}
+use Rattle.selector.specs.Answer.{noInput, freeRun, holdover, locked, selectedCandidate, clockState, clockQuality, outgoingCode, selectedNumber, switchNumber, switchInput, outgoingWord, signFor, ports}
 
 -- ---- getD
 
@@ -51,8 +50,6 @@ module _ (inputs : List Input) (number : ℕ) where
       → found ≡ getD inputs number freshInput
   inputAt-past found h k e =
       let m : length inputs ≤ number = omega arith in e ∙ sym (getD-past inputs number freshInput m)
-
-pub ruleset inputAt-laws = (inputAt-inside, inputAt-past)
 
 -- ---- selectedCandidate
 
@@ -215,27 +212,6 @@ signFor-turn rule inputs mode selected marks sign first port rest into now chose
     refl
     k
     lt
-
--- what goes out of the sixteen ports, call by call
-pub signs-calls : (rule : Bool → Bool → Bool → ℕ → ℕ) (say : Quality → ℕ) (state : Selector) (quality told : Quality)
-    (sign first marks selected : ℕ)
-    (answer : List ℕ)
-    → quality ≡ qualityOf state → sign ≡ say quality
-    → told ≡ toldBy true quality → first ≡ say told
-    → marks ≡ marksOf (state .profile)
-    → selected ≡ selectedNumber (state .selection)
-    → answer ≡ map (signFor rule (state .inputs) (state .mode) selected marks sign first) ports
-    → answer ≡
-    map
-    (signFor rule (state .inputs) (state .mode) (selectedNumber (state .selection)) (marksOf (state .profile))
-    (say (qualityOf state))
-    (say (toldBy true (qualityOf state))))
-    ports
-signs-calls rule say state quality told sign first marks selected answer q s t f m n a =
-    let s′ : sign ≡ say (qualityOf state) = s ∙ ap say q in
-    let t′ : told ≡ toldBy true (qualityOf state) = t ∙ ap (toldBy true) q in
-    let f′ : first ≡ say (toldBy true (qualityOf state)) = f ∙ ap say t′ in
-    a ∙ (λ j. map (signFor rule (state .inputs) (state .mode) (n j) (m j) (s′ j) (f′ j)) ports)
 
 -- what is left of the marks, one port on
 pub halved-turn : (port marks rest : ℕ) → rest ≡ halved port marks → rest / 2 ≡ halved (port + 1) marks

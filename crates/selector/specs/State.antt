@@ -1,10 +1,9 @@
 -- Document 01, "The sixteen inputs" and "Choosing": the state, and what a choice and a tick make of it. Cited by
 -- `src/lib.rt`. Assumes nothing.
-use Prim.Native.Nat.{ℕ, _%_, _<_}
+use Prim.Native.Nat.{ℕ}
 use mathlib.Core.Bool.{Bool, true, false}
 use mathlib.Core.List.{List, map}
-use mathlib.Core.Path.{_≡_}
-use lib.ListN.{length, replicate}
+use lib.ListN.{replicate}
 use Rattle.numbers.specs.Inputs.{inputCount}
 use Rattle.numbers.specs.declared.profile.Profile.{Profile}
 use Rattle.numbers.specs.Profile.{limitsOf, provPlaceOf, floorIn}
@@ -58,12 +57,6 @@ candidatesOf profile inputs mode = map (candidateFor profile mode) inputs
 -- what a choice looks at of all inputs of a state
 abbrev pub seenAll : Selector → List Candidate
 seenAll state = candidatesOf (state .profile) (state .inputs) (state .mode)
-
--- where an input stands among the sixteen; where there is no such input, its number taken round
-pub record IndexIn (inputs : List Input) (number index : ℕ) : Type 0 where
-  pub own : index ≡ number % inputCount
-  pub inside : index < length inputs
-  pub sixteen : length inputs ≡ inputCount
 
 -- the state with what a choice leaves
 abbrev pub withChoice : Selector → AfterChoice → Selector

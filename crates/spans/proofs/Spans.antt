@@ -25,8 +25,7 @@ use Rattle.input.specs.Recorded.{timeOf}
 use Rattle.numbers.specs.declared.Event.{Event}
 use Rattle.numbers.specs.Profile.{limitsOf}
 use Rattle.frame.specs.Read.{readCode}
-use Rattle.events.specs.declared.Stepped.{Stepped}
-use Rattle.events.specs.Step.{kindAt, earlyNumber, lateNumber, atItsMoment, stepRead, step}
+use Rattle.events.specs.Step.{Stepped, kindAt, earlyNumber, lateNumber, atItsMoment, stepRead, step}
 use Rattle.events.specs.Given.{Given, Sequence, tickAt}
 use Rattle.events.specs.Past.{pastOf, recorded}
 use Rattle.events.specs.Sequence.{stateAfter}
@@ -37,9 +36,8 @@ use Rattle.events.proofs.Demand1.{tick-state}
 use Rattle.events.proofs.Demand2.{demand-2-answers}
 use Rattle.events.proofs.Happened.{happened}
 use Rattle.lanes.specs.declared.View.{View}
-use Rattle.lanes.specs.declared.Span.{Span}
 use Rattle.lanes.specs.Value.{valueOf}
-use Rattle.lanes.specs.Span.{spanOf, nextSpan}
+use Rattle.lanes.specs.Span.{Span, spanOf, nextSpan}
 use Rattle.spans.specs.Spans.{valueBy, RightAfter, RightUpTo, RightBy, spansFrom, InSpans, spansAfter, SpansRight, InParts, RightExactly}
 
 -- what a state shows does not depend on its time

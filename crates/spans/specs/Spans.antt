@@ -15,9 +15,8 @@ use Rattle.events.specs.Told.{answerBy, codesBy}
 use Rattle.input.specs.Recorded.{timeOf}
 use Rattle.lane.specs.Shown.{Rightness}
 use Rattle.lanes.specs.declared.View.{View}
-use Rattle.lanes.specs.declared.Span.{Span}
 use Rattle.lanes.specs.Value.{answerValue, codeValue, valueOf}
-use Rattle.lanes.specs.Span.{spanOf, nextSpan}
+use Rattle.lanes.specs.Span.{Span, spanOf, nextSpan}
 
 -- what has to be shown in a lane after what has happened: a port's code, or what is judged of the answer
 abbrev pub valueBy : View → Past → ℕ → ℕ

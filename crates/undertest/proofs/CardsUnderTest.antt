@@ -16,7 +16,7 @@ use Rattle.unit.specs.Unit.{Addressed, UnitSequence, Telling, Output, ownEvents
 use Rattle.unit.specs.Sequence.{unitAfter, halfAfter, tellingOf, tellings, stationOutput, outputs}
 use Rattle.unit.specs.Kept.{isSquelched, sourceOf}
 use Rattle.unit.proofs.Halves.{half-after, minimum-after}
-use Rattle.quickstep.specs.declared.Watch.{Watch}
+use Rattle.quickstep.specs.Watch.{Watch}
 use Rattle.card.specs.Calls.{lentAfter, latestNumber}
 use Rattle.card.proofs.Calls.{lent-right}
 use Rattle.unitcard.specs.Lent.{LentUnit, watchIn, sentBy}

@@ -27,9 +27,8 @@ use Rattle.selector.specs.State.{decided}
 use Rattle.selector.specs.Answer.{answerOf, outgoingCodes, outgoingWords}
 use Rattle.due.specs.Served.{ticked}
 use Rattle.due.proofs.Calm.{Calm}
-use Rattle.events.specs.declared.Stepped.{Stepped}
 use Rattle.events.specs.Refusals.{earlyRefusal}
-use Rattle.events.specs.Step.{kindAt, recordedEvent, eventTaken, atItsMoment, earlyNumber, lateNumber, stepRead, step}
+use Rattle.events.specs.Step.{Stepped, kindAt, recordedEvent, eventTaken, atItsMoment, earlyNumber, lateNumber, stepRead, step}
 use Rattle.events.specs.Sequence.{Given, Sequence, stateAfter, numberAfter}
 use Rattle.events.specs.Past.{pastOf, recorded}
 use Rattle.events.proofs.EventLaws.{lateRefusal-other}

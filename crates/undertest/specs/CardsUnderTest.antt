@@ -2,7 +2,7 @@
 -- stated after any two sequences, so it holds after every event. Assumes nothing.
 use mathlib.Core.Path.{_≡_}
 use Rattle.selector.specs.Answer.{outgoingCodes, outgoingWords}
-use Rattle.quickstep.specs.declared.Watch.{Watch}
+use Rattle.quickstep.specs.Watch.{Watch}
 use Rattle.unitcard.specs.Lent.{LentUnit}
 
 -- "all answer lines, both selectors' switches and all sixteen outgoing codes": the switch is in the answer, and the

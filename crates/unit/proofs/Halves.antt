@@ -10,9 +10,8 @@ use Rattle.numbers.specs.From.{started, _following_, profileOf}
 use Rattle.numbers.specs.Profile.{limitsOf}
 use Rattle.frame.specs.Read.{readCode}
 use Rattle.selector.specs.declared.Selector.{Selector}
-use Rattle.events.specs.declared.Stepped.{Stepped}
 use Rattle.events.specs.Given.{Given, Sequence, tickAt}
-use Rattle.events.specs.Step.{step}
+use Rattle.events.specs.Step.{Stepped, step}
 use Rattle.events.specs.Sequence.{stateAfter, numberAfter}
 use Rattle.events.specs.Past.{numberBy, pastOf}
 use Rattle.events.proofs.Happened.{happened}

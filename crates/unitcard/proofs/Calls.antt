@@ -42,7 +42,7 @@ use Rattle.unit.proofs.Halves.{half-after, half-number-own, minimum-after, half
 use Rattle.unit.proofs.Times.{one-time, refusals-leave}
 use Rattle.unit.proofs.Output.{squelched-by, source-by, output-right}
 use Rattle.unit.proofs.Runs.{independence}
-use Rattle.quickstep.specs.declared.Watch.{Watch}
+use Rattle.quickstep.specs.Watch.{Watch}
 use Rattle.card.specs.Lent.{namesOption, readFor}
 use Rattle.card.specs.Sound.{isSound}
 use Rattle.card.proofs.Range.{stepRead-readFor}

@@ -18,9 +18,8 @@ use Rattle.selector.specs.declared.Selector.{Selector}
 use Rattle.selector.specs.State.{freshSelector}
 use Rattle.selector.specs.Answer.{answerOf}
 use Rattle.due.specs.Next.{nextDue}
-use Rattle.events.specs.declared.Stepped.{Stepped}
-use Rattle.quickstep.specs.declared.Watch.{Watch}
-use Rattle.quickstep.specs.Watch.{watchOf}
+use Rattle.events.specs.Step.{Stepped}
+use Rattle.quickstep.specs.Watch.{Watch, watchOf}
 use Rattle.unit.specs.declared.Half.{Half}
 use Rattle.unit.specs.declared.Half.the-variants as H
 use Rattle.unit.specs.Unit.{unitStartNumber, goesTo}

@@ -13,9 +13,8 @@ use Rattle.numbers.specs.Profile.{profileIn}
 use Rattle.selector.specs.declared.Selector.{Selector}
 use Rattle.selector.specs.Answer.{answerOf}
 use Rattle.due.specs.Next.{nextDue}
-use Rattle.events.specs.declared.Stepped.{Stepped}
-use Rattle.quickstep.specs.declared.Watch.{Watch}
-use Rattle.quickstep.specs.Watch.{watchOf}
+use Rattle.events.specs.Step.{Stepped}
+use Rattle.quickstep.specs.Watch.{Watch, watchOf}
 use Rattle.onestep.specs.Watched.{watchAt}
 use Rattle.unit.specs.declared.Half.{Half}
 use Rattle.unit.specs.declared.Half.the-variants as H

@@ -1,30 +1,26 @@
 -- What the program carries from line to line: a law for each way through. Assumes nothing.
 use Prim.Native.Nat.{ℕ, _≤_, _<_}
-use mathlib.Core.Bool.{Bool, true, false, cond}
+use mathlib.Core.Bool.{Bool, true, false}
 use mathlib.Core.List.{List}
-use mathlib.Core.Path.{_≡_, refl, sym, _∙_, ap}
+use mathlib.Core.Path.{_≡_, _∙_, ap}
 use borrow.Author.Tests.{lt-ltb, le-ltb, le-leb, lt-leb, eq-eqb, ne-eqb}
 use lib.Dec.{eqb, leb, ltb}
 use lib.ListN.{getD}
 use Rattle.numbers.specs.declared.Answer.{Answer}
+use Rattle.numbers.specs.declared.Event.{Event}
 use Rattle.numbers.specs.Kind.{kindSending}
+use Rattle.frame.specs.declared.FrameRead.{FrameRead}
 use Rattle.eventlog.specs.declared.LineRead.{LineRead}
-use Rattle.quickstep.specs.declared.Left.{Left}
-use Rattle.quickstep.specs.declared.Left.the-variants as L
+use Rattle.eventlog.specs.declared.LineRead.the-variants.{Read, Malformed}
 use Rattle.selector.specs.declared.Selector.{Selector}
 use Rattle.selector.specs.Answer.{answerOf, outgoingCodes}
-use Rattle.logline.specs.declared.LogWatch.{LogWatch}
 use Rattle.logline.specs.Plain.{noOption}
-use Rattle.logline.specs.Watched.{openedLog, loggedOf}
 use Rattle.lane.specs.declared.Lane.{Lane}
 use Rattle.lane.specs.Lane.{capped}
 use Rattle.lanes.specs.declared.View.{View}
 use Rattle.lanes.specs.Value.{answerValue, codeValue}
-use Rattle.verdict.specs.declared.tell.Question.{Question}
 use Rattle.verdict.specs.declared.bench.Shows.{Shows}
-use Rattle.verdict.specs.declared.bench.Bench.{Bench}
-use Rattle.verdict.specs.Told.{lanesOf, placesOf, spansSince, spansToldAll}
-use Rattle.verdict.specs.Bench.{shownBy, rightAt, mayShow, isSound, closedAfter, isEarly, isQuiet, stateFound, benchOf, placesIn, eventTaken}
+use Rattle.verdict.specs.Bench.{shownBy, rightAt, mayShow, isSound, closedAfter, isEarly, setsSending, mayChangeBy, showsAfter, happenedAfter, isLate, isTold}
 
 pub shownBy-made : (view : View) (state : Selector) (codes : List ℕ) (answer : Answer) (value : ℕ)
     → codes ≡ outgoingCodes state
@@ -94,91 +90,67 @@ module _ (number : ℕ) where
   unfolding isEarly
   isEarly-some n = rw (ne-eqb number 0 n)
 
-module _ (kind : ℕ) where
-  pub isQuiet-sending : (left : Left) → kind ≡ kindSending → false ≡ isQuiet left kind
-  unfolding isQuiet
-  isQuiet-sending L.Nothing e = rw (eq-eqb kind kindSending e)
-  isQuiet-sending L.Choice e = refl
-  isQuiet-sending L.Service e = refl
+module _ (read : LineRead) where
+  pub setsSending-event : (event : Event) (frame : FrameRead) (byte : ℕ) → read ≡ Read event frame byte
+      → eqb (event .kind) kindSending ≡ setsSending read
+  unfolding setsSending
+  setsSending-event event frame byte is = rw is
 
-  pub isQuiet-nothing : (left : Left) → (kind ≡ kindSending → ⊥) → left ≡ L.Nothing → true ≡ isQuiet left kind
-  unfolding isQuiet
-  isQuiet-nothing left n e = rw (e, ne-eqb kind kindSending n)
+  pub setsSending-malformed : read ≡ Malformed → false ≡ setsSending read
+  unfolding setsSending
+  setsSending-malformed is = rw is
 
-  pub isQuiet-choice : (left : Left) → left ≡ L.Choice → false ≡ isQuiet left kind
-  unfolding isQuiet
-  isQuiet-choice left e = rw e
+  pub mayChange-first : (first anew : Bool) → first ≡ true → true ≡ mayChangeBy first anew read
+  unfolding mayChangeBy
+  mayChange-first first anew t = rw t
 
-  pub isQuiet-service : (left : Left) → left ≡ L.Service → false ≡ isQuiet left kind
-  unfolding isQuiet
-  isQuiet-service left e = rw e
+  pub mayChange-anew : (first anew : Bool) → first ≡ false → anew ≡ true → true ≡ mayChangeBy first anew read
+  unfolding mayChangeBy
+  mayChange-anew first anew f t = rw (f, t)
 
-pub stateFound-made : (log found : LogWatch) (read : LineRead) → found ≡ openedLog log read
-    → found .watch .state ≡ stateFound log read
-stateFound-made log found read e = ap (λ (one : LogWatch). one .watch .state) e
+  pub mayChange-sent : (first anew sets : Bool) → first ≡ false → anew ≡ false → sets ≡ setsSending read
+      → sets ≡ mayChangeBy first anew read
+  unfolding mayChangeBy
+  mayChange-sent first anew sets f g e = rw (f, g) e
 
-pub ruleset bench-laws = (shownBy-made, rightAt-code, rightAt-none, rightAt-answer, mayShow-later, mayShow-same, isSound-option, isSound-early, isSound-closed, isSound-open, closedAfter-on, closedAfter-same, isEarly-none, isEarly-some, isQuiet-sending, isQuiet-nothing, isQuiet-choice, isQuiet-service, stateFound-made)
+module _ (view : View) (changes : Bool) (before : Shows) (state : Selector) where
+  pub showsAfter-anew : (shows : Shows) → changes ≡ true → shows ≡ shownBy view state
+      → shows ≡ showsAfter view changes before state
+  unfolding showsAfter
+  showsAfter-anew shows t e = rw t e
 
--- ---- an event
+  pub showsAfter-same : changes ≡ false → before ≡ showsAfter view changes before state
+  unfolding showsAfter
+  showsAfter-same f = rw f
 
-module _ (question : Question) (bench : Bench) (read : LineRead) (room : List ℕ) (after : LogWatch) (shows : Shows)
-    (a : after ≡ loggedOf (bench .log) read) (s : shows ≡ shownBy (question .view) (after .watch .state)) (early : Bool)
-    (e : early ≡ isEarly (after .watch .answer .number)) where
-  abbrev left : Bool → Bench
-  left trouble =
-      record {
-        log = after;
-        lanes = bench .lanes;
-        since = bench .since;
-        shows = shows;
-        happened = bench .happened;
-        closed = bench .closed;
-        line = bench .line;
-        trouble = trouble;
-      }
+module _ (number : ℕ) (early : Bool) (e : early ≡ isEarly number) where
+  pub happened-early : (happened : Bool) → early ≡ true → happened ≡ happenedAfter happened number
+  unfolding happenedAfter
+  happened-early happened t = rw (← e, t)
 
-  pub event-early : early ≡ true → left false ≡ benchOf (eventTaken question bench read room)
-  unfolding eventTaken
-  event-early t = rw (← a, ← e, t, s)
+  pub happened-now : (happened : Bool) → early ≡ false → true ≡ happenedAfter happened number
+  unfolding happenedAfter
+  happened-now happened f = rw (← e, f)
 
-  pub event-early-room : early ≡ true → room ≡ placesIn (eventTaken question bench read room)
-  unfolding eventTaken
-  event-early-room t = rw (← a, ← e, t)
+  pub late-early : (time closed : ℕ) → early ≡ true → false ≡ isLate number time closed
+  unfolding isLate
+  late-early time closed t = rw (← e, t)
 
-  module _ (f : early ≡ false) where
-    pub event-trouble : after .watch .state .time < bench .closed
-        → left true ≡ benchOf (eventTaken question bench read room)
-    unfolding eventTaken
-    event-trouble h = rw (← a, ← e, f, lt-ltb (after .watch .state .time) (bench .closed) h, s)
+  pub late-time : (time closed : ℕ) → early ≡ false → ltb time closed ≡ isLate number time closed
+  unfolding isLate
+  late-time time closed f = rw (← e, f)
 
-    pub event-trouble-room : after .watch .state .time < bench .closed
-        → room ≡ placesIn (eventTaken question bench read room)
-    unfolding eventTaken
-    event-trouble-room h = rw (← a, ← e, f, lt-ltb (after .watch .state .time) (bench .closed) h)
+  module _ (changes late : Bool) where
+    pub told-early : early ≡ true → false ≡ isTold changes number late
+    unfolding isTold
+    told-early t = rw (← e, t)
 
-    module _ (h : bench .closed ≤ after .watch .state .time) (before : Selector)
-        (b : before ≡ stateFound (bench .log) read) where
-      pub event-told : (lanes : List Lane)
-          → lanes ≡ lanesOf
-          (spansToldAll question (spansSince before (bench .since) (after .watch .state .time)) (bench .lanes) room)
-          → record {
-            log = after;
-            lanes = lanes;
-            since = after .watch .state .time;
-            shows = shows;
-            happened = true;
-            closed = bench .closed;
-            line = bench .line;
-            trouble = false;
-          } ≡ benchOf (eventTaken question bench read room)
-      unfolding eventTaken
-      event-told lanes l = rw (← a, ← e, f, le-ltb (after .watch .state .time) (bench .closed) h, s, l, b)
+    pub told-late : early ≡ false → late ≡ true → false ≡ isTold changes number late
+    unfolding isTold
+    told-late f t = rw (← e, f, t)
 
-      pub event-told-room : (kept : List ℕ)
-          → kept ≡ placesOf
-          (spansToldAll question (spansSince before (bench .since) (after .watch .state .time)) (bench .lanes) room)
-          → kept ≡ placesIn (eventTaken question bench read room)
-      unfolding eventTaken
-      event-told-room kept k = rw (← a, ← e, f, le-ltb (after .watch .state .time) (bench .closed) h) (k ∙ rw b)
+    pub told-changed : early ≡ false → late ≡ false → changes ≡ isTold changes number late
+    unfolding isTold
+    told-changed f g = rw (← e, f, g)
 
-pub ruleset event-laws = (event-early, event-early-room, event-trouble, event-trouble-room, event-told, event-told-room)
+pub ruleset bench-laws = (shownBy-made, rightAt-code, rightAt-none, rightAt-answer, mayShow-later, mayShow-same, isSound-option, isSound-early, isSound-closed, isSound-open, closedAfter-on, closedAfter-same, isEarly-none, isEarly-some, setsSending-event, setsSending-malformed, mayChange-first, mayChange-anew, mayChange-sent, showsAfter-anew, showsAfter-same, happened-early, happened-now, late-early, late-time, told-early, told-late, told-changed)

@@ -9,11 +9,10 @@ use Rattle.selector.specs.declared.Selector.{Selector}
 use Rattle.due.specs.Next.{nextDue}
 use Rattle.lane.specs.declared.Lane.{Lane}
 use Rattle.lanes.specs.declared.View.{View}
-use Rattle.lanes.specs.declared.Span.{Span}
 use Rattle.lanes.specs.Value.{valueOf}
-use Rattle.lanes.specs.Span.{nextSpan}
+use Rattle.lanes.specs.Span.{Span, nextSpan}
 use Rattle.verdict.specs.declared.tell.Question.{Question}
-use Rattle.verdict.specs.Told.{pushed, sinceSpan, spansSince, overSpans, laneTold, spansTold}
+use Rattle.verdict.specs.Told.{pushed, sinceSpan, spansSince, overSpans, spansTold}
 use Rattle.verdict.specs.Bench.{shownBy, rightAt, QuickRight}
 use Rattle.verdict.proofs.ToldLaws.{spansLeft, left-step, left-all}
 

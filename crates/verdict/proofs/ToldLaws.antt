@@ -14,12 +14,11 @@ use Rattle.lane.specs.declared.Tolerance.{Tolerance}
 use Rattle.lane.specs.declared.Lane.{Lane}
 use Rattle.lane.specs.declared.Judged.{Judged}
 use Rattle.lane.specs.Lane.{capped, freshLane, shownNext, rightNext}
-use Rattle.lanes.specs.declared.Span.{Span}
 use Rattle.lanes.specs.Value.{indexCount, valueIndex, valueOf, Indexed}
-use Rattle.lanes.specs.Span.{spanOf, nextSpan}
+use Rattle.lanes.specs.Span.{Span, spanOf, stateBehind, nextSpan}
 use Rattle.spans.specs.Spans.{spansFrom}
 use Rattle.verdict.specs.declared.tell.Question.{Question}
-use Rattle.verdict.specs.Told.{Told, AllTold, laneOf, roomOf, lastAt, placedAt, newFrom, pushed, shownIn, sinceSpan, spansSince, overSpans, laneTold, spansTold, knownTo, withShown, shownTold, lanesOf, placesOf, portsTold, answerTold, allTold, spanTold, spansToldAll}
+use Rattle.verdict.specs.Told.{Told, AllTold, laneOf, roomOf, lastAt, placedAt, newFrom, pushed, shownIn, spanFrom, sinceSpan, spansSince, overSpans, laneTold, spansTold, knownTo, withShown, shownTold, lanesOf, placesOf, portsTold, answerTold, allTold, spanTold, spansToldAll}
 
 module _ (room : List ℕ) (index : ℕ) where
   pub lastAt-index : index < indexCount → getD room index 0 ≡ lastAt room index
@@ -83,11 +82,6 @@ unfolding shownIn
 shownIn-made question number lane room time value index last judged p l j =
     rw (← (p .value), ← l) (ap (λ (one : Judged). one .lane) j)
 
-pub sinceSpan-made : (state : Selector) (since until : ℕ) (span : Span) → span ≡ spanOf state until
-    → record { state = state; from = since; to = span .to } ≡ sinceSpan state since until
-sinceSpan-made state since until span e =
-    ap (λ (one : Span). record { state = state; from = since; to = one .to }) e
-
 -- ---- spans, one after another
 
 -- the spans that are left, at most so many
@@ -107,32 +101,27 @@ pub left-all : (state : Selector) (since until : ℕ)
 unfolding spansLeft spansSince
 left-all state since until = refl
 
-module _ {S : Type 0} (tell : Span → S → S) (until : ℕ) (state : Selector) (since : ℕ) (first : Span)
-    (is : first ≡ sinceSpan state since until) (before : S) where
-  -- all of them, from the first on
-  abbrev pub overAll : S
-  overAll = overSpans tell (spansLeft 49 first until) before
+-- the span that begins behind one, by its parts
+pub next-made : (state after : Selector) (from to until end began : ℕ) → after ≡ stateBehind state to
+    → end ≡ spanOf after until .to
+    → began ≡ after .time
+    → spanFrom after began end ≡ nextSpan (spanFrom state from to) until
+next-made state after from to until end began a e b =
+    (λ j. spanFrom after (b j) (e j)) ∙ ap (λ (one : Selector). spanOf one until) a
 
-  abbrev pub whole : S
-  whole = overSpans tell (spansSince state since until) before
-
-  all-whole : overAll ≡ whole
-  all-whole =
-      ap (λ (spans : List Span). overSpans tell spans before)
-      (ap (λ (span : Span). spansLeft 49 span until) is ∙ left-all state since until)
-
+module _ {S : Type 0} (tell : Span → S → S) (until : ℕ) (whole : S) where
   -- what is left of the spans leads to what all of them lead to
   module _ (left : ℕ) (span : Span) (told : S)
-      (going : overSpans tell (spansLeft left span until) told ≡ overAll) where
+      (going : overSpans tell (spansLeft left span until) told ≡ whole) where
     over-none : left ≤ 0 → told ≡ whole
     unfolding overSpans spansLeft
     over-none h =
         let none : left ≡ 0 = omega arith in
-        sym (ap (λ (n : ℕ). overSpans tell (spansLeft n span until) told) none) ∙ going ∙ all-whole
+        sym (ap (λ (n : ℕ). overSpans tell (spansLeft n span until) told) none) ∙ going
 
     module _ (some : 0 < left) where
       over-one : overSpans tell (cond (leb until (span .to)) [] (spansLeft (left - 1) (nextSpan span until) until))
-          (tell span told) ≡ overAll
+          (tell span told) ≡ whole
       unfolding overSpans
       over-one =
           let more : left ≡ suc (left - 1) = omega arith in
@@ -142,31 +131,42 @@ module _ {S : Type 0} (tell : Span → S → S) (until : ℕ) (state : Selector)
 
       over-last : until ≤ span .to → tell span told ≡ whole
       unfolding overSpans
-      over-last h = (rw (le-leb until (span .to) h) at over-one) ∙ all-whole
+      over-last h = rw (le-leb until (span .to) h) at over-one
 
       over-next : (next : Span) (after : S) → next ≡ nextSpan span until → after ≡ tell span told → span .to < until
-          → overSpans tell (spansLeft (left - 1) next until) after ≡ overAll
+          → overSpans tell (spansLeft (left - 1) next until) after ≡ whole
       over-next next after n a h =
           (λ j. overSpans tell (spansLeft (left - 1) (n j) until) (a j)) ∙
           (rw (lt-leb until (span .to) h) at over-one)
 
+  -- and so does all of them, from the first on
+  over-start : (state : Selector) (since to : ℕ) (told : S) → to ≡ spanOf state until .to
+      → overSpans tell (spansSince state since until) told ≡ whole
+      → overSpans tell (spansLeft 49 (spanFrom state since to) until) told ≡ whole
+  over-start state since to told t is =
+      ap (λ (spans : List Span). overSpans tell spans told)
+      (ap (λ (n : ℕ). spansLeft 49 (spanFrom state since n) until) t ∙ left-all state since until)
+      ∙ is
+
 -- of one lane
-abbrev pub Going : Question → ℕ → ℕ → Span → Lane → List ℕ → ℕ → Span → Lane → List ℕ → Type 0
-Going question number until first before places left span lane room =
-    spansTold question number (spansLeft left span until) lane room ≡
-    spansTold question number (spansLeft 49 first until) before places
+abbrev pub Going : Question → ℕ → ℕ → Told → ℕ → Span → Lane → List ℕ → Type 0
+Going question number until whole left span lane room =
+    spansTold question number (spansLeft left span until) lane room ≡ whole
 
-module _ (question : Question) (number until : ℕ) (state : Selector) (since : ℕ) (first : Span)
-    (is : first ≡ sinceSpan state since until) (before : Lane) (places : List ℕ) (left : ℕ) (span : Span) (lane : Lane)
-    (room : List ℕ) (going : Going question number until first before places left span lane room) where
-  abbrev pub wholeOne : Told
-  wholeOne = spansTold question number (spansSince state since until) before places
+pub going-start : (question : Question) (number until : ℕ) (state : Selector) (since to : ℕ) (lane : Lane) (room : List ℕ)
+    → to ≡ spanOf state until .to
+    → Going question number until (spansTold question number (spansSince state since until) lane room) 49
+    (spanFrom state since to) lane room
+going-start question number until state since to lane room t =
+    over-start (laneTold question number) until _ state since to _ t refl
 
-  pub going-lane : left ≤ 0 → lane ≡ laneOf wholeOne
-  going-lane h = ap laneOf (over-none (laneTold question number) until state since first is _ left span _ going h)
+module _ (question : Question) (number until : ℕ) (whole : Told) (left : ℕ) (span : Span) (lane : Lane) (room : List ℕ)
+    (going : Going question number until whole left span lane room) where
+  pub going-lane : left ≤ 0 → lane ≡ laneOf whole
+  going-lane h = ap laneOf (over-none (laneTold question number) until whole left span _ going h)
 
-  pub going-room : left ≤ 0 → room ≡ roomOf wholeOne
-  going-room h = ap roomOf (over-none (laneTold question number) until state since first is _ left span _ going h)
+  pub going-room : left ≤ 0 → room ≡ roomOf whole
+  going-room h = ap roomOf (over-none (laneTold question number) until whole left span _ going h)
 
   module _ (value : ℕ) (shows : value ≡ valueOf (question .view) (span .state) number) (some : 0 < left)
       (after : Lane) (kept : List ℕ)
@@ -178,38 +178,38 @@ module _ (question : Question) (number until : ℕ) (state : Selector) (since : 
         (λ j. record { lane = a j; room = k j }) ∙
         ap (λ (n : ℕ). pushed question number lane room (span .from) (span .to) n) shows
 
-    pub going-end-lane : until ≤ span .to → after ≡ laneOf wholeOne
+    pub going-end-lane : until ≤ span .to → after ≡ laneOf whole
     going-end-lane h =
-        ap laneOf (told-one ∙
-        over-last (laneTold question number) until state since first is _ left span _ going some h)
+        ap laneOf (told-one ∙ over-last (laneTold question number) until whole left span _ going some h)
 
-    pub going-end-room : until ≤ span .to → kept ≡ roomOf wholeOne
+    pub going-end-room : until ≤ span .to → kept ≡ roomOf whole
     going-end-room h =
-        ap roomOf (told-one ∙
-        over-last (laneTold question number) until state since first is _ left span _ going some h)
+        ap roomOf (told-one ∙ over-last (laneTold question number) until whole left span _ going some h)
 
     pub going-on : (next : Span) → next ≡ nextSpan span until → span .to < until
-        → Going question number until first before places (left - 1) next after kept
-    going-on next n h =
-        over-next (laneTold question number) until state since first is _ left span _ going some next _ n told-one h
+        → Going question number until whole (left - 1) next after kept
+    going-on next n h = over-next (laneTold question number) until whole left span _ going some next _ n told-one h
 
 -- of all lanes
-abbrev pub GoingAll : Question → ℕ → Span → List Lane → List ℕ → ℕ → Span → List Lane → List ℕ → Type 0
-GoingAll question until first before places left span lanes room =
-    spansToldAll question (spansLeft left span until) lanes room ≡
-    spansToldAll question (spansLeft 49 first until) before places
+abbrev pub GoingAll : Question → ℕ → AllTold → ℕ → Span → List Lane → List ℕ → Type 0
+GoingAll question until whole left span lanes room =
+    spansToldAll question (spansLeft left span until) lanes room ≡ whole
 
-module _ (question : Question) (until : ℕ) (state : Selector) (since : ℕ) (first : Span)
-    (is : first ≡ sinceSpan state since until) (before : List Lane) (places : List ℕ) (left : ℕ) (span : Span)
-    (lanes : List Lane) (room : List ℕ) (going : GoingAll question until first before places left span lanes room) where
-  abbrev pub wholeAll : AllTold
-  wholeAll = spansToldAll question (spansSince state since until) before places
+pub going-start-all : (question : Question) (until : ℕ) (state : Selector) (since to : ℕ) (lanes : List Lane)
+    (room : List ℕ)
+    → to ≡ spanOf state until .to
+    → GoingAll question until (spansToldAll question (spansSince state since until) lanes room) 49
+    (spanFrom state since to) lanes room
+going-start-all question until state since to lanes room t =
+    over-start (allTold question) until _ state since to _ t refl
 
-  pub going-lanes : left ≤ 0 → lanes ≡ lanesOf wholeAll
-  going-lanes h = ap lanesOf (over-none (allTold question) until state since first is _ left span _ going h)
+module _ (question : Question) (until : ℕ) (whole : AllTold) (left : ℕ) (span : Span) (lanes : List Lane) (room : List ℕ)
+    (going : GoingAll question until whole left span lanes room) where
+  pub going-lanes : left ≤ 0 → lanes ≡ lanesOf whole
+  going-lanes h = ap lanesOf (over-none (allTold question) until whole left span _ going h)
 
-  pub going-places : left ≤ 0 → room ≡ placesOf wholeAll
-  going-places h = ap placesOf (over-none (allTold question) until state since first is _ left span _ going h)
+  pub going-places : left ≤ 0 → room ≡ placesOf whole
+  going-places h = ap placesOf (over-none (allTold question) until whole left span _ going h)
 
   module _ (some : 0 < left) (after : List Lane) (kept : List ℕ)
       (a : after ≡ lanesOf (spanTold question span lanes room))
@@ -217,18 +217,15 @@ module _ (question : Question) (until : ℕ) (state : Selector) (since : ℕ) (f
     told-all : record { lanes = after; room = kept } ≡ spanTold question span lanes room
     told-all = λ j. record { lanes = a j; room = k j }
 
-    pub going-end-lanes : until ≤ span .to → after ≡ lanesOf wholeAll
-    going-end-lanes h =
-        ap lanesOf (told-all ∙ over-last (allTold question) until state since first is _ left span _ going some h)
+    pub going-end-lanes : until ≤ span .to → after ≡ lanesOf whole
+    going-end-lanes h = ap lanesOf (told-all ∙ over-last (allTold question) until whole left span _ going some h)
 
-    pub going-end-places : until ≤ span .to → kept ≡ placesOf wholeAll
-    going-end-places h =
-        ap placesOf (told-all ∙ over-last (allTold question) until state since first is _ left span _ going some h)
+    pub going-end-places : until ≤ span .to → kept ≡ placesOf whole
+    going-end-places h = ap placesOf (told-all ∙ over-last (allTold question) until whole left span _ going some h)
 
     pub going-on-all : (next : Span) → next ≡ nextSpan span until → span .to < until
-        → GoingAll question until first before places (left - 1) next after kept
-    going-on-all next n h =
-        over-next (allTold question) until state since first is _ left span _ going some next _ n told-all h
+        → GoingAll question until whole (left - 1) next after kept
+    going-on-all next n h = over-next (allTold question) until whole left span _ going some next _ n told-all h
 
 -- ---- a value is shown
 
@@ -359,7 +356,7 @@ module _ (question : Question) (span : Span) (lanes : List Lane) (room : List �
     pub answer-room : (kept : List ℕ) → kept ≡ roomOf first → kept ≡ placesOf (spanTold question span lanes room)
     answer-room kept k = k ∙ ap placesOf by-answer
 
-pub ruleset told-laws = (lastAt-index, lastAt-none, newFrom-first, newFrom-later, pushed-old-lane, pushed-old-room, pushed-lane, pushed-room, pushed-room-none, shownIn-made, sinceSpan-made)
+pub ruleset told-laws = (lastAt-index, lastAt-none, newFrom-first, newFrom-later, pushed-old-lane, pushed-old-room, pushed-lane, pushed-room, pushed-room-none, shownIn-made)
 
 pub ruleset shown-told-laws = (quick-lane, quick-room, slow-lane, slow-room)
 

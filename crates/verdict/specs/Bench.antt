@@ -6,22 +6,47 @@ use mathlib.Core.Path.{_≡_}
 use lib.Dec.{eqb, leb, ltb}
 use Rattle.numbers.specs.Kind.{kindSending}
 use Rattle.eventlog.specs.declared.LineRead.{LineRead}
-use Rattle.quickstep.specs.declared.Left.{Left}
-use Rattle.quickstep.specs.declared.Left.the-variants as L
+use Rattle.eventlog.specs.declared.LineRead.the-variants.{Read, Malformed}
 use Rattle.selector.specs.declared.Selector.{Selector}
 use Rattle.selector.specs.Answer.{answerOf, outgoingCodes}
 use Rattle.due.specs.Next.{nextDue}
-use Rattle.logline.specs.declared.LogWatch.{LogWatch}
-use Rattle.logline.specs.Plain.{noOption}
-use Rattle.logline.specs.Watched.{openedLog, loggedOf}
+use Rattle.logline.specs.Plain.{noOption, meantRead}
+use Rattle.logline.specs.Watched.{LogWatch, watchFor, loggedOf, isMadeAnew, logIn}
 use Rattle.lane.specs.declared.Lane.{Lane}
 use Rattle.lane.specs.Lane.{capped}
 use Rattle.lanes.specs.declared.View.{View}
 use Rattle.lanes.specs.Value.{answerValue, codeValue}
 use Rattle.verdict.specs.declared.tell.Question.{Question}
 use Rattle.verdict.specs.declared.bench.Shows.{Shows}
-use Rattle.verdict.specs.declared.bench.Bench.{Bench}
+use Rattle.verdict.specs.declared.bench.BenchHeld.{BenchHeld}
 use Rattle.verdict.specs.Told.{AllTold, pushed, spansSince, spansTold, spansToldAll}
+
+-- what is carried from line to line: the log; the lanes; from when on they have not been told what is right, and what
+-- the state has shown since then; whether an event has come that leaves its time; the millisecond behind which events
+-- have to come, 0 where nothing was shown; how many lines have come; and whether one of them is trouble
+pub record Bench : Type 0 where
+  pub log : LogWatch
+  pub lanes : List Lane
+  pub since : ℕ
+  pub shows : Shows
+  pub happened : Bool
+  pub closed : ℕ
+  pub line : ℕ
+  pub trouble : Bool
+
+-- the same, with the log in five arrays
+abbrev pub benchIn : BenchHeld → Bench
+benchIn held =
+    record {
+      log = logIn (held .log);
+      lanes = held .lanes;
+      since = held .since;
+      shows = held .shows;
+      happened = held .happened;
+      closed = held .closed;
+      line = held .line;
+      trouble = held .trouble;
+    }
 
 -- what a state shows: the codes of its ports, and what is judged of its answer
 abbrev pub shownBy : View → Selector → Shows
@@ -49,15 +74,41 @@ closedAfter closed border = cond (leb closed border) (capped border 1) closed
 unfoldable pub isEarly : ℕ → Bool
 isEarly number = not (eqb number 0) && leb number 13
 
--- once its own input has taken an event, nothing is left to do that shows
-unfoldable pub isQuiet : Left → ℕ → Bool
-isQuiet L.Nothing kind = not (eqb kind kindSending)
-isQuiet L.Choice kind = false
-isQuiet L.Service kind = false
+-- a line says an event that sets what a port sends
+unfoldable pub setsSending : LineRead → Bool
+setsSending (Read event frame byte) = eqb (event .kind) kindSending
+setsSending Malformed = false
 
--- the state that a line finds
+-- a line, as the log means it, may change what shows: it is the first that says an option, its answer is made anew, or
+-- it sets what a port sends
+unfoldable pub mayChangeBy : Bool → Bool → LineRead → Bool
+mayChangeBy first anew line = first || anew || setsSending line
+
+-- a line of a log may change what shows
+abbrev pub mayChange : LogWatch → LineRead → Bool
+mayChange log read =
+    let line = meantRead (log .option) read in
+    mayChangeBy (eqb (log .option) noOption) (isMadeAnew (watchFor log line) line) line
+
+-- what is shown after an event line: what was shown before, where that may not have changed
+unfoldable pub showsAfter : View → Bool → Shows → Selector → Shows
+showsAfter view changes shows state = cond changes (shownBy view state) shows
+
+-- an event has come that leaves its time: one that is not refused at once
+unfoldable pub happenedAfter : Bool → ℕ → Bool
+happenedAfter happened number = cond (isEarly number) happened true
+
+-- such an event is trouble where it comes before what was shown and EARLY behind that
+unfoldable pub isLate : ℕ → ℕ → ℕ → Bool
+isLate number time closed = not (isEarly number) && ltb time closed
+
+-- the lanes are told what was right up to an event that may change what shows, is not refused at once, and is no trouble
+unfoldable pub isTold : Bool → ℕ → Bool → Bool
+isTold changes number late = not (isEarly number) && not late && changes
+
+-- the state that a line finds: of the profile that it says where none was said before
 abbrev pub stateFound : LogWatch → LineRead → Selector
-stateFound log read = openedLog log read .watch .state
+stateFound log read = watchFor log (meantRead (log .option) read) .state
 
 -- what is carried, and when each value of each lane was right last
 pub record Taken : Type 0 where
@@ -70,34 +121,6 @@ benchOf taken = taken .bench
 abbrev pub placesIn : Taken → List ℕ
 placesIn taken = taken .room
 
--- what is carried after an event that leaves the lanes
-abbrev pub benchLeft : Question → Bench → LogWatch → Bool → Bench
-benchLeft question bench after trouble =
-    record {
-      log = after;
-      lanes = bench .lanes;
-      since = bench .since;
-      shows = shownBy (question .view) (after .watch .state);
-      happened = bench .happened;
-      closed = bench .closed;
-      line = bench .line;
-      trouble = trouble;
-    }
-
--- after one up to whose time the lanes are told what was right
-abbrev pub benchTold : Question → Bench → LogWatch → List Lane → Bench
-benchTold question bench after lanes =
-    record {
-      log = after;
-      lanes = lanes;
-      since = after .watch .state .time;
-      shows = shownBy (question .view) (after .watch .state);
-      happened = true;
-      closed = bench .closed;
-      line = bench .line;
-      trouble = false;
-    }
-
 -- what the lanes are told of the spans up to a log's time
 abbrev pub toldUpTo : Question → Bench → LineRead → LogWatch → List ℕ → AllTold
 toldUpTo question bench read after room =
@@ -105,20 +128,32 @@ toldUpTo question bench read after room =
     (bench .lanes)
     room
 
--- what an event line does: refused and the state left, it changes what is shown only where it is the first that says
--- the option; one that comes before what was shown and EARLY behind it is trouble; otherwise the lanes are told what
--- was right up to it
+-- what is carried after an event line that left a log, with the lanes and since when they have not been told
+abbrev pub benchStepped : Question → Bench → LineRead → LogWatch → List Lane → ℕ → Bench
+benchStepped question bench read after lanes since =
+    let number = after .watch .answer .number in
+    let state = after .watch .state in
+    record {
+      log = after;
+      lanes = lanes;
+      since = since;
+      shows = showsAfter (question .view) (mayChange (bench .log) read) (bench .shows) state;
+      happened = happenedAfter (bench .happened) number;
+      closed = bench .closed;
+      line = bench .line;
+      trouble = isLate number (state .time) (bench .closed);
+    }
+
+-- what an event line does: the lanes are told what was right up to it, where that may change
 unfoldable pub eventTaken : Question → Bench → LineRead → List ℕ → Taken
 eventTaken question bench read room =
     let after = loggedOf (bench .log) read in
-    cond (isEarly (after .watch .answer .number))
-    (record { bench = benchLeft question bench after false; room = room })
-    (cond (ltb (after .watch .state .time) (bench .closed))
-    (record { bench = benchLeft question bench after true; room = room })
-    (record {
-      bench = benchTold question bench after (toldUpTo question bench read after room .lanes);
-      room = toldUpTo question bench read after room .room;
-    }))
+    let number = after .watch .answer .number in
+    let time = after .watch .state .time in
+    let told = toldUpTo question bench read after room in
+    cond (isTold (mayChange (bench .log) read) number (isLate number time (bench .closed)))
+    (record { bench = benchStepped question bench read after (told .lanes) time; room = told .room })
+    (record { bench = benchStepped question bench read after (bench .lanes) (bench .since); room = room })
 
 -- a shown line while nothing is due: one thing is told, what the state has shown since, in the place of all spans
 pub record QuickRight

@@ -1,38 +1,31 @@
--- An event whose own input takes it with nothing left to do that shows: the state is what the plain step makes of it,
--- and what is shown stays as it was. Assumes nothing.
+-- An event whose answer is not made anew, and that doesn't set what a port sends: what is shown stays as it was. Assumes
+-- nothing.
 use Prim.Native.Nat.{ℕ, _≤_}
+use mathlib.Core.Bool.{false}
 use mathlib.Core.Path.{_≡_}
-use lib.ListN.{set}
+use lib.Dec.{eqb}
 use Rattle.numbers.specs.From.{_following_}
+use Rattle.numbers.specs.Kind.{kindSending}
 use Rattle.frame.specs.Read.{readCode}
-use Rattle.selector.specs.declared.Selector.{Selector}
+use Rattle.selector.specs.Answer.{answerOf}
 use Rattle.due.specs.Next.{nextDue}
 use Rattle.events.specs.Given.{Given, Sequence}
-use Rattle.events.specs.Sequence.{stateAfter, numberAfter}
-use Rattle.quickstep.specs.declared.Own.{Own}
-use Rattle.quickstep.specs.Watch.{movedTo}
+use Rattle.events.specs.Sequence.{stateAfter}
+use Rattle.quickstep.specs.Watch.{Watch, watchOf, isAnew}
 use Rattle.lanes.specs.declared.View.{View}
-use Rattle.verdict.specs.declared.lines.Way.the-variants as W
 use Rattle.verdict.specs.Bench.{shownBy}
-use Rattle.verdict.specs.Lines.{wayIn}
 
--- a state with what an event makes of its own input put into it, as `benchQuiet` has it
-abbrev pub quietState : Selector → ℕ → Own → Selector
-quietState state index own = movedTo state (set (state .inputs) index (own .input)) (own .time)
+-- a watch after any events, with a time before which nothing is due
+abbrev pub watchAfter : Sequence → ℕ → Watch
+watchAfter events due = watchOf (stateAfter events) due (answerOf 0 (stateAfter events)) 0
 
--- after any events, with a time before which nothing is due
-pub record QuietRight (view : View) (events : Sequence) (given : Given) (index : ℕ) (own : Own) : Type 0 where
-  -- the state is that after the event
-  pub state : quietState (stateAfter events) index own ≡ stateAfter (given following events)
-  -- nothing is due before the time that is kept for that
-  pub due : own .due ≤ nextDue (stateAfter (given following events))
-  -- its number is the event's
-  pub number : own .number ≡ numberAfter given events
-  -- and what is shown in every lane is what was shown before
-  pub shows : shownBy view (stateAfter (given following events)) ≡ shownBy view (stateAfter events)
-
--- an event is taken so
-abbrev pub TakenQuietly : Sequence → ℕ → Given → ℕ → Own → Type 0
-TakenQuietly events due given index own =
+-- an event changes nothing that shows: its answer is not made anew, and it sets not what a port sends
+abbrev pub TakenQuietly : Sequence → ℕ → Given → Type 0
+TakenQuietly events due given =
     (due ≤ nextDue (stateAfter events)) ×
-    (wayIn (stateAfter events) due (given .event) (readCode (given .frame)) ≡ W.Quiet index own)
+    (isAnew (watchAfter events due) (given .event) (readCode (given .frame)) ≡ false) ×
+    (eqb (given .event .kind) kindSending ≡ false)
+
+-- what is shown in every lane after it is what was shown before
+abbrev pub QuietRight : View → Sequence → Given → Type 0
+QuietRight view events given = shownBy view (stateAfter (given following events)) ≡ shownBy view (stateAfter events)

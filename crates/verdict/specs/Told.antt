@@ -11,9 +11,8 @@ use Rattle.lane.specs.declared.Tolerance.{Tolerance}
 use Rattle.lane.specs.declared.Lane.{Lane}
 use Rattle.lane.specs.declared.Judged.{Judged}
 use Rattle.lane.specs.Lane.{capped, freshLane, shownNext, rightNext}
-use Rattle.lanes.specs.declared.Span.{Span}
 use Rattle.lanes.specs.Value.{indexCount, valueIndex, valueOf}
-use Rattle.lanes.specs.Span.{spanOf}
+use Rattle.lanes.specs.Span.{Span, spanOf}
 use Rattle.spans.specs.Spans.{spansFrom}
 use Rattle.verdict.specs.declared.tell.Question.{Question}
 
@@ -55,10 +54,13 @@ unfoldable pub shownIn : Question → ℕ → Lane → List ℕ → ℕ → ℕ 
 shownIn question number lane room time value =
     shownNext (question .tolerance) lane (lastAt room (valueIndex (question .view) number value)) time value
 
+-- a span of a state
+abbrev pub spanFrom : Selector → ℕ → ℕ → Span
+spanFrom state from to = record { state = state; from = from; to = to }
+
 -- the first span of a state that has shown the same since a time
 abbrev pub sinceSpan : Selector → ℕ → ℕ → Span
-sinceSpan state since until =
-    record { state = state; from = since; to = spanOf state until .to }
+sinceSpan state since until = spanFrom state since (spanOf state until .to)
 
 -- the spans of a state that has shown the same since a time, up to a millisecond, with the most due moments that there
 -- can be

@@ -1,21 +1,20 @@
 // What is carried from line to line, and what an event does to it.
-use crate::tell::Question;
-use crate::tell::advance_all;
 use crate::tell::capped;
 use eventlog::LineRead;
+use inplace::SMALL;
+use inplace::TIMES;
+use inplace::WIDER;
+use inplace::answer_at;
+use inplace::codes_at;
 use lane::Lane;
-use lanes::ROOM;
 use lanes::View;
 use lanes::answer_value;
-use logline::LogWatch;
 use logline::NO_OPTION;
-use logline::opened;
-use logline::step_of;
+use logline::held::LogHeld;
 use numbers::kind::KIND_SENDING;
-use quickstep::Left;
-use selector::Selector;
 ghost use mathlib.Core.Path.{_≡_};
-ghost use Rattle.verdict.specs.Bench.{shownBy, rightAt, mayShow, isSound, closedAfter, isEarly, isQuiet, stateFound, benchOf, placesIn, eventTaken};
+ghost use Rattle.inplace.specs.Lists.{selectorAt};
+ghost use Rattle.verdict.specs.Bench.{shownBy, rightAt, mayShow, isSound, closedAfter, isEarly, setsSending, mayChangeBy, showsAfter, happenedAfter, isLate, isTold};
 
 // The largest number that refuses an event and leaves the state.
 const LAST_EARLY: u8 = 13;
@@ -30,8 +29,8 @@ pub struct Shows {
 // is right, and what the state has shown since then; whether an event has come that leaves its
 // time; the millisecond behind which events have to come, 0 where nothing was shown; how many lines
 // have come; and whether one of them is trouble.
-pub struct Bench {
-    pub log: LogWatch,
+pub struct BenchHeld {
+    pub log: LogHeld,
     pub lanes: [Lane; 16],
     pub since: u64,
     pub shows: Shows,
@@ -42,11 +41,17 @@ pub struct Bench {
 }
 
 // What a state shows.
-pub fn shown_by(view: View, state: Selector) -> Shows
-    ensures { λ answer. ⌜ answer ≡ shownBy view state ⌝ }
+pub fn shown_by(
+    view: View,
+    times: &[u64; TIMES],
+    small: &[u8; SMALL],
+    wider: &[u16; WIDER],
+) -> Shows
+    ensures { λ answer. ⌜ answer ≡ shownBy view
+        (selectorAt (now (times .entry)) (now (small .entry)) (now (wider .entry))) ⌝ }
 {
-    let codes = state.outgoing_codes();
-    let answer = state.answer(0);
+    let codes = codes_at(times, small, wider);
+    let answer = answer_at(times, small, wider, 0);
     let value = answer_value(view, answer);
     Shows { codes, value }
 }
@@ -105,7 +110,7 @@ pub fn closed_after(closed: u64, border: u64) -> u64
 }
 
 // Whether a number refuses an event and leaves the state.
-pub fn is_early(number: u8) -> bool
+fn is_early(number: u8) -> bool
     ensures { λ answer. ⌜ answer ≡ isEarly number ⌝ }
 {
     if number == 0 {
@@ -114,94 +119,79 @@ pub fn is_early(number: u8) -> bool
     number <= LAST_EARLY
 }
 
-// Whether an event changes nothing that shows once its own input has taken it: nothing is left to
-// do, and it doesn't set what a port sends.
-pub fn is_quiet(left: Left, kind: u8) -> bool
-    ensures { λ answer. ⌜ answer ≡ isQuiet left kind ⌝ }
+// Whether a line says an event that sets what a port sends.
+fn sets_sending(read: LineRead) -> bool
+    ensures { λ answer. ⌜ answer ≡ setsSending read ⌝ }
 {
-    if kind == KIND_SENDING {
+    let LineRead::Read(event, _, _) = read else {
+        return false;
+    };
+    event.kind == KIND_SENDING
+}
+
+// Whether an event line may change what shows: it is the first that says an option, its answer is
+// made anew, or it sets what a port sends.
+pub fn may_change(first: bool, anew: bool, read: LineRead) -> bool
+    ensures { λ answer. ⌜ answer ≡ mayChangeBy first anew read ⌝ }
+{
+    if first {
+        return true;
+    }
+    if anew {
+        return true;
+    }
+    sets_sending(read)
+}
+
+// What a state shows after an event; what it showed before, where that may not have changed.
+pub fn shows_after(
+    view: View,
+    changes: bool,
+    before: Shows,
+    times: &[u64; TIMES],
+    small: &[u8; SMALL],
+    wider: &[u16; WIDER],
+) -> Shows
+    ensures { λ answer. ⌜ answer ≡ showsAfter view changes before
+        (selectorAt (now (times .entry)) (now (small .entry)) (now (wider .entry))) ⌝ }
+{
+    if changes {
+        return shown_by(view, times, small, wider);
+    }
+    before
+}
+
+// Whether an event has come that leaves its time, after one with a number.
+pub fn happened_after(happened: bool, number: u8) -> bool
+    ensures { λ answer. ⌜ answer ≡ happenedAfter happened number ⌝ }
+{
+    if is_early(number) {
+        return happened;
+    }
+    true
+}
+
+// Whether an event is trouble: it is not refused at once, and comes before what was shown and
+// `early` behind that.
+pub fn is_late(number: u8, time: u64, closed: u64) -> bool
+    ensures { λ answer. ⌜ answer ≡ isLate number time closed ⌝ }
+{
+    if is_early(number) {
         return false;
     }
-    match left {
-        Left::Nothing => true,
-        Left::Choice => false,
-        Left::Service => false,
-    }
+    time < closed
 }
 
-// The state that a line finds: of the profile that it says where none was said before.
-fn state_before(log: LogWatch, read: LineRead) -> Selector
-    ensures { λ answer. ⌜ answer ≡ stateFound log read ⌝ }
+// Whether the lanes are told what was right up to an event: one that may change what shows, is not
+// refused at once, and is no trouble.
+pub fn is_told(changes: bool, number: u8, late: bool) -> bool
+    ensures { λ answer. ⌜ answer ≡ isTold changes number late ⌝ }
 {
-    let found = opened(log, read);
-    let watch = found.watch;
-    watch.state
-}
-
-// What an event line does that may change what shows. The lanes are told what was right up to it;
-// one that is refused and leaves the state changes nothing, unless it is the first that says the
-// option, and so the state.
-pub fn take_event(
-    question: Question,
-    bench: Bench,
-    room: &mut [u64; ROOM],
-    read: LineRead,
-    stopped: &mut u8,
-) -> Bench
-    ensures { λ answer. ⌜
-        (answer ≡ benchOf (eventTaken question bench read (now (room .entry)))) ×
-        (now (room .exit) ≡ placesIn (eventTaken question bench read (now (room .entry)))) ⌝ }
-{
-    let view = question.view;
-    let log = bench.log;
-    let lanes = bench.lanes;
-    let after = step_of(log, read);
-    let watch = after.watch;
-    let answer = watch.answer;
-    let state = watch.state;
-    let shows = shown_by(view, state);
-    if is_early(answer.number) {
-        return Bench {
-            log: after,
-            lanes,
-            since: bench.since,
-            shows,
-            happened: bench.happened,
-            closed: bench.closed,
-            line: bench.line,
-            trouble: false,
-        };
+    if is_early(number) {
+        return false;
     }
-    if state.time < bench.closed {
-        return Bench {
-            log: after,
-            lanes,
-            since: bench.since,
-            shows,
-            happened: bench.happened,
-            closed: bench.closed,
-            line: bench.line,
-            trouble: true,
-        };
+    if late {
+        return false;
     }
-    let before = state_before(log, read);
-    let next = advance_all(
-        question,
-        lanes,
-        room,
-        before,
-        bench.since,
-        state.time,
-        stopped,
-    );
-    Bench {
-        log: after,
-        lanes: next,
-        since: state.time,
-        shows,
-        happened: true,
-        closed: bench.closed,
-        line: bench.line,
-        trouble: false,
-    }
+    changes
 }

@@ -1,22 +1,26 @@
 // What the lanes are told: what is right from when to when, span by span, and what is shown. Each
 // keeps of its values when they were right last, in places of a lent array.
 use crate::write_stretch;
+use inplace::SMALL;
+use inplace::TIMES;
+use inplace::WIDER;
+use inplace::codes_at;
+use inplace::time_at;
 use lane::Lane;
 use lane::Tolerance;
 use lane::right;
 use lane::shown;
 use lanes::ROOM;
-use lanes::Span;
 use lanes::View;
 use lanes::next_span;
-use lanes::span_of;
+use lanes::span_end;
 use lanes::value_index;
 use lanes::value_of;
-use selector::Selector;
 ghost use mathlib.Core.Path.{_≡_};
 ghost use Prim.Native.Nat.{max};
+ghost use Rattle.inplace.specs.Lists.{selectorAt};
 ghost use Rattle.lane.specs.Lane.{capped};
-ghost use Rattle.verdict.specs.Told.{newFrom, lastAt, laneOf, roomOf, pushed, shownIn, shownTold, sinceSpan, spansSince, spansTold, lanesOf, placesOf, portsTold, spanTold, spansToldAll};
+ghost use Rattle.verdict.specs.Told.{newFrom, lastAt, laneOf, roomOf, pushed, shownIn, shownTold, spansSince, spansTold, spanFrom, lanesOf, placesOf, portsTold, spanTold, spansToldAll};
 
 // The most spans between two events: each due moment begins one.
 const SPANS: u64 = 49;
@@ -132,7 +136,9 @@ pub fn tell_shown(
     number: usize,
     lane: Lane,
     room: &mut [u64; ROOM],
-    state: Selector,
+    times: &[u64; TIMES],
+    small: &[u8; SMALL],
+    wider: &[u16; WIDER],
     due: u64,
     since: u64,
     right: u64,
@@ -142,69 +148,69 @@ pub fn tell_shown(
     stopped: &mut u8,
 ) -> Lane
     ensures { λ answer. ⌜
-        (answer ≡ laneOf (shownTold question number lane (now (room .entry)) state due since right border time value)) ×
-        (now (room .exit) ≡ roomOf
-        (shownTold question number lane (now (room .entry)) state due since right border time value)) ⌝ }
+        (answer ≡ laneOf (shownTold question number lane (now (room .entry))
+        (selectorAt (now (times .entry)) (now (small .entry)) (now (wider .entry))) due since right
+        border time value)) ×
+        (now (room .exit) ≡ roomOf (shownTold question number lane (now (room .entry))
+        (selectorAt (now (times .entry)) (now (small .entry)) (now (wider .entry))) due since right
+        border time value)) ⌝ }
 {
     if border < due {
         let known = push(question, number, lane, room, since, border, right, stopped);
         return show(question, number, known, room, time, value, stopped);
     }
-    let known = advance(question, number, lane, room, state, since, border, stopped);
+    let known = advance(
+        question,
+        number,
+        lane,
+        room,
+        times,
+        small,
+        wider,
+        since,
+        border,
+        stopped,
+    );
     show(question, number, known, room, time, value, stopped)
 }
 
-// The first span of a state that has shown the same since a time.
-fn span_since(state: Selector, since: u64, until: u64) -> Span
-    ensures { λ answer. ⌜ answer ≡ sinceSpan state since until ⌝ }
-{
-    let span = span_of(state, until);
-    Span {
-        state,
-        from: since,
-        to: span.to,
-    }
-}
-
 // A lane after all that is right up to `until`, where no event comes, of a state that has shown the
-// same since a time.
+// same since a time: a copy of it is brought on from span to span.
 pub fn advance(
     question: Question,
     number: usize,
     before: Lane,
     room: &mut [u64; ROOM],
-    state: Selector,
+    times: &[u64; TIMES],
+    small: &[u8; SMALL],
+    wider: &[u16; WIDER],
     since: u64,
     until: u64,
     stopped: &mut u8,
 ) -> Lane
     ensures { λ answer. ⌜
-        (answer ≡ laneOf
-        (spansTold question number (spansSince state since until) before (now (room .entry)))) ×
-        (now (room .exit) ≡ roomOf
-        (spansTold question number (spansSince state since until) before (now (room .entry)))) ⌝ }
+        (answer ≡ laneOf (spansTold question number (spansSince
+        (selectorAt (now (times .entry)) (now (small .entry)) (now (wider .entry))) since until) before
+        (now (room .entry)))) ×
+        (now (room .exit) ≡ roomOf (spansTold question number (spansSince
+        (selectorAt (now (times .entry)) (now (small .entry)) (now (wider .entry))) since until) before
+        (now (room .entry)))) ⌝ }
 {
     let view = question.view;
+    let mut later = *times;
+    let mut after = *small;
     let mut lane = before;
-    let mut span = span_since(state, since, until);
+    let mut from = since;
+    let mut to = span_end(times, small, wider, until);
     let mut left: u64 = SPANS;
     while 0 < left {
-        let shows = span.state;
-        let value = value_of(view, shows, number);
-        lane = push(
-            question,
-            number,
-            lane,
-            room,
-            span.from,
-            span.to,
-            value,
-            stopped,
-        );
-        if until <= span.to {
+        let value = value_of(view, &later, &after, wider, number);
+        lane = push(question, number, lane, room, from, to, value, stopped);
+        if until <= to {
             return lane;
         }
-        span = next_span(span, until);
+        to = next_span(&mut later, &mut after, wider, to, until);
+        from = time_at(&later);
         left -= 1;
     }
     lane
@@ -241,54 +247,77 @@ fn push_all(
     question: Question,
     before: [Lane; 16],
     room: &mut [u64; ROOM],
-    span: Span,
+    times: &[u64; TIMES],
+    small: &[u8; SMALL],
+    wider: &[u16; WIDER],
+    from: u64,
+    to: u64,
     stopped: &mut u8,
 ) -> [Lane; 16]
     ensures { λ answer. ⌜
-        (answer ≡ lanesOf (spanTold question span before (now (room .entry)))) ×
-        (now (room .exit) ≡ placesOf (spanTold question span before (now (room .entry)))) ⌝ }
+        (answer ≡ lanesOf (spanTold question (spanFrom
+        (selectorAt (now (times .entry)) (now (small .entry)) (now (wider .entry))) from to) before (now (room .entry)))) ×
+        (now (room .exit) ≡ placesOf (spanTold question (spanFrom
+        (selectorAt (now (times .entry)) (now (small .entry)) (now (wider .entry))) from to) before (now (room .entry)))) ⌝ }
 {
     let view = question.view;
-    let state = span.state;
     if view.codes {
-        let codes = state.outgoing_codes();
-        return push_codes(question, before, room, span.from, span.to, codes, stopped);
+        let codes = codes_at(times, small, wider);
+        return push_codes(question, before, room, from, to, codes, stopped);
     }
     let mut lanes = before;
     let lane = lanes[0];
-    let value = value_of(view, state, 0);
-    let next = push(question, 0, lane, room, span.from, span.to, value, stopped);
+    let value = value_of(view, times, small, wider, 0);
+    let next = push(question, 0, lane, room, from, to, value, stopped);
     lanes[0] = next;
     lanes
 }
 
 // All lanes after all that is right up to `until`, where no event comes, of a state that has shown
-// the same since a time.
+// the same since a time: a copy of it is brought on from span to span.
 pub fn advance_all(
     question: Question,
     before: [Lane; 16],
     room: &mut [u64; ROOM],
-    state: Selector,
+    times: &[u64; TIMES],
+    small: &[u8; SMALL],
+    wider: &[u16; WIDER],
     since: u64,
     until: u64,
     stopped: &mut u8,
 ) -> [Lane; 16]
     ensures { λ answer. ⌜
-        (answer ≡ lanesOf
-        (spansToldAll question (spansSince state since until) before (now (room .entry)))) ×
-        (now (room .exit) ≡ placesOf
-        (spansToldAll question (spansSince state since until) before (now (room .entry)))) ⌝ }
+        (answer ≡ lanesOf (spansToldAll question (spansSince
+        (selectorAt (now (times .entry)) (now (small .entry)) (now (wider .entry))) since until) before
+        (now (room .entry)))) ×
+        (now (room .exit) ≡ placesOf (spansToldAll question (spansSince
+        (selectorAt (now (times .entry)) (now (small .entry)) (now (wider .entry))) since until) before
+        (now (room .entry)))) ⌝ }
 {
+    let mut later = *times;
+    let mut after = *small;
     let mut lanes = before;
-    let mut span = span_since(state, since, until);
+    let mut from = since;
+    let mut to = span_end(times, small, wider, until);
     let mut left: u64 = SPANS;
     while 0 < left {
-        let next = push_all(question, lanes, room, span, stopped);
+        let next = push_all(
+            question,
+            lanes,
+            room,
+            &later,
+            &after,
+            wider,
+            from,
+            to,
+            stopped,
+        );
         lanes = next;
-        if until <= span.to {
+        if until <= to {
             return lanes;
         }
-        span = next_span(span, until);
+        to = next_span(&mut later, &mut after, wider, to, until);
+        from = time_at(&later);
         left -= 1;
     }
     lanes

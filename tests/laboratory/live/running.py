@@ -74,7 +74,10 @@ class Card:
             raise AssertionError("the sanitizers say: %s" % self.said()[-3000:])
 
     def say(self, line):
-        return self.console.say(line)
+        console = self.console
+        if console is None:
+            raise ConnectionError("the card has been ended")
+        return console.say(line)
 
     def quit(self):
         """Ends the card in order; its exit status."""

@@ -1,6 +1,5 @@
 -- `lanes::input_index` meets its contract: each way is a law.
 -- Assumes nothing.
-use borrow.Author.Needs.{needs}
 use Rattle.lanes.proofs.LanesLaws.{lanes-laws}
 use Rattle.lanes.proofs.input_index.Statement.{statement}
 use Rattle.lanes.proofs.input_index.Tie as tie

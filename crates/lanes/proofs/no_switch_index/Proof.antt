@@ -1,6 +1,5 @@
 -- `lanes::no_switch_index` meets its contract: each way is a law.
 -- Assumes nothing.
-use borrow.Author.Needs.{needs}
 use Rattle.lanes.proofs.LanesLaws.{lanes-laws}
 use Rattle.lanes.proofs.no_switch_index.Statement.{statement}
 use Rattle.lanes.proofs.no_switch_index.Tie as tie

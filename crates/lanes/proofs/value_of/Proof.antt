@@ -5,8 +5,8 @@ use Rattle.lanes.proofs.LanesLaws.{lanes-laws}
 use Rattle.lanes.proofs.value_of.Statement.{statement}
 use Rattle.lanes.proofs.value_of.Tie as tie
 
-outgoing-codes-requires : tie.Need-outgoing-codes-requires
-outgoing-codes-requires c κs = search needs
+codes-at-requires : tie.Need-codes-at-requires
+codes-at-requires c κs = search needs
 
 code-value-requires : tie.Need-code-value-requires
 code-value-requires c κs = search needs
@@ -14,8 +14,8 @@ code-value-requires c κs = search needs
 returns : tie.Need-returns
 returns c = search lanes-laws
 
-answer-requires : tie.Need-answer-requires
-answer-requires c κs = search needs
+answer-at-requires : tie.Need-answer-at-requires
+answer-at-requires c κs = search needs
 
 answer-value-requires : tie.Need-answer-value-requires
 answer-value-requires c κs = search needs
@@ -27,9 +27,9 @@ pub value-of-spec : {M : Type 1} → statement M
 value-of-spec =
     tie.close
     (tie.spec
-    outgoing-codes-requires
+    codes-at-requires
     code-value-requires
     returns
-    answer-requires
+    answer-at-requires
     answer-value-requires
     returns-2)

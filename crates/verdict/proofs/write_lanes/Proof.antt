@@ -1,8 +1,6 @@
 -- `verdict::write_lanes` meets its contract: it ends, and no sum wraps.
 -- Assumes nothing.
 use Prim.Native.Nat.{_≤_, _-_}
-use native.Mathlib.Omega.{arith}
-use lib.ListN.{length}
 use borrow.Author.Needs.{needs}
 use Rattle.verdict.proofs.write_lanes.Statement.{statement}
 use Rattle.verdict.proofs.write_lanes.Tie as tie

@@ -4,9 +4,8 @@ use mathlib.Core.Bool.{Bool}
 use mathlib.Core.Path.{_≡_, subst}
 use Rattle.numbers.specs.declared.Event.{Event}
 use Rattle.frame.specs.declared.FrameRead.{FrameRead}
-use Rattle.quickstep.specs.declared.Watch.{Watch}
 use Rattle.quickstep.specs.Own.{isLeft}
-use Rattle.quickstep.specs.Watch.{ownFrom, takeWith}
+use Rattle.quickstep.specs.Watch.{Watch, ownFrom, takeWith}
 use Rattle.inplace.specs.Lists.{selectorAt}
 use Rattle.onestep.specs.Watched.{watchHeld, watchAt}
 use Rattle.onestep.proofs.Watched.{Asking, step-again, step-taken, step-late}

@@ -1,6 +1,6 @@
 -- `onestep::watch::take` meets its contract: each way is a law. Assumes nothing.
 use Rattle.inplace.specs.Lists.{selectorAt}
-use Rattle.quickstep.specs.declared.Watch.{Watch}
+use Rattle.quickstep.specs.Watch.{Watch}
 use Rattle.onestep.specs.Watched.{watchHeld, watchAt}
 use Rattle.onestep.proofs.Watched.{Taking, take-nothing, take-choice, take-service, service-accepted}
 use borrow.Author.Needs.{needs}

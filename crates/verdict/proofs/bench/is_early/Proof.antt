@@ -1,7 +1,6 @@
 -- `verdict::bench::is_early` meets its contract: each way is a law.
 -- Assumes nothing.
 use Rattle.verdict.proofs.BenchLaws.{bench-laws}
-use borrow.Author.Needs.{needs}
 use Rattle.verdict.proofs.bench.is_early.Statement.{statement}
 use Rattle.verdict.proofs.bench.is_early.Tie as tie
 

@@ -5,11 +5,11 @@ use borrow.Author.Needs.{needs}
 use Rattle.verdict.proofs.bench.shown_by.Statement.{statement}
 use Rattle.verdict.proofs.bench.shown_by.Tie as tie
 
-outgoing-codes-requires : tie.Need-outgoing-codes-requires
-outgoing-codes-requires c κs = search needs
+codes-at-requires : tie.Need-codes-at-requires
+codes-at-requires c κs = search needs
 
-answer-requires : tie.Need-answer-requires
-answer-requires c κs = search needs
+answer-at-requires : tie.Need-answer-at-requires
+answer-at-requires c κs = search needs
 
 answer-value-requires : tie.Need-answer-value-requires
 answer-value-requires c κs = search needs
@@ -19,4 +19,4 @@ returns c = search bench-laws
 
 pub shown-by-spec : {M : Type 1} → statement M
 shown-by-spec =
-    tie.close (tie.spec outgoing-codes-requires answer-requires answer-value-requires returns)
+    tie.close (tie.spec codes-at-requires answer-at-requires answer-value-requires returns)

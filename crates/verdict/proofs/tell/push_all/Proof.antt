@@ -5,8 +5,8 @@ use borrow.Author.Needs.{needs}
 use Rattle.verdict.proofs.tell.push_all.Statement.{statement}
 use Rattle.verdict.proofs.tell.push_all.Tie as tie
 
-outgoing-codes-requires : tie.Need-outgoing-codes-requires
-outgoing-codes-requires c κs = search needs
+codes-at-requires : tie.Need-codes-at-requires
+codes-at-requires c κs = search needs
 
 push-codes-requires : tie.Need-push-codes-requires
 push-codes-requires c κs = search needs
@@ -33,7 +33,7 @@ pub push-all-spec : {M : Type 1} → statement M
 push-all-spec =
     tie.close
     (tie.spec
-    outgoing-codes-requires
+    codes-at-requires
     push-codes-requires
     returns
     array-copy-out-lane
