@@ -210,8 +210,8 @@ pub fn span_end(times: &[u64; TIMES], small: &[u8; SMALL], wider: &[u16; WIDER],
     ensures { λ end. ⌜ end ≡ spanOf
         (selectorAt (now (times .entry)) (now (small .entry)) (now (wider .entry))) until .to ⌝ }
 {
-    let due = next_due(times, small, wider);
-    end_before(due, until)
+    let next = next_due(times, small, wider);
+    end_before(next, until)
 }
 
 // The millisecond behind one.

@@ -4,7 +4,6 @@
 use crate::SENT;
 use crate::STATION;
 use crate::half_in;
-use crate::refuse_half;
 use crate::send;
 use crate::start_half;
 use crate::step_half;
@@ -23,6 +22,7 @@ use numbers::refusal::ACCEPTED;
 use numbers::refusal::ARGUMENT_OUT_OF_RANGE;
 use onestep::watch::DUE;
 use onestep::watch::TOLD;
+use onestep::watch::refuse;
 use unit::Half;
 use unit::goes_to;
 use unit::unit_start_number;
@@ -86,8 +86,8 @@ pub extern "C" fn nurrispane_unit_fresh_in(
         option provplace marks minimum ⌝ }
 {
     if !names_option(option) {
-        refuse_half(due, told, ARGUMENT_OUT_OF_RANGE);
-        refuse_half(station_due, station_told, ARGUMENT_OUT_OF_RANGE);
+        refuse(due, told, ARGUMENT_OUT_OF_RANGE);
+        refuse(station_due, station_told, ARGUMENT_OUT_OF_RANGE);
         return;
     }
     let profile = profile_in(option, provplace, marks);
@@ -105,8 +105,8 @@ pub extern "C" fn nurrispane_unit_fresh_in(
         send(station_times, station_small, station_wider, sent, minimum);
         return;
     }
-    refuse_half(due, told, number);
-    refuse_half(station_due, station_told, number);
+    refuse(due, told, number);
+    refuse(station_due, station_told, number);
 }
 
 // One event with a lent frame, which is looked at for a frame event alone, sent to a half: the unit

@@ -21,21 +21,18 @@ use numbers::quality::Quality;
 use numbers::refusal::ACCEPTED;
 use onestep::watch::DUE;
 use onestep::watch::TOLD;
-use onestep::watch::put_number;
 use onestep::watch::tell;
 use unit::Half;
 use unit::half_step;
 use unit::source_by;
 use unit::squelches;
 ghost use mathlib.Core.Path.{_≡_};
-ghost use Rattle.selector.specs.declared.Selector.{Selector};
 ghost use Rattle.selector.specs.State.{freshSelector};
 ghost use Rattle.numbers.specs.Refusal.{accepted};
 ghost use Rattle.inplace.specs.Lists.{selectorAt};
 ghost use Rattle.numbers.specs.Quality.{quality};
-ghost use Rattle.onestep.specs.Watched.{watchHeld, watchAt};
+ghost use Rattle.onestep.specs.Watched.{watchAt};
 ghost use Rattle.unit.specs.Kept.{halfStep};
-ghost use Rattle.card.specs.Lent.{withNumber};
 ghost use Rattle.unitcard.specs.Lent.{halfIn, halfHeld, steppedHeld, sentBy};
 
 // The station half, as C numbers it, and the last; 0 is the equipment's.
@@ -114,16 +111,6 @@ fn start_half(
 {
     start(times, small, wider, profile);
     tell_half(times, small, wider, due, told, ACCEPTED);
-}
-
-// Another number in what a half answers, all else as it was.
-fn refuse_half(due: &mut [u64; DUE], told: &mut [u8; TOLD], number: u8)
-    ensures { λ _. ⌜ ((state : Selector) →
-        watchHeld state (now (due .exit)) (now (told .exit)) ≡
-        withNumber (watchHeld state (now (due .entry)) (now (told .entry))) number) ⌝ }
-{
-    let next = due[0];
-    put_number(due, told, next, number);
 }
 
 // What the station output sends stored, by the station's selector and the minimum.

@@ -12,11 +12,11 @@ use Rattle.unitcard.proofs.exports.nurrispane_unit_fresh_in.Tie as tie
 names-option-requires : tie.Need-names-option-requires
 names-option-requires c κs = search needs
 
-refuse-half-requires : tie.Need-refuse-half-requires
-refuse-half-requires c κs = search needs
+refuse-requires : tie.Need-refuse-requires
+refuse-requires c κs = search needs
 
-refuse-half-requires-2 : tie.Need-refuse-half-requires-2
-refuse-half-requires-2 c κs = search needs
+refuse-requires-2 : tie.Need-refuse-requires-2
+refuse-requires-2 c κs = search needs
 
 returns : tie.Need-returns
 unfolding lentAt watchAt
@@ -26,11 +26,11 @@ returns c =
     (watchAt (args .station-times .now) (args .station-small .now) (args .station-wider .now) (args .station-due .now) (args .station-told .now))
     (args .sent .now) (args .option) (args .provplace) (args .marks) (args .minimum) (c .before .before .before .before .before .before .before .names-option .result)
     (c .before .before .before .before .before .before .before .names-option .ensures)
-    (watchAt (args .times .now) (args .small .now) (args .wider .now) (c .before .before .before .refuse-half .last .0) (c .before .before .before .refuse-half .last .1 .0))
-    (watchAt (args .station-times .now) (args .station-small .now) (args .station-wider .now) (c .refuse-half2 .last .0) (c .refuse-half2 .last .1 .0))
+    (watchAt (args .times .now) (args .small .now) (args .wider .now) (c .before .before .before .refuse .last .0) (c .before .before .before .refuse .last .1 .0))
+    (watchAt (args .station-times .now) (args .station-small .now) (args .station-wider .now) (c .refuse2 .last .0) (c .refuse2 .last .1 .0))
     (not-true _ (c .before .before .before .before .before .before .if1 .taken))
-    (c .before .before .before .refuse-half .ensures (selectorAt (args .times .now) (args .small .now) (args .wider .now)))
-    (c .refuse-half2 .ensures (selectorAt (args .station-times .now) (args .station-small .now) (args .station-wider .now)))
+    (c .before .before .before .refuse .ensures (selectorAt (args .times .now) (args .small .now) (args .wider .now)))
+    (c .refuse2 .ensures (selectorAt (args .station-times .now) (args .station-small .now) (args .station-wider .now)))
 
 profile-in-requires : tie.Need-profile-in-requires
 profile-in-requires c κs = search needs
@@ -68,11 +68,11 @@ returns-2 c =
     (c .before .before .before .before .before .start-half2 .ensures)
     (c .send .ensures)
 
-refuse-half-requires-3 : tie.Need-refuse-half-requires-3
-refuse-half-requires-3 c κs = search needs
+refuse-requires-3 : tie.Need-refuse-requires-3
+refuse-requires-3 c κs = search needs
 
-refuse-half-requires-4 : tie.Need-refuse-half-requires-4
-refuse-half-requires-4 c κs = search needs
+refuse-requires-4 : tie.Need-refuse-requires-4
+refuse-requires-4 c κs = search needs
 
 returns-3 : tie.Need-returns-3
 unfolding lentAt watchAt
@@ -82,24 +82,24 @@ returns-3 c =
     (watchAt (args .station-times .now) (args .station-small .now) (args .station-wider .now) (args .station-due .now) (args .station-told .now))
     (args .sent .now) (args .option) (args .provplace) (args .marks) (args .minimum) (c .before .before .before .before .before .before .before .before .before .before .names-option .result)
     (c .before .before .before .before .before .before .before .before .before .before .names-option .ensures)
-    (watchAt (args .times .now) (args .small .now) (args .wider .now) (c .before .before .before .refuse-half3 .last .0) (c .before .before .before .refuse-half3 .last .1 .0))
-    (watchAt (args .station-times .now) (args .station-small .now) (args .station-wider .now) (c .refuse-half4 .last .0) (c .refuse-half4 .last .1 .0))
+    (watchAt (args .times .now) (args .small .now) (args .wider .now) (c .before .before .before .refuse3 .last .0) (c .before .before .before .refuse3 .last .1 .0))
+    (watchAt (args .station-times .now) (args .station-small .now) (args .station-wider .now) (c .refuse4 .last .0) (c .refuse4 .last .1 .0))
     (not-false _ (c .before .before .before .before .before .before .before .before .before .if1 .left))
     (c .before .before .before .before .before .before .before .before .profile-in .result)
     (c .before .before .before .before .before .before .before .before .profile-in .ensures)
     (c .before .before .before .before .before .before .before .unit-start-number .result)
     (c .before .before .before .before .before .before .before .unit-start-number .ensures)
     (c .before .before .before .before .before .before .if2 .left)
-    (c .before .before .before .refuse-half3 .ensures (selectorAt (args .times .now) (args .small .now) (args .wider .now)))
-    (c .refuse-half4 .ensures (selectorAt (args .station-times .now) (args .station-small .now) (args .station-wider .now)))
+    (c .before .before .before .refuse3 .ensures (selectorAt (args .times .now) (args .small .now) (args .wider .now)))
+    (c .refuse4 .ensures (selectorAt (args .station-times .now) (args .station-small .now) (args .station-wider .now)))
 
 pub nurrispane-unit-fresh-in-spec : {M : Type 1} → statement M
 nurrispane-unit-fresh-in-spec =
     tie.close
     (tie.spec
     names-option-requires
-    refuse-half-requires
-    refuse-half-requires-2
+    refuse-requires
+    refuse-requires-2
     returns
     profile-in-requires
     unit-start-number-requires
@@ -107,6 +107,6 @@ nurrispane-unit-fresh-in-spec =
     start-half-requires-2
     send-requires
     returns-2
-    refuse-half-requires-3
-    refuse-half-requires-4
+    refuse-requires-3
+    refuse-requires-4
     returns-3)
