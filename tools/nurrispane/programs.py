@@ -190,22 +190,19 @@ def opened(path):
 
 # ---- programs that take logs in files
 
-# The most octets of a log that a program holds whole, and how many are read at a time.
-LARGEST_LOG, PIECE = 1_048_576, 1 << 20
+# How many octets of a log are read at a time.
+PIECE = 1 << 20
 
 
-def read_log(path, most=LARGEST_LOG):
-    """A log of no more octets than a program can hold, or of any length where it reads a chunk after another (None); "-" is standard input."""
-    pieces, count = [], 0
+def read_log(path):
+    """A log of any length; "-" is standard input."""
+    pieces = []
     with opened(path) as source:
         try:
-            while (most is None or count <= most) and (piece := source.read(PIECE if most is None else most + 1 - count)):
+            while piece := source.read(PIECE):
                 pieces.append(piece)
-                count += len(piece)
         except OSError as error:
             raise Trouble("%s cannot be read: %s" % (name_of(path), reason(error))) from error
-    if most is not None and count > most:
-        raise Trouble("%s has more than %s octets, which is more than the program holds" % (name_of(path), format(most, ",")))
     return b"".join(pieces)
 
 

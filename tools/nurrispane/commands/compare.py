@@ -29,7 +29,7 @@ def run(options):
     if options.first == options.second == "-":
         raise Trouble("standard input is one log, not two")
     names = [name_of(options.first), name_of(options.second)]
-    recorded = [programs.read_log(path, None) for path in (options.first, options.second)]
+    recorded = [programs.read_log(path) for path in (options.first, options.second)]
     for path, log in zip((options.first, options.second), recorded):
         logs.word_on_old_form("compare", path, log)
     number, numbers = differing(recorded)

@@ -31,7 +31,7 @@ def arguments(parser):
 
 
 def run(options):
-    log = programs.read_log(options.log, None)
+    log = programs.read_log(options.log)
     number, _, converted = programs.on_files("convert", [log], LENGTH, first=[options.form]).partition(b"\n")
     if number == CONVERTED:
         write(options.out, converted)

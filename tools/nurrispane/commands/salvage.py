@@ -28,7 +28,7 @@ def arguments(parser):
 def run(options):
     if os.path.exists(options.log) and os.path.exists(options.out) and os.path.samefile(options.log, options.out):
         raise Trouble("%s is the damaged log itself: what is dropped would be lost" % name_of(options.out))
-    log = programs.read_log(options.log, None)
+    log = programs.read_log(options.log)
     logs.word_on_old_form("salvage", options.log, log)
     report, salvaged = kept(log)
     write(options.out, salvaged)
