@@ -2,6 +2,7 @@
 //
 // A candidate is what a choice looks at of one input. Nothing here knows inputs, time or a switch,
 // and no public function has a `requires`.
+#![tactic(auto)]
 ghost use Rattle.std.specs.Prelude.{◌≡◌};
 ghost use Rattle.numbers.specs.Truth.{alike};
 ghost use Rattle.choice.specs.Rank.{is_placed, rank_of, floor_rank};
@@ -13,7 +14,7 @@ use numbers::{INPUT_COUNT, InputNumber, Priority};
 
 // What a choice looks at of an input, the floor as it was set, 0 for none: with the profile and the
 // mode nothing else makes a candidate.
-#[derive(Drop)]
+#[derive(Clone, Copy)]
 pub struct Seen {
     pub passed: Quality,
     pub priority: Priority,
@@ -22,7 +23,7 @@ pub struct Seen {
 }
 
 // What qualities are compared by, lower is better.
-#[derive(Drop)]
+#[derive(Clone, Copy)]
 pub struct Rank(pub u16);
 
 // The rank of all inputs with quality mode off.
@@ -30,7 +31,7 @@ const UNRANKED: Rank = Rank(0);
 
 // One input as a choice sees it: its quality (0 for all with quality mode off) and how it ranks,
 // its priority, whether it is neither off nor locked, and whether its passed quality is usable.
-#[derive(Drop)]
+#[derive(Clone, Copy)]
 pub struct Candidate {
     pub quality: Quality,
     pub rank: Rank,
@@ -49,7 +50,7 @@ pub const NOBODY: Candidate = Candidate {
 };
 
 // What is selected.
-#[derive(Drop)]
+#[derive(Clone, Copy)]
 pub enum Selection {
     Nothing,
     At(InputNumber),
@@ -57,7 +58,7 @@ pub enum Selection {
 
 // The one that leads while the inputs are offered, one by one, with its rank and its priority,
 // which later ones are compared with; 0 both where nothing leads.
-#[derive(Drop)]
+#[derive(Clone, Copy)]
 pub struct Leader {
     pub selection: Selection,
     pub rank: Rank,

@@ -7,7 +7,7 @@ ghost use Rattle.digits.specs.Decimal.{decimal};
 
 // A number's digits, the last of them in the last of twenty places, and where they start; zeros
 // stand before them. Twenty places hold every number of 64 bits.
-#[derive(Drop)]
+#[derive(Clone, Copy)]
 pub struct DecimalText {
     pub text: [u8; 20],
     pub start: usize,

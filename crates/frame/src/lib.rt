@@ -2,6 +2,7 @@
 //
 // Octets are counted from 1, as the document counts them. No public function has a `requires`: a
 // frame, a source address and a buffer may have any length and any content.
+#![tactic(auto)]
 ghost use Rattle.std.specs.Prelude.{◌&&◌, ◌≡◌, ◌+◌, ◌-◌, ◌*◌, ◌≤◌, ◌<◌, leb, length, take, drop};
 ghost use mathlib.Core.List.{foldr};
 ghost use Rattle.frame.specs.Octets.{shortest_frame, octet, same, has_octets};
@@ -55,7 +56,7 @@ pub const SOURCE_LENGTH: usize = 6;
 const LARGEST_CODE: u8 = 15;
 
 // What reading a frame answers: its code, or the number of its refusal.
-#[derive(Drop)]
+#[derive(Clone, Copy)]
 pub enum FrameRead {
     Code(u8),
     Refused(u8),
@@ -63,7 +64,7 @@ pub enum FrameRead {
 
 // What a frame says: its code or the number of its refusal, its event flag and its source address.
 // A frame that is refused tells its number and no more: no flag, six zeros.
-#[derive(Drop)]
+#[derive(Clone, Copy)]
 pub struct FrameMessage {
     pub read: FrameRead,
     pub event: bool,
@@ -71,7 +72,7 @@ pub struct FrameMessage {
 }
 
 // What writing a frame answers.
-#[derive(Drop)]
+#[derive(Clone, Copy)]
 pub enum FrameWrite {
     Written,
     Refused(u8),

@@ -2,6 +2,7 @@
 // `read_frames` prints these.
 //
 // No public function has a `requires`: a line may have any length and any content.
+#![tactic(auto)]
 ghost use Rattle.std.specs.Prelude.{true, [], ◌∷◌, ◌++◌, ◌≡◌, ◌+◌, ◌-◌, ◌*◌, ◌/◌, ◌≤◌, length, replicate};
 ghost use Rattle.digits.specs.Digits.{all_digits, octets_of, digits_of};
 ghost use Rattle.frame.specs.Octets.{longest_frame};
@@ -18,7 +19,7 @@ const LONGEST_FRAME: usize = 1_514;
 const SPACE: u8 = b' ';
 
 // A line of text: so many characters in front, zeros after them.
-#[derive(Drop)]
+#[derive(Clone, Copy)]
 pub struct MessageLine {
     pub text: [u8; 20],
     pub length: usize,

@@ -4,6 +4,7 @@
 // An event's method is told the time and the quality mode in force after the event, takes the
 // event's own moment, and hands the record back; `brought_to` brings it to a time at which no event
 // has come yet. Every time and every setting is safe, and no public function has a `requires`.
+#![tactic(auto)]
 ghost use Rattle.std.specs.Prelude.{◌≡◌, ◌*◌};
 ghost use Rattle.numbers.specs.Inputs.{minute};
 ghost use Rattle.numbers.specs.Quality.{not_told};
@@ -29,7 +30,7 @@ const MINUTE: u64 = 60_000;
 // What was heard: when the last frame came and what it said; what the last code or word that came
 // three times in a row said; the last one with its count, three for any more; and whether the
 // signal is good. Failed where nothing was heard.
-#[derive(Drop)]
+#[derive(Clone, Copy)]
 pub struct Heard {
     pub framed: u64,
     pub frame: Quality,
@@ -41,7 +42,7 @@ pub struct Heard {
 
 // What the operator has set. The hold-off is in ms, the wait in minutes; fixed quality 0 is none,
 // and floor 0 the fresh one.
-#[derive(Drop)]
+#[derive(Clone, Copy)]
 pub struct Settings {
     pub holdoff: u16,
     pub wait: u8,
@@ -53,7 +54,7 @@ pub struct Settings {
     pub sending: bool,
 }
 
-#[derive(Drop)]
+#[derive(Clone, Copy)]
 pub struct Input {
     pub heard: Heard,
     pub run: Run,

@@ -5,6 +5,7 @@
 // Values are numbers of whatever meaning. `last` is the millisecond behind the last at which a
 // value was right, 0 where it never was. Any numbers are answered for, no sum can wrap, and no
 // public function has a `requires`.
+#![tactic(auto)]
 ghost use Rattle.std.specs.Prelude.{◌≡◌, ◌-◌, min, max};
 ghost use Rattle.lane.specs.Lane.{capped, bad_from, fresh_lane, wrong_from, wrong_until, goes_on, marked, first_after, told_lane, known_lane, over_at, shown_next, right_next, wrong_count};
 
@@ -12,7 +13,7 @@ ghost use Rattle.lane.specs.Lane.{capped, bad_from, fresh_lane, wrong_from, wron
 const LARGEST: u64 = u64::MAX;
 
 // How late and how early a value may be shown, and the last millisecond that is judged.
-#[derive(Drop)]
+#[derive(Clone, Copy)]
 pub struct Tolerance {
     pub late: u64,
     pub early: u64,
@@ -21,7 +22,7 @@ pub struct Tolerance {
 
 // Wrong milliseconds: the first, the one behind the last, and what was shown in the first. None
 // where it ends where it starts.
-#[derive(Drop)]
+#[derive(Clone, Copy)]
 pub struct Stretch {
     pub from: u64,
     pub until: u64,
@@ -31,7 +32,7 @@ pub struct Stretch {
 // What is kept of a lane: the millisecond of the first thing shown; the one behind the last thing
 // shown, 0 where nothing was; what was shown last; the millisecond up to which it is known what is
 // right; the latest stretch; how many milliseconds those before it have.
-#[derive(Drop)]
+#[derive(Clone, Copy)]
 pub struct Lane {
     pub first: u64,
     pub after: u64,
@@ -42,7 +43,7 @@ pub struct Lane {
 }
 
 // A lane after it was told something, and the stretch that is over by that.
-#[derive(Drop)]
+#[derive(Clone, Copy)]
 pub struct Judged {
     pub lane: Lane,
     pub ended: Stretch,

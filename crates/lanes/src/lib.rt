@@ -3,6 +3,7 @@
 // A value is what is judged of an answer, five octets as one number with 0 for what is not judged;
 // or the code of a port. A state stands in three lent arrays; with any numbers in them it is
 // answered for, no sum can wrap, and no public function has a `requires`.
+#![tactic(auto)]
 ghost use Rattle.std.specs.Prelude.{◌≡◌, ◌+◌, ◌-◌, min};
 ghost use Rattle.lanes.specs.Value.{Judging, answer_value, code_value, value_of, index_count, input_index, no_switch_index, switch_index, four_index, answer_index, code_index, value_index, Indexed};
 ghost use Rattle.inplace.specs.Lists.{selector_at};
@@ -19,7 +20,7 @@ const INDEXES: u64 = 36_992;
 
 // What is judged: the codes of the sixteen ports; or of an answer the selected input, the clock
 // state, the clock quality, the switch with its input.
-#[derive(Drop)]
+#[derive(Clone, Copy)]
 pub struct View {
     pub codes: bool,
     pub selected: bool,

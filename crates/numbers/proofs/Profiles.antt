@@ -7,7 +7,6 @@ use borrow.Author.Tests.{eq-eqb, ne_eqb, lt-ltb, le-ltb}
 use Rattle.numbers.specs.declared.quality.Quality.{Quality}
 use Rattle.numbers.specs.declared.profile.Limits.{Limits}
 use Rattle.numbers.specs.declared.profile.ProvPlace.{ProvPlace}
-use Rattle.numbers.specs.declared.profile.ProvPlace.TheVariants as L
 use Rattle.numbers.specs.declared.profile.Profile.{Profile}
 use Rattle.numbers.specs.declared.profile.Profile.TheVariants as P
 use Rattle.numbers.specs.Refusal.{accepted, argument_out_of_range}

@@ -15,7 +15,7 @@ pub const OPTION_TWO: u8 = 2;
 const LAST_PROV_PLACE: u8 = 8;
 
 // The place of PROV: none, or just below a quality of 1 to 8. There is no other.
-#[derive(Drop)]
+#[derive(Clone, Copy)]
 pub enum ProvPlace {
     Unplaced,
     Below1,
@@ -30,7 +30,7 @@ pub enum ProvPlace {
 
 // What is chosen once, at the fresh start; option II with the place of PROV and the marks of the
 // first-generation ports.
-#[derive(Drop)]
+#[derive(Clone, Copy)]
 pub enum Profile {
     OptionOne,
     OptionTwo(ProvPlace, u16),
@@ -38,7 +38,7 @@ pub enum Profile {
 
 // What the options differ in: the last fixed quality, floor and kind of input, whether words come,
 // and what a clock by itself tells.
-#[derive(Drop)]
+#[derive(Clone, Copy)]
 pub struct Limits {
     pub fixed: u16,
     pub floor: u16,

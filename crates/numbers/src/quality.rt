@@ -93,7 +93,7 @@ const WORD_PROV: u16 = 0x40ff;
 pub const WORD_DUS: u16 = 0x30ff;
 
 // A quality's number: 1 to 5 or 1 to 10 by name, 11 invalid, 12 failed, 0 not told.
-#[derive(Drop)]
+#[derive(Clone, Copy)]
 pub struct Quality(pub u8);
 
 // The quality that a code says in option I; invalid where it says none of the five.

@@ -3,6 +3,7 @@
 // and a frame read once.
 //
 // Any numbers in the arrays are answered for. No public function has a `requires`.
+#![tactic(auto)]
 pub mod held;
 pub mod watch;
 
@@ -32,7 +33,7 @@ const NONE_SERVED: u8 = 0;
 
 // What an event is answered with, beside the state after it: its number, and how many due moments
 // its tick served.
-#[derive(Drop)]
+#[derive(Clone, Copy)]
 pub struct StepTold {
     pub number: u8,
     pub count: u8,

@@ -3,6 +3,7 @@
 // Nothing here keeps time or knows where raw quality comes from: each function is told the time,
 // and a forecast says how raw quality goes on if no event comes. No sum can wrap, for any time and
 // any setting, and no public function has a `requires`.
+#![tactic(auto)]
 ghost use Rattle.std.specs.Prelude.{◌≡◌, ◌+◌, leb};
 ghost use Rattle.run.specs.Run.{fresh_run, is_expired, raw_at, began_after, is_up_after, last_good, at_moment, up_before, brought_to, passed_quality};
 
@@ -11,7 +12,7 @@ use numbers::quality::{FAILED, Quality, is_failed};
 
 // Raw quality from here on, if no event comes, and the timers in force: `quality`, and failed from
 // the frame's 5,000th millisecond on where it `expires`. `holdoff` and `wait` are in ms.
-#[derive(Drop)]
+#[derive(Clone, Copy)]
 pub struct Forecast {
     pub framed: u64,
     pub holdoff: u64,
@@ -22,7 +23,7 @@ pub struct Forecast {
 
 // The present run: since when, failed or not; the last raw quality that was not failed; and whether
 // the last down or up moment was up.
-#[derive(Drop)]
+#[derive(Clone, Copy)]
 pub struct Run {
     pub began: u64,
     pub good: Quality,

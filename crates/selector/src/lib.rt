@@ -3,6 +3,7 @@
 // inputs", "Choosing" and the answer line of "The event log".
 //
 // No public function has a `requires`: any numbers are answered for.
+#![tactic(auto)]
 ghost use Rattle.std.specs.Prelude.{◌≡◌, cond};
 ghost use Rattle.selector.specs.State.{seen_of, candidate_for};
 ghost use Rattle.selector.specs.Answer.{selected_number, switch_number, switch_input, clock_state, clock_quality, outgoing_code, outgoing_word};
@@ -32,7 +33,7 @@ pub const SWITCH_MANUAL: u8 = 2;
 
 // The whole state: sixteen inputs beside time, switch and selection, the quality mode, and whether
 // the clock has ever been locked.
-#[derive(Drop)]
+#[derive(Clone, Copy)]
 pub struct Selector {
     pub inputs: [Input; 16],
     pub time: u64,

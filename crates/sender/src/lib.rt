@@ -4,6 +4,7 @@
 // time of the last accepted question. Nothing here keeps time or ticks the selector: a question
 // brings its time and a state, and the state is taken as it is. Senders with any numbers in them
 // are answered for, no sum can wrap, and no public function has a `requires`.
+#![tactic(auto)]
 ghost use Rattle.std.specs.Prelude.{◌≡◌, ◌∷◌, ◌≤◌, ltb, length, take};
 ghost use Rattle.numbers.specs.Inputs.{last_input, input_count};
 ghost use Rattle.frame.specs.Write.{written_length, source_length, largest_code};
@@ -45,7 +46,7 @@ const NEVER_ASKED: u64 = 0;
 // accepted question; the code of the last frame; and how many frames were sent, 10 for any more.
 // In this order C's layout has no gap.
 #[repr(C)]
-#[derive(Drop)]
+#[derive(Clone, Copy)]
 pub struct Sender {
     pub times: [u64; 10],
     pub asked: u64,
@@ -55,14 +56,14 @@ pub struct Sender {
 
 // The senders of the sixteen ports.
 #[repr(C)]
-#[derive(Drop)]
+#[derive(Clone, Copy)]
 pub struct Senders {
     pub ports: [Sender; 16],
 }
 
 // What a question is answered with: an information frame, an event frame, nothing, or the number
 // of its refusal.
-#[derive(Drop)]
+#[derive(Clone, Copy)]
 pub enum Heartbeat {
     Information,
     Event,
@@ -71,14 +72,14 @@ pub enum Heartbeat {
 }
 
 // The senders after a question, and what it is answered with.
-#[derive(Drop)]
+#[derive(Clone, Copy)]
 pub struct Asked {
     pub senders: Senders,
     pub heartbeat: Heartbeat,
 }
 
 // One sender after a question to it, and what it is answered with.
-#[derive(Drop)]
+#[derive(Clone, Copy)]
 pub struct AskedOne {
     pub sender: Sender,
     pub heartbeat: Heartbeat,

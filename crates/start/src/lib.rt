@@ -5,6 +5,7 @@
 // What the system hands over as arguments no contract can say: `read_start` promises that its
 // answer is that of some words, and `start_by` which answer they have. No public function has a
 // `requires`: a word may have any length and any content.
+#![tactic(auto)]
 ghost use Rattle.std.specs.Prelude.{true, ◌≡◌, length};
 ghost use Rattle.calls.specs.Calls.{TextSaid};
 ghost use Rattle.digits.specs.Decimal.{decimal_value};
@@ -33,7 +34,7 @@ const LONGEST_WORD: usize = 65_536;
 
 // What START says: the place of PROV and the marks; that the start is refused; or that it is no
 // START.
-#[derive(Drop)]
+#[derive(Clone, Copy)]
 pub enum StartRead {
     Started(ProvPlace, u16),
     Refused,

@@ -4,6 +4,7 @@
 //
 // A state with any numbers in it is answered for, no sum can wrap, and no public function has a
 // `requires`.
+#![tactic(auto)]
 ghost use Rattle.std.specs.Prelude.{◌≡◌};
 ghost use Rattle.inplace.specs.Lists.{selector_at};
 ghost use Rattle.status.specs.Status.{end_ahead};
@@ -22,7 +23,7 @@ use selector::candidate_for;
 // What is known of an input. `timer` is when the present run's own timer ends, needed or not: the
 // hold-off of a failed run, the wait of any other; `frame` when the last frame heard expires. Both
 // are 0 where nothing is still to end. `signal` is good signal, `floor` the floor in force.
-#[derive(Drop)]
+#[derive(Clone, Copy)]
 pub struct Status {
     pub raw: Quality,
     pub passed: Quality,

@@ -3,6 +3,7 @@
 //
 // No public function has a `requires`: where output might have no room for the numbers, nothing is
 // written, and a text may be anything.
+#![tactic(auto)]
 ghost use Rattle.std.specs.Prelude.{◌≡◌, ◌+◌, ◌*◌, ◌≤◌, length};
 ghost use Rattle.digits.specs.Decimal.{decimal_of};
 ghost use Rattle.text.specs.Text.{widest_number, PutNumbers, read_number};
@@ -14,7 +15,7 @@ use digits::decimal::decimal;
 const WIDEST_NUMBER: usize = 21;
 
 // What an argument says: a number, or that it is none, or too large a one.
-#[derive(Drop)]
+#[derive(Clone, Copy)]
 pub enum NumberRead {
     Number(u64),
     NoNumber,
@@ -28,7 +29,7 @@ fn put_decimal(out: &mut [u8], place: usize, number: u64) -> usize
     let written = decimal(number);
     let text = written.text;
     let start = written.start;
-    let copied = bytes::copy(&text[start..], &mut out[place..]);
+    let copied = octets::copy(&text[start..], &mut out[place..]);
     place + copied
 }
 

@@ -14,7 +14,7 @@ use numbers::quality::{PRC, Quality};
 use numbers::refusal::{ACCEPTED, ARGUMENT_OUT_OF_RANGE};
 
 // The three arrays of a selector's state.
-#[derive(Drop)]
+#[derive(Clone, Copy)]
 pub struct StateHeld {
     pub times: [u64; TIMES],
     pub small: [u8; SMALL],
@@ -23,7 +23,7 @@ pub struct StateHeld {
 
 // The unit: a selector for the equipment clock, one for the station output, and the worst quality
 // that the station output still carries. Its one time is that of either selector.
-#[derive(Drop)]
+#[derive(Clone, Copy)]
 pub struct UnitHeld {
     pub equipment: StateHeld,
     pub station: StateHeld,
@@ -31,7 +31,7 @@ pub struct UnitHeld {
 }
 
 // What an event is answered with: a number of each selector's own, and the unit after it.
-#[derive(Drop)]
+#[derive(Clone, Copy)]
 pub struct UnitSteppedHeld {
     pub equipment: u8,
     pub station: u8,
@@ -40,7 +40,7 @@ pub struct UnitSteppedHeld {
 
 // A start of a unit: the number that it is answered with, and the unit. Beside 6 no unit has
 // started, and what stands there carries the best quality alone.
-#[derive(Drop)]
+#[derive(Clone, Copy)]
 pub struct UnitStartedHeld {
     pub number: u8,
     pub unit: UnitHeld,

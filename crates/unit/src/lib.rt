@@ -4,6 +4,7 @@
 // The unit asks a selector for its step and its answer, and knows no rule of either: `half_step` is
 // one selector's, on three lent arrays, and `held` has a unit by value. An event's numbers and those
 // in the arrays may be anything that their types hold, and no public function has a `requires`.
+#![tactic(auto)]
 pub mod held;
 
 ghost use Rattle.std.specs.Prelude.{◌≡◌};
@@ -25,7 +26,7 @@ use onestep::step_read;
 use selector::{LOCKED, NO_INPUT};
 
 // The two selectors of a unit, by what they are for.
-#[derive(Drop)]
+#[derive(Clone, Copy)]
 pub enum Half {
     Equipment,
     Station,

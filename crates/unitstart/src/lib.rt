@@ -5,6 +5,7 @@
 // What the system hands over as arguments no contract can say: `read_unit_start` promises that its
 // answer is that of some words, and `unit_start_by` which answer they have. No public function has
 // a `requires`: a word may have any length and any content.
+#![tactic(auto)]
 ghost use Rattle.std.specs.Prelude.{true, ◌≡◌};
 ghost use Rattle.numbers.specs.Quality.{quality};
 ghost use Rattle.digits.specs.Decimal.{decimal_value};
@@ -31,7 +32,7 @@ const LONGEST_WORD: usize = 65_536;
 
 // What the words say: a profile and a minimum; that the start is refused; or that they are no start
 // of a unit.
-#[derive(Drop)]
+#[derive(Clone, Copy)]
 pub enum UnitStart {
     Started(Profile, Quality),
     Refused,

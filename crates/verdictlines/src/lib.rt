@@ -1,6 +1,7 @@
 // Log lines and shown lines: what each does to what is carried, and so to the lanes of what a card
 // shows. The program `verdict` hands the lines of its stream to `take_lines`, and at the stream's
 // end asks `whole_lanes`; what a lane is then known to have been wrong in is written on the way.
+#![tactic(auto)]
 mod bench;
 pub mod lines;
 mod shown;
@@ -22,14 +23,14 @@ use numbers::profile::ProvPlace;
 use tell::{advance_all, capped, later};
 
 // What is asked for.
-#[derive(Drop)]
+#[derive(Clone, Copy)]
 pub struct Question {
     pub view: View,
     pub tolerance: Tolerance,
 }
 
 // What a state shows: the codes of its ports, and what is judged of its answer.
-#[derive(Drop)]
+#[derive(Clone, Copy)]
 pub struct Shows {
     pub codes: [u8; 16],
     pub value: u64,
@@ -39,7 +40,7 @@ pub struct Shows {
 // is right, and what the state has shown since then; whether an event has come that leaves its
 // time; the millisecond behind which events have to come, 0 where nothing was shown; how many lines
 // have come; and whether one of them is trouble.
-#[derive(Drop)]
+#[derive(Clone, Copy)]
 pub struct BenchHeld {
     pub log: LogHeld,
     pub lanes: [Lane; 16],

@@ -18,7 +18,7 @@ const CODE_LINE: usize = 17;
 const LAST: u64 = 15;
 
 // What a shown line says: the lane, the time, the value; or nothing.
-#[derive(Drop)]
+#[derive(Clone, Copy)]
 pub enum ShownRead {
     Telling { lane: usize, time: u64, value: u64 },
     Nothing,

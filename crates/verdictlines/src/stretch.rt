@@ -77,7 +77,7 @@ fn put_at(out: &mut [u8], place: usize, text: &[u8]) {
         return;
     }
     if text.len() <= out.len() - place {
-        bytes::copy(text, &mut out[place..]);
+        octets::copy(text, &mut out[place..]);
     }
 }
 

@@ -1,0 +1,37 @@
+-- `numbers::quality::code_in_one` meets its contract: each arm is one row of the table.
+-- Assumes nothing.
+use borrow.Author.Tests.{ne_eqb}
+use Rattle.numbers.specs.Codes.{sign_of}
+use Rattle.numbers.proofs.quality.code_in_one.Goals as goal
+
+pub returns-in-1 : goal.returns-in-1
+unfolding sign_of
+returns-in-1 c = rw c.in-1.is
+
+pub returns-in-2 : goal.returns-in-2
+unfolding sign_of
+returns-in-2 c = rw c.in-2.is
+
+pub returns-in-3 : goal.returns-in-3
+unfolding sign_of
+returns-in-3 c = rw c.in-3.is
+
+pub returns-in-4 : goal.returns-in-4
+unfolding sign_of
+returns-in-4 c = rw c.in-4.is
+
+pub returns-in-5 : goal.returns-in-5
+unfolding sign_of
+returns-in-5 c = rw c.in-5.is
+
+pub returns-in_default : goal.returns-in_default
+unfolding sign_of
+returns-in_default c =
+    let n = c.in_default.in_default-own.rest in
+    simp (
+      ne_eqb _ _ n.1,
+      ne_eqb _ _ n.0.1,
+      ne_eqb _ _ n.0.0.1,
+      ne_eqb _ _ n.0.0.0.1,
+      ne_eqb _ _ n.0.0.0.0.1,
+    )
