@@ -129,6 +129,8 @@ CLAUSE = re.compile(r"\b(ghost use|requires\*?|ensures\*?|ghost)\b")
 
 def turn_source(text, turned, fields):
     """Only what is ghost in a source file: its imports, clauses and ghost items, and names in backquotes in comments."""
+    # a name in snake case may be a function's own: what says something of it has another name, and stands in no source
+    turned = {name: to for name, to in turned.items() if is_camel(name) or "-" in name}
     out = []
     for line in text.split("\n"):
         code = line.split("//")[0]

@@ -80,7 +80,7 @@ fn same_once(small: &[u8; SMALL], after: &[u8; SMALL]) -> bool
 }
 
 // What was answered last is an answer, but for the number.
-fn same_answer_lem(told: &[u8; TOLD], answer: Answer) -> bool
+fn same_answer(told: &[u8; TOLD], answer: Answer) -> bool
     ensures { result ≡ same_answer (answer_in told.now) answer }
 {
     let selected = told[1] == answer.selected;
@@ -111,7 +111,7 @@ pub fn is_sound(
     serve(&mut later, &mut after, wider, time);
     let runs = same_runs(times, small, wider, &later, &after);
     let once = same_once(small, &after);
-    let told_right = same_answer_lem(told, answer);
+    let told_right = same_answer(told, answer);
     let below = time < TIME_LIMIT;
     let ahead = time < due[0];
     let within = due[0] <= next;

@@ -3,6 +3,7 @@
 // A candidate is what a choice looks at of one input. Nothing here knows inputs, time or a switch,
 // and no public function has a `requires`.
 #![tactic(auto)]
+
 ghost use Rattle.std.specs.Prelude.{◌≡◌};
 ghost use Rattle.numbers.specs.Truth.{alike};
 ghost use Rattle.choice.specs.Rank.{is_placed, rank_of, floor_rank};

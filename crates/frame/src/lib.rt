@@ -3,6 +3,7 @@
 // Octets are counted from 1, as the document counts them. No public function has a `requires`: a
 // frame, a source address and a buffer may have any length and any content.
 #![tactic(auto)]
+
 ghost use Rattle.std.specs.Prelude.{◌&&◌, ◌≡◌, ◌+◌, ◌-◌, ◌*◌, ◌≤◌, ◌<◌, leb, length, take, drop};
 ghost use mathlib.Core.List.{foldr};
 ghost use Rattle.frame.specs.Octets.{shortest_frame, octet, same, has_octets};

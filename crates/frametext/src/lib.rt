@@ -3,6 +3,7 @@
 //
 // No public function has a `requires`: a line may have any length and any content.
 #![tactic(auto)]
+
 ghost use Rattle.std.specs.Prelude.{true, [], ◌∷◌, ◌++◌, ◌≡◌, ◌+◌, ◌-◌, ◌*◌, ◌/◌, ◌≤◌, length, replicate};
 ghost use Rattle.digits.specs.Digits.{all_digits, octets_of, digits_of};
 ghost use Rattle.frame.specs.Octets.{longest_frame};

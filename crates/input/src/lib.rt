@@ -5,6 +5,7 @@
 // event's own moment, and hands the record back; `brought_to` brings it to a time at which no event
 // has come yet. Every time and every setting is safe, and no public function has a `requires`.
 #![tactic(auto)]
+
 ghost use Rattle.std.specs.Prelude.{◌≡◌, ◌*◌};
 ghost use Rattle.numbers.specs.Inputs.{minute};
 ghost use Rattle.numbers.specs.Quality.{not_told};
@@ -75,7 +76,7 @@ fn equal_count(code: u16, last: u16, reports: u8) -> u8
 }
 
 // What codes or words say, once one that says `said` has come `reports` times in a row.
-fn line_after_lem(said: Quality, reports: u8, linequality: Quality) -> Quality
+fn line_after(said: Quality, reports: u8, linequality: Quality) -> Quality
     ensures { result ≡ line_after said reports linequality }
 {
     if reports < REPORTS_NEEDED {
@@ -120,7 +121,7 @@ impl Heard {
         if self.signal {
             let reports = equal_count(number, self.last, self.reports);
             let old = self.linequality;
-            let linequality = line_after_lem(said, reports, old);
+            let linequality = line_after(said, reports, old);
             self.linequality = linequality;
             self.last = number;
             self.reports = reports;

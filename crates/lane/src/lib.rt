@@ -6,6 +6,7 @@
 // value was right, 0 where it never was. Any numbers are answered for, no sum can wrap, and no
 // public function has a `requires`.
 #![tactic(auto)]
+
 ghost use Rattle.std.specs.Prelude.{◌≡◌, ◌-◌, min, max};
 ghost use Rattle.lane.specs.Lane.{capped, bad_from, fresh_lane, wrong_from, wrong_until, goes_on, marked, first_after, told_lane, known_lane, over_at, shown_next, right_next, wrong_count};
 

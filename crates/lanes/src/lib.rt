@@ -4,6 +4,7 @@
 // or the code of a port. A state stands in three lent arrays; with any numbers in them it is
 // answered for, no sum can wrap, and no public function has a `requires`.
 #![tactic(auto)]
+
 ghost use Rattle.std.specs.Prelude.{◌≡◌, ◌+◌, ◌-◌, min};
 ghost use Rattle.lanes.specs.Value.{Judging, answer_value, code_value, value_of, index_count, input_index, no_switch_index, switch_index, four_index, answer_index, code_index, value_index, Indexed};
 ghost use Rattle.inplace.specs.Lists.{selector_at};

@@ -4,6 +4,7 @@
 //
 // Any numbers in the arrays are answered for. No public function has a `requires`.
 #![tactic(auto)]
+
 pub mod held;
 pub mod watch;
 

@@ -2,6 +2,7 @@
 // the event flag, then each with it. `tests/programs/dissect-frames` has them decoded. Where they
 // can't be written, it says so on standard error.
 #![tactic(auto)]
+
 use calls::{Ending, Stream, is_whole, say, write_text};
 use frame::write_frame;
 

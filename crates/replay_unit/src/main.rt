@@ -4,6 +4,7 @@
 // arguments OPTION PLACE MARKS MINIMUM say; where that could not be done, it says so on standard
 // error.
 #![tactic(auto)]
+
 ghost use Rattle.std.specs.Prelude.{◌≡◌, length};
 ghost use Rattle.calls.specs.Calls.{TextSaid};
 ghost use Rattle.replay_unit.specs.Said.{unit_start_stream, unit_start_said};

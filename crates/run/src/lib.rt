@@ -4,6 +4,7 @@
 // and a forecast says how raw quality goes on if no event comes. No sum can wrap, for any time and
 // any setting, and no public function has a `requires`.
 #![tactic(auto)]
+
 ghost use Rattle.std.specs.Prelude.{◌≡◌, ◌+◌, leb};
 ghost use Rattle.run.specs.Run.{fresh_run, is_expired, raw_at, began_after, is_up_after, last_good, at_moment, up_before, brought_to, passed_quality};
 

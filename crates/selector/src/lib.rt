@@ -4,6 +4,7 @@
 //
 // No public function has a `requires`: any numbers are answered for.
 #![tactic(auto)]
+
 ghost use Rattle.std.specs.Prelude.{◌≡◌, cond};
 ghost use Rattle.selector.specs.State.{seen_of, candidate_for};
 ghost use Rattle.selector.specs.Answer.{selected_number, switch_number, switch_input, clock_state, clock_quality, outgoing_code, outgoing_word};
@@ -74,7 +75,7 @@ pub fn candidate_for(profile: Profile, input: Input, mode: bool) -> Candidate
 }
 
 // One of two codes.
-pub fn code_by_lem(marked: bool, first: u8, code: u8) -> u8
+pub fn code_by(marked: bool, first: u8, code: u8) -> u8
     ensures { result ≡ cond marked first code }
 {
     if marked {

@@ -5,6 +5,7 @@
 // brings its time and a state, and the state is taken as it is. Senders with any numbers in them
 // are answered for, no sum can wrap, and no public function has a `requires`.
 #![tactic(auto)]
+
 ghost use Rattle.std.specs.Prelude.{◌≡◌, ◌∷◌, ◌≤◌, ltb, length, take};
 ghost use Rattle.numbers.specs.Inputs.{last_input, input_count};
 ghost use Rattle.frame.specs.Write.{written_length, source_length, largest_code};

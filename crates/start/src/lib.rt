@@ -6,6 +6,7 @@
 // answer is that of some words, and `start_by` which answer they have. No public function has a
 // `requires`: a word may have any length and any content.
 #![tactic(auto)]
+
 ghost use Rattle.std.specs.Prelude.{true, ◌≡◌, length};
 ghost use Rattle.calls.specs.Calls.{TextSaid};
 ghost use Rattle.digits.specs.Decimal.{decimal_value};

@@ -5,6 +5,7 @@
 // A state with any numbers in it is answered for, no sum can wrap, and no public function has a
 // `requires`.
 #![tactic(auto)]
+
 ghost use Rattle.std.specs.Prelude.{◌≡◌};
 ghost use Rattle.inplace.specs.Lists.{selector_at};
 ghost use Rattle.status.specs.Status.{end_ahead};

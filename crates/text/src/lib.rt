@@ -4,6 +4,7 @@
 // No public function has a `requires`: where output might have no room for the numbers, nothing is
 // written, and a text may be anything.
 #![tactic(auto)]
+
 ghost use Rattle.std.specs.Prelude.{◌≡◌, ◌+◌, ◌*◌, ◌≤◌, length};
 ghost use Rattle.digits.specs.Decimal.{decimal_of};
 ghost use Rattle.text.specs.Text.{widest_number, PutNumbers, read_number};

@@ -5,6 +5,7 @@
 // one selector's, on three lent arrays, and `held` has a unit by value. An event's numbers and those
 // in the arrays may be anything that their types hold, and no public function has a `requires`.
 #![tactic(auto)]
+
 pub mod held;
 
 ghost use Rattle.std.specs.Prelude.{◌≡◌};

@@ -5,6 +5,7 @@
 // The numbers in the arrays may be anything that their types hold: any are safe, and the inputs that
 // a unit names after a step are 0 to 15 or 255. No public function has a `requires`.
 #![tactic(auto)]
+
 pub mod exports;
 
 ghost use Rattle.std.specs.Prelude.{◌≡◌};

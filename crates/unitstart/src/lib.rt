@@ -6,6 +6,7 @@
 // answer is that of some words, and `unit_start_by` which answer they have. No public function has
 // a `requires`: a word may have any length and any content.
 #![tactic(auto)]
+
 ghost use Rattle.std.specs.Prelude.{true, ◌≡◌};
 ghost use Rattle.numbers.specs.Quality.{quality};
 ghost use Rattle.digits.specs.Decimal.{decimal_value};

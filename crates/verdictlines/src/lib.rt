@@ -2,6 +2,7 @@
 // shows. The program `verdict` hands the lines of its stream to `take_lines`, and at the stream's
 // end asks `whole_lanes`; what a lane is then known to have been wrong in is written on the way.
 #![tactic(auto)]
+
 mod bench;
 pub mod lines;
 mod shown;

@@ -1,0 +1,61 @@
+-- `card::part::serve_part` meets its contract. Assumes nothing.
+use Prim.Native.Nat.{◌≤◌, ◌-◌}
+use mathlib.Core.Path.{◌≡◌}
+use borrow.Author.Tests.{leb-true, leb-false}
+use Rattle.due.specs.Next.{next_due}
+use Rattle.onestep.specs.Watched.{watch_at}
+use Rattle.card.proofs.Portions.{Parted, parted_none, parted_turn, parted_late, parted_full}
+use borrow.Author.Rules.{rules}
+use Rattle.card.proofs.part.serve_part.Goals as goal
+
+pub loop-count-init : goal.loop-count-init
+unfolding watch_at
+loop-count-init c = (search rules, search rules, search parted_none)
+
+pub loop-count-preserved : goal.loop-count-preserved
+unfolding watch_at
+loop-count-preserved c =
+    let args = c.args in
+    let loop = c.loop-count in
+    let all = c.tick_at.new in (
+      search rules,
+      search rules,
+      parted_turn args.most
+          (watch_at args.times.now args.small.now args.wider.now args.due.now args.told.now)
+          args.time
+          (watch_at loop.times loop.small loop.wider loop.due loop.told)
+          (watch_at all.0 all.1.0 all.1.1.0 all.1.1.1.0 all.1.1.1.1.0)
+          loop.count
+          loop.next
+          loop.invariant.2
+          loop.invariant.1
+          (leb-true _ _ c.if-next-time.true-raw)
+          c.loop-count-test.true
+          c.tick_at.ensures,
+    )
+
+pub returns-else-next-time : goal.returns-else-next-time
+returns-else-next-time c =
+    let args = c.args in
+    let loop = c.loop-count in (
+      parted_late args.most (watch_at args.times.now args.small.now args.wider.now args.due.now args.told.now) args.time
+          (watch_at loop.times loop.small loop.wider loop.due loop.told)
+          loop.count
+          loop.next
+          loop.invariant.2
+          loop.invariant.1
+          (leb-false _ _ c.if-next-time.false-raw),
+      loop.invariant.1,
+    )
+
+pub returns-after-loop-count : goal.returns-after-loop-count
+returns-after-loop-count c =
+    let args = c.args in
+    let loop = c.loop-count in (
+      parted_full args.most (watch_at args.times.now args.small.now args.wider.now args.due.now args.told.now) args.time
+          (watch_at loop.times loop.small loop.wider loop.due loop.told)
+          loop.count
+          loop.invariant.2
+          c.loop-count-test.false,
+      loop.invariant.1,
+    )

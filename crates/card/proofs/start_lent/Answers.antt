@@ -1,0 +1,60 @@
+-- `card::start_lent` meets its contract. Assumes nothing.
+use Rattle.inplace.specs.Lists.{selector_at}
+use Rattle.onestep.specs.Watched.{watch_at}
+use Rattle.card.proofs.CardLaws.{start_neither, start_fresh, start_refused}
+use borrow.Author.Tests.{not-true, not-false}
+use borrow.Author.Rules.{rules}
+use Rattle.card.proofs.start_lent.Goals as goal
+
+pub returns-then-not-names_option : goal.returns-then-not-names_option
+unfolding watch_at
+returns-then-not-names_option c = let args = c.args in
+    start_neither
+    (watch_at args.times.now args.small.now args.wider.now args.due.now args.told.now)
+    args.option
+    args.provplace
+    args.marks
+    c.names_option.result
+    c.names_option.ensures
+    (watch_at args.times.now args.small.now args.wider.now c.put_number.new.places c.put_number.new.1.0)
+    (not-true _ c.if-not-names_option.true-raw)
+    (c.put_number.ensures (selector_at args.times.now args.small.now args.wider.now))
+
+pub returns-then-number-eq-ACCEPTED : goal.returns-then-number-eq-ACCEPTED
+unfolding watch_at
+returns-then-number-eq-ACCEPTED c = let args = c.args in
+    let all = c.start_watch.new in
+    start_fresh
+    (watch_at args.times.now args.small.now args.wider.now args.due.now args.told.now)
+    args.option
+    args.provplace
+    args.marks
+    c.names_option.result
+    c.names_option.ensures
+    (not-false _ c.if-not-names_option.false-raw)
+    c.profile_in-profile.result
+    c.profile_in-profile.ensures
+    c.start_number-number.result
+    c.start_number-number.ensures
+    (watch_at all.0 all.1.0 all.1.1.0 all.1.1.1.0 all.1.1.1.1.0)
+    c.if-number-eq-ACCEPTED.true
+    c.start_watch.ensures
+
+pub returns : goal.returns
+unfolding watch_at
+returns c = let args = c.args in
+    start_refused
+    (watch_at args.times.now args.small.now args.wider.now args.due.now args.told.now)
+    args.option
+    args.provplace
+    args.marks
+    c.names_option.result
+    c.names_option.ensures
+    (not-false _ c.if-not-names_option.false-raw)
+    c.profile_in-profile.result
+    c.profile_in-profile.ensures
+    c.start_number-number.result
+    c.start_number-number.ensures
+    (watch_at args.times.now args.small.now args.wider.now c.put_number-2.new.places c.put_number-2.new.1.0)
+    c.if-number-eq-ACCEPTED.false
+    (c.put_number-2.ensures (selector_at args.times.now args.small.now args.wider.now))

@@ -1,0 +1,30 @@
+-- `frame::read_frame` meets its contract: flag and address are told where a code is.
+-- Assumes nothing.
+use mathlib.Core.Path.{◌≡◌, sym, ◌∙◌}
+use Rattle.numbers.specs.Refusal.{accepted}
+use Rattle.frame.specs.Read.{frame_number}
+use Rattle.frame.proofs.ReadLaws.{frame_number-accepted, read_code_accepted, read_code_unaccepted, read_frame-told, read_frame-untold}
+use borrow.Author.Rules.{rules}
+use Rattle.frame.proofs.read_frame.Goals as goal
+
+-- where a code was read, the frame is accepted
+accepts : (c : tie.After-enum-told) → frame_number c.before.before.before.before.args.frame.now ≡ accepted
+accepts c = read_code_accepted _ _ (sym c.before.before.read-code.ensures ∙ c.enum_told.given.1)
+
+pub returns-in_default : goal.returns-in_default
+returns-in_default c =
+    let read = c.read_code-read in
+    rw read.ensures
+    (sym (read_frame-untold _ (read_code_unaccepted _ _ (sym read.ensures ∙ c.in_default.is))))
+
+pub event_flag-event-requires : goal.event_flag-event-requires
+event_flag-event-requires c = frame_number-accepted _ (accepts c)
+
+pub source_address-source-requires : goal.source_address-source-requires
+source_address-source-requires c = frame_number-accepted _ (accepts c)
+
+pub returns : goal.returns
+returns c =
+    let told = c in
+    rw (told.read_code-read.ensures, c.event_flag-event.ensures, c.source_address-source.ensures)
+    (sym (read_frame-told _ (accepts told)))

@@ -1,0 +1,10 @@
+-- `frametext::number_line` meets its contract.
+-- Assumes nothing.
+use Rattle.digits.specs.Digits.{digits_of}
+use Rattle.frametext.specs.Message.{in_front}
+use borrow.Author.Rules.{rules}
+use Rattle.frametext.proofs.number_line.Goals as goal
+
+pub returns : goal.returns
+unfolding in_front digits_of
+returns c = rw (c.upper_digit.ensures, c.lower_digit.ensures)

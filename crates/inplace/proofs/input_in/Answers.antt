@@ -1,0 +1,8 @@
+-- `inplace::input_in` meets its contract. Assumes nothing.
+use Rattle.inplace.specs.Lists.{input_at}
+use borrow.Author.Rules.{rules}
+use Rattle.inplace.proofs.input_in.Goals as goal
+
+pub returns : goal.returns
+unfolding input_at
+returns c = rw (c.settings_at-settings.ensures, c.run_at-run.ensures, c.heard_at-heard.ensures)

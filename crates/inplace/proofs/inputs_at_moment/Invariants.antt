@@ -1,0 +1,20 @@
+-- `inplace::inputs_at_moment` meets its contract: a turn of the loop brings one input to the moment.
+-- Assumes nothing.
+use Prim.Native.Nat.{◌≤◌, ◌-◌}
+use mathlib.Core.Bool.{false}
+use mathlib.Core.Path.{◌≡◌, refl}
+use borrow.Author.Rules.{rules}
+use Rattle.input.specs.declared.Input.{Input}
+use Rattle.input.specs.Record.{input_at_moment, with_run}
+use Rattle.inplace.specs.Lists.{input_at, selector_at}
+use Rattle.inplace.proofs.Turn.{changed, turn, done, momentary, inputs-length}
+use Rattle.inplace.proofs.inputs_at_moment.Given as goal
+
+abbrev pub invariant-loop-at : goal.invariant-loop-at
+invariant-loop-at l =
+    (l.at ≤ 16) ×
+    (selector_at l.times l.small l.wider ≡
+    changed (λ (input : Input). input_at_moment input l.time l.mode false) l.at (selector_at l.initial.times l.initial.small l.wider))
+
+abbrev pub decreases-loop-at : goal.decreases-loop-at
+decreases-loop-at l = 16 - l.at

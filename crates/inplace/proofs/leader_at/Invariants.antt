@@ -1,0 +1,21 @@
+-- `inplace::leader_at` meets its contract.
+-- Assumes nothing.
+use Prim.Native.Nat.{◌≤◌, ◌-◌}
+use mathlib.Core.Path.{◌≡◌}
+use borrow.Author.Rules.{rules}
+use Rattle.choice.specs.declared.Selection.{Selection}
+use Rattle.selector.specs.State.{candidates_of}
+use Rattle.selector.proofs.Scanning.{leads_after}
+use Rattle.inplace.specs.Lists.{selector_at}
+use Rattle.inplace.proofs.Turn.{leader-begin, leader-turn, leader-end}
+use Rattle.inplace.proofs.leader_at.Given as goal
+
+abbrev pub invariant-loop-number : goal.invariant-loop-number
+invariant-loop-number l =
+    (l.number ≤ 16)
+    × ((before : Selection)
+    → l.initial.leader ≡ leads_after (candidates_of l.profile (selector_at l.times l.small l.wider).inputs l.mode) 0 before
+    → l.leader ≡ leads_after (candidates_of l.profile (selector_at l.times l.small l.wider).inputs l.mode) l.number before)
+
+abbrev pub decreases-loop-number : goal.decreases-loop-number
+decreases-loop-number l = 16 - l.number

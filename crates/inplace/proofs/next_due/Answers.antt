@@ -1,0 +1,27 @@
+-- `inplace::next_due` meets its contract. Assumes nothing.
+use Prim.Native.Nat.{◌≤◌, ◌-◌}
+use mathlib.Core.Path.{◌≡◌}
+use borrow.Author.Rules.{rules}
+use Rattle.due.specs.Next.{next_among}
+use Rattle.due.proofs.DueLaws.{nextAmong-laws}
+use Rattle.inplace.specs.Lists.{selector_at}
+use Rattle.inplace.proofs.Turn.{due-turn, due-done}
+use Rattle.inplace.proofs.next_due.Goals as goal
+
+pub loop-at-init : goal.loop-at-init
+loop-at-init c = (search rules, search nextAmong-laws)
+
+pub loop-at-preserved : goal.loop-at-preserved
+loop-at-preserved c = (search rules, search due-turn)
+
+pub returns : goal.returns
+returns c = let args = c.args in
+    due-done args.times.now args.small.now args.wider.now c.mode_at-mode.result
+    c.time_at-time.result
+    c.loop-at.at
+    c.loop-at.due
+    c.loop-at.invariant.1
+    (c.mode_at-mode.ensures args.times.now args.wider.now)
+    (c.time_at-time.ensures args.small.now args.wider.now)
+    c.loop-at.invariant.0
+    c.loop-at-test.false

@@ -1,0 +1,43 @@
+-- `inplace::put_fresh` meets its contract. Assumes nothing.
+use Prim.Native.Nat.{◌≤◌, ◌-◌}
+use mathlib.Core.Path.{◌≡◌, refl}
+use Rattle.input.specs.declared.Input.{Input}
+use Rattle.input.specs.Record.{fresh_input}
+use Rattle.inplace.specs.Lists.{selector_at}
+use Rattle.inplace.proofs.Turn.{changed, turn, fresh-done, inputs-length}
+use borrow.Author.Rules.{rules}
+use Rattle.inplace.proofs.put_fresh.Goals as goal
+
+pub loop-at-init : goal.loop-at-init
+loop-at-init c = (search rules, refl)
+
+pub loop-at-preserved : goal.loop-at-preserved
+loop-at-preserved c =
+    let args = c.args in
+    let loop = c.loop-at in (
+      search rules,
+      turn (λ (one : Input). fresh_input)
+          (selector_at args.times.now args.small.now args.wider.now)
+          loop.times
+          loop.small
+          loop.wider
+          (selector_at c.put_in.new.0 c.put_in.new.1.0 c.put_in.new.1.1.0)
+          loop.at
+          c.fresh-fresh.result
+          (inputs-length args.times.now args.small.now args.wider.now)
+          loop.invariant.1
+          c.put_in.ensures
+          c.fresh-fresh.ensures
+          c.loop-at-test.true,
+    )
+
+pub returns : goal.returns
+returns c =
+    let args = c.args in
+    let loop = c.loop-at in
+    fresh-done args.times.now args.small.now args.wider.now
+    (selector_at loop.times loop.small loop.wider)
+    loop.at
+    loop.invariant.1
+    loop.invariant.0
+    c.loop-at-test.false

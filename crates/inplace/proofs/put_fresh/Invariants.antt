@@ -1,0 +1,18 @@
+-- `inplace::put_fresh` meets its contract. Assumes nothing.
+use Prim.Native.Nat.{◌≤◌, ◌-◌}
+use mathlib.Core.Path.{◌≡◌, refl}
+use Rattle.input.specs.declared.Input.{Input}
+use Rattle.input.specs.Record.{fresh_input}
+use Rattle.inplace.specs.Lists.{selector_at}
+use Rattle.inplace.proofs.Turn.{changed, turn, fresh-done, inputs-length}
+use borrow.Author.Rules.{rules}
+use Rattle.inplace.proofs.put_fresh.Given as goal
+
+abbrev pub invariant-loop-at : goal.invariant-loop-at
+invariant-loop-at l =
+    (l.at ≤ 16) ×
+    (selector_at l.times l.small l.wider ≡
+    changed (λ (one : Input). fresh_input) l.at (selector_at l.initial.times l.initial.small l.initial.wider))
+
+abbrev pub decreases-loop-at : goal.decreases-loop-at
+decreases-loop-at l = 16 - l.at

@@ -1,0 +1,6 @@
+-- `inplace::run_at` meets its contract. Assumes nothing.
+use borrow.Author.Rules.{rules}
+use Rattle.inplace.proofs.run_at.Goals as goal
+
+pub returns : goal.returns
+returns c = rw (c.is_set-2.ensures, c.is_set.ensures)

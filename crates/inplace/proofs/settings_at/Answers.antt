@@ -1,0 +1,12 @@
+-- `inplace::settings_at` meets its contract. Assumes nothing.
+use borrow.Author.Rules.{rules}
+use Rattle.inplace.proofs.settings_at.Goals as goal
+
+pub returns : goal.returns
+returns c =
+    rw (
+      c.is_set-2.ensures,
+      c.is_set.ensures,
+      c.input_kind_of-kind.ensures,
+      c.wide.ensures,
+    )

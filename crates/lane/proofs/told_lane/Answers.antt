@@ -1,0 +1,8 @@
+-- `lane::told_lane` meets its contract: each way is a law.
+-- Assumes nothing.
+use borrow.Author.Rules.{rules}
+use Rattle.lane.proofs.LaneLaws.{lane-laws}
+use Rattle.lane.proofs.told_lane.Goals as goal
+
+pub returns : goal.returns
+returns c = search lane-laws

@@ -1,0 +1,11 @@
+-- `lanes::value_of` meets its contract: each way is a law.
+-- Assumes nothing.
+use borrow.Author.Rules.{rules}
+use Rattle.lanes.proofs.LanesLaws.{lanes-laws}
+use Rattle.lanes.proofs.value_of.Goals as goal
+
+pub returns-then-view : goal.returns-then-view
+returns-then-view c = search lanes-laws
+
+pub returns : goal.returns
+returns c = search lanes-laws

@@ -1,0 +1,30 @@
+-- `onestep::at_its_moment` meets its contract: it is the definition, call by call. Assumes nothing.
+use Rattle.inplace.specs.Lists.{selector_at}
+use Rattle.inplace.proofs.Moment.{switch-on}
+use Rattle.onestep.proofs.StepLaws.{own-moment}
+use borrow.Author.Rules.{rules}
+use Rattle.onestep.proofs.at_its_moment.Goals as goal
+
+pub returns : goal.returns
+returns c = let args = c.args in
+    let all = c.inputs_after in
+    own-moment (selector_at args.times.now args.small.now args.wider.now)
+    (selector_at all.new.0 all.new.1.0 all.new.1.1.0)
+    (selector_at all.new.0 c.put_command.new.0 all.new.1.1.0)
+    (selector_at all.new.0 c.make_choice.new.1.0 all.new.1.1.0)
+    args.event
+    c.profile_at-profile.result
+    c.mode_at-earlier.result
+    c.mode_after-mode.result
+    c.switch_at-before.result
+    c.commanded-switch.result
+    (switch-on args.times.now args.small.now args.wider.now)
+    c.requires
+    (c.mode_at-earlier.ensures args.times.now args.wider.now)
+    c.mode_after-mode.ensures
+    (c.switch_at-before.ensures args.times.now args.wider.now)
+    c.commanded-switch.ensures
+    (c.profile_at-profile.ensures args.times.now)
+    all.ensures
+    (c.put_command.ensures all.new.0 all.new.1.1.0)
+    c.make_choice.ensures

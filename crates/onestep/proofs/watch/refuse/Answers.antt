@@ -1,0 +1,6 @@
+-- `onestep::watch::refuse` meets its contract: the number is stored, and what is due again. Assumes nothing.
+use borrow.Author.Rules.{rules}
+use Rattle.onestep.proofs.watch.refuse.Goals as goal
+
+pub returns : goal.returns
+returns c = c.put_number.ensures

@@ -1,0 +1,23 @@
+-- `read_frames::tell_chunk` meets its contract: what was taken of the chunk is told.
+-- Assumes nothing.
+use Prim.Native.Nat.{ℕ, ◌*◌, ◌-◌, ◌≤◌}
+use mathlib.Core.List.{List}
+use mathlib.Core.Path.{◌≡◌, refl, sym, ◌∙◌}
+use native.Mathlib.Omega.{arith}
+use lib.ListN.{length, take}
+use Rattle.read_frames.specs.Frames.{longest_told, longest_frame_line, HoldsLine, ToldChunk}
+use Rattle.read_frames.proofs.Lines.{told_start, told-next, told-all}
+use borrow.Author.Rules.{rules}
+use Rattle.read_frames.proofs.tell_chunk.Given as goal
+
+abbrev pub invariant-loop-passed : goal.invariant-loop-passed
+invariant-loop-passed l =
+    (length l.line ≡ longest_frame_line)
+    × (length l.out ≡ length l.initial.out)
+    × (l.passed ≤ length l.chunk)
+    × (l.written ≤ longest_told * l.passed)
+    × ((come : List ℕ) → HoldsLine l.initial.line l.buffered come
+    → ToldChunk come (take l.passed l.chunk) l.line l.out (record { l.written = l.written; l.buffered = l.count }))
+
+abbrev pub decreases-loop-passed : goal.decreases-loop-passed
+decreases-loop-passed l = length l.chunk - l.passed

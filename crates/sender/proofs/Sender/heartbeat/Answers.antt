@@ -1,0 +1,11 @@
+-- `sender::Sender::heartbeat` meets its contract: each way is a law.
+-- Assumes nothing.
+use Rattle.sender.proofs.SenderLaws.{heartbeatOf-laws}
+use borrow.Author.Rules.{rules}
+use Rattle.sender.proofs.Sender.heartbeat.Goals as goal
+
+pub returns-then-is_full : goal.returns-then-is_full
+returns-then-is_full c = search heartbeatOf-laws
+
+pub returns : goal.returns
+returns c = search heartbeatOf-laws

@@ -1,0 +1,11 @@
+-- `unit::unit_start_number` meets its contract: each way is a law.
+-- Assumes nothing.
+use Rattle.unit.proofs.UnitLaws.{unitStartNumber-laws}
+use borrow.Author.Rules.{rules}
+use Rattle.unit.proofs.unit_start_number.Goals as goal
+
+pub returns-then-is_minimum : goal.returns-then-is_minimum
+returns-then-is_minimum c = search unitStartNumber-laws
+
+pub returns : goal.returns
+returns c = search unitStartNumber-laws

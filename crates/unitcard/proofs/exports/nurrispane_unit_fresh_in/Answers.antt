@@ -1,0 +1,63 @@
+-- `unitcard::exports::nurrispane_unit_fresh_in` meets its contract: each way is a law. Assumes nothing.
+use mathlib.Core.Path.{refl}
+use borrow.Author.Tests.{not-true, not-false}
+use Rattle.inplace.specs.Lists.{selector_at}
+use Rattle.onestep.specs.Watched.{watch_at}
+use Rattle.unitcard.specs.Lent.{lent_at}
+use Rattle.unitcard.proofs.UnitcardLaws.{start_neither, start_refused, start_fresh}
+use borrow.Author.Rules.{rules}
+use Rattle.unitcard.proofs.exports.nurrispane_unit_fresh_in.Goals as goal
+
+pub returns-then-not-names_option : goal.returns-then-not-names_option
+unfolding lent_at watch_at
+returns-then-not-names_option c =
+    let args = c.args in
+    start_neither (watch_at args.times.now args.small.now args.wider.now args.due.now args.told.now)
+    (watch_at args.station-times.now args.station-small.now args.station-wider.now args.station-due.now args.station-told.now)
+    args.sent.now args.option args.provplace args.marks args.minimum c.names_option.result
+    c.names_option.ensures
+    (watch_at args.times.now args.small.now args.wider.now c.refuse.new.0 c.refuse.new.1.0)
+    (watch_at args.station-times.now args.station-small.now args.station-wider.now c.refuse-then-not-names_option.new.0 c.refuse-then-not-names_option.new.1.0)
+    (not-true _ c.if-not-names_option.true-raw)
+    (c.refuse.ensures (selector_at args.times.now args.small.now args.wider.now))
+    (c.refuse-then-not-names_option.ensures (selector_at args.station-times.now args.station-small.now args.station-wider.now))
+
+pub returns-then-number-eq-ACCEPTED : goal.returns-then-number-eq-ACCEPTED
+unfolding lent_at watch_at
+returns-then-number-eq-ACCEPTED c =
+    let args = c.args in
+    start_fresh (watch_at args.times.now args.small.now args.wider.now args.due.now args.told.now)
+    (watch_at args.station-times.now args.station-small.now args.station-wider.now args.station-due.now args.station-told.now)
+    args.sent.now args.option args.provplace args.marks args.minimum c.names_option.result
+    c.names_option.ensures
+    (watch_at c.start_half.new.0 c.start_half.new.1.0 c.start_half.new.1.1.0 c.start_half.new.1.1.1.0 c.start_half.new.1.1.1.1.0)
+    (watch_at c.start_half-then-number-eq-ACCEPTED.new.0 c.start_half-then-number-eq-ACCEPTED.new.1.0 c.start_half-then-number-eq-ACCEPTED.new.1.1.0 c.start_half-then-number-eq-ACCEPTED.new.1.1.1.0 c.start_half-then-number-eq-ACCEPTED.new.1.1.1.1.0)
+    (not-false _ c.if-not-names_option.false-raw)
+    c.profile_in-profile.result
+    c.profile_in-profile.ensures
+    c.unit_start_number-number.result
+    c.unit_start_number-number.ensures
+    c.send.new.1.1.1.0
+    c.if-number-eq-ACCEPTED.true
+    c.start_half.ensures
+    c.start_half-then-number-eq-ACCEPTED.ensures
+    c.send.ensures
+
+pub returns : goal.returns
+unfolding lent_at watch_at
+returns c =
+    let args = c.args in
+    start_refused (watch_at args.times.now args.small.now args.wider.now args.due.now args.told.now)
+    (watch_at args.station-times.now args.station-small.now args.station-wider.now args.station-due.now args.station-told.now)
+    args.sent.now args.option args.provplace args.marks args.minimum c.names_option.result
+    c.names_option.ensures
+    (watch_at args.times.now args.small.now args.wider.now c.refuse-2.new.0 c.refuse-2.new.1.0)
+    (watch_at args.station-times.now args.station-small.now args.station-wider.now c.refuse-3.new.0 c.refuse-3.new.1.0)
+    (not-false _ c.if-not-names_option.false-raw)
+    c.profile_in-profile.result
+    c.profile_in-profile.ensures
+    c.unit_start_number-number.result
+    c.unit_start_number-number.ensures
+    c.if-number-eq-ACCEPTED.false
+    (c.refuse-2.ensures (selector_at args.times.now args.small.now args.wider.now))
+    (c.refuse-3.ensures (selector_at args.station-times.now args.station-small.now args.station-wider.now))

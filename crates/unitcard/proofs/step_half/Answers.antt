@@ -1,0 +1,19 @@
+-- `unitcard::step_half` meets its contract: its own step, and what it answers. Assumes nothing.
+use Rattle.inplace.specs.Lists.{selector_at}
+use Rattle.onestep.specs.Watched.{watch_at}
+use Rattle.unit.specs.Kept.{half_step}
+use Rattle.unitcard.proofs.UnitcardLaws.{half-stepped}
+use borrow.Author.Rules.{rules}
+use Rattle.unitcard.proofs.step_half.Goals as goal
+
+pub returns : goal.returns
+returns c =
+    let args = c.args in
+    let step = c.half_step-number in
+    half-stepped (half_step (selector_at args.times.now args.small.now args.wider.now) args.goes args.event args.read) step.result
+    (selector_at step.new.0 step.new.1.0 step.new.1.1.0)
+    (watch_at step.new.0 step.new.1.0 step.new.1.1.0 c.tell_half.new.1.1.1.0
+    c.tell_half.new.1.1.1.1.0)
+    step.ensures.0
+    step.ensures.1
+    c.tell_half.ensures

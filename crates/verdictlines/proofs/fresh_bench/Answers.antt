@@ -1,0 +1,12 @@
+-- `verdictlines::fresh_bench` meets its contract: what is carried before any line, by its parts.
+-- Assumes nothing.
+use Rattle.onestep.specs.Watched.{watch_at}
+use Rattle.verdictlines.proofs.BenchLaws.{fresh-made}
+use borrow.Author.Rules.{rules}
+use Rattle.verdictlines.proofs.fresh_bench.Goals as goal
+
+pub returns : goal.returns
+unfolding watch_at
+returns c =
+    let log = c in
+    fresh-made log.args.view _ _ _ _ _ log.fresh_lane-fresh.ensures log.fresh_log-log.ensures c.shown_by-shows.ensures

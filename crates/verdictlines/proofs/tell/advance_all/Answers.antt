@@ -1,0 +1,32 @@
+-- `verdictlines::tell::advance_all` meets its contract: what is left of the spans leads to what all of them lead to.
+-- Assumes nothing.
+use Rattle.inplace.specs.Lists.{selector_at}
+use Rattle.verdictlines.specs.Stopped.{StaysStopped}
+use Rattle.verdictlines.specs.Told.{span_from, spans_since, spans_told_all}
+use Rattle.verdictlines.proofs.StoppedLaws.{stays_same, stays_then, stopped-laws}
+use Rattle.verdictlines.proofs.ToldLaws.{GoingAll, going_start_all, going-on-all, next-made, going-all-laws}
+use borrow.Author.Rules.{rules}
+use Rattle.verdictlines.proofs.tell.advance_all.Goals as goal
+
+pub loop-left-init : goal.loop-left-init
+loop-left-init c = (going_start_all _ _ _ _ _ _ _ c.span_end-to.ensures, stays_same _)
+
+pub returns-then-until-to : goal.returns-then-until-to
+returns-then-until-to c = (search going-all-laws, search going-all-laws, search stopped-laws)
+
+pub loop-left-preserved : goal.loop-left-preserved
+loop-left-preserved c =
+    let ticked = c in
+    let short = ticked in
+    let pushed = short.before in
+    let turn = pushed.before.before.before.before.before in
+    let start = turn.before.before.before.before.before in (
+      going-on-all _ _ _ _ _ _ _ turn.before.loop.invariant.0 turn.loop-test.true _ _
+          pushed.push-all.ensures.0 pushed.push-all.ensures.1 _
+          (next-made _ _ turn.before.loop.from _ _ _ _ ticked.next_span-to.ensures.0 ticked.next_span-to.ensures.1 (c.time_at-from.ensures ticked.next_span-to.new.1.0 start.args.wider.now))
+          short.if1.false,
+      stays_then _ _ _ turn.before.loop.invariant.1 pushed.push-all.ensures.2,
+    )
+
+pub returns : goal.returns
+returns c = (search going-all-laws, search going-all-laws, c.loop-left.invariant.1)

@@ -1,0 +1,19 @@
+-- `verdictlines::tell::push_codes` meets its contract: what is left of the ports leads to what all of them lead to.
+-- Assumes nothing.
+use Prim.Native.Nat.{◌-◌, ◌≤◌}
+use mathlib.Core.Path.{refl}
+use Rattle.verdictlines.specs.Stopped.{StaysStopped}
+use Rattle.verdictlines.specs.Told.{ports_told}
+use Rattle.verdictlines.proofs.StoppedLaws.{stays_same, stopped-laws}
+use Rattle.verdictlines.proofs.ToldLaws.{Ports, ports-laws}
+use borrow.Author.Rules.{rules}
+use Rattle.verdictlines.proofs.tell.push_codes.Goals as goal
+
+pub loop-number-init : goal.loop-number-init
+loop-number-init c = (search rules, refl, stays_same _)
+
+pub loop-number-preserved : goal.loop-number-preserved
+loop-number-preserved c = (search rules, search ports-laws, search stopped-laws)
+
+pub returns : goal.returns
+returns c = (search ports-laws, search ports-laws, c.loop-number.invariant.2)
