@@ -1,7 +1,7 @@
 -- The choice in one scan: the one that leads is what `specs/Choice` computes, with its rank and priority. Assumes
 -- nothing.
 use Prim.Native.Nat.{ℕ, ◌+◌, ◌≤◌, ◌<◌}
-use mathlib.Core.Bool.{Bool, true, false, not, ◌&&◌}
+use mathlib.Core.Bool.{true, not}
 use mathlib.Core.List.{List}
 use mathlib.Core.Path.{◌≡◌, refl, ap, sym, ◌∙◌}
 use native.Mathlib.Omega.{arith}
@@ -14,12 +14,11 @@ use Rattle.numbers.specs.declared.InputNumber.{InputNumber}
 use Rattle.numbers.specs.Inputs.{input_count}
 use Rattle.choice.specs.declared.Candidate.{Candidate}
 use Rattle.choice.specs.declared.Leader.{Leader}
-use Rattle.choice.specs.declared.Rank.{Rank}
 use Rattle.choice.specs.declared.Selection.{Selection}
 use Rattle.choice.specs.declared.Selection.TheVariants.{Nothing, At}
 use Rattle.choice.specs.Candidate.{nobody, is_eligible, is_better, eligible_among, better_among, any_lower}
-use Rattle.choice.specs.Choice.{Chosen, Best, seeded, offered, scanned, choose}
-use Rattle.choice.specs.Leader.{lead, no_leader, seed, best_of, is_passed, offer, leader_among, chosen_among, SeenAt}
+use Rattle.choice.specs.Choice.{Chosen, seeded, offered, scanned, choose}
+use Rattle.choice.specs.Leader.{seed, is_passed, offer, leader_among, chosen_among, SeenAt}
 use Rattle.choice.proofs.Choosing.{choose-chosen, selected-injective, nothing-selected}
 use Rattle.choice.proofs.Ranks.{is_better_ranking, lower-found, lower-none}
 use Rattle.choice.proofs.ChoiceLaws.{is_better_rank}

@@ -1,6 +1,6 @@
 -- The choice in one scan: the inputs are offered one by one, and of the one that leads its rank and priority are kept.
 -- Cited by `src/lib.rt`; `leader-seeded` and `leader-offered`: so the choice of `Choice` is made. Assumes nothing.
-use Rattle.std.specs.Prelude.{ℕ, ◌<◌, Bool, true, ◌&&◌, cond, List, ◌≡◌, ltb, get_or}
+use Rattle.std.specs.Prelude.{◌<◌, Bool, true, ◌&&◌, cond, List, ◌≡◌, ltb, get_or}
 use Rattle.numbers.specs.declared.InputNumber.{InputNumber}
 use Rattle.numbers.specs.Inputs.{input_count}
 use Rattle.numbers.specs.Quality.{not_told}

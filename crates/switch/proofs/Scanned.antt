@@ -1,10 +1,10 @@
 -- A choice by one scan is the choice of `specs/OneChoice`. Assumes nothing.
 use Prim.Native.Nat.{ℕ, ◌≤◌, ◌<◌}
-use mathlib.Core.Bool.{Bool, true, false, not, ◌&&◌}
+use mathlib.Core.Bool.{Bool, true, false}
 use mathlib.Core.List.{List}
-use mathlib.Core.Path.{◌≡◌, refl, ap, sym, ◌∙◌}
+use mathlib.Core.Path.{◌≡◌, refl, ap, sym}
 use native.Mathlib.Omega.{arith}
-use lib.Dec.{leb, ltb}
+use lib.Dec.{ltb}
 use lib.ListN.{length, get_or, get_or-eq_default}
 use borrow.Author.Tests.{ltb-true, ltb-false}
 use Rattle.numbers.proofs.Truth.{by_bool, both-second}
@@ -14,9 +14,9 @@ use Rattle.choice.specs.declared.Candidate.{Candidate}
 use Rattle.choice.specs.declared.Leader.{Leader}
 use Rattle.choice.specs.declared.Selection.{Selection}
 use Rattle.choice.specs.declared.Selection.TheVariants as S
-use Rattle.choice.specs.Candidate.{nobody, is_eligible, eligible_among, better_among, any_lower}
+use Rattle.choice.specs.Candidate.{nobody, is_eligible, eligible_among, better_among}
 use Rattle.choice.specs.Choice.{choose}
-use Rattle.choice.specs.Leader.{leader_among, chosen_among}
+use Rattle.choice.specs.Leader.{chosen_among}
 use Rattle.choice.proofs.Leading.{leader-selection, choice-eligible, choice-lowest}
 use Rattle.switch.specs.declared.Switch.{Switch}
 use Rattle.switch.specs.declared.Switch.TheVariants as W

@@ -2,7 +2,6 @@
 -- Cited by `src/lib.rt`; `decide_by-decide`: it is the choice of `OneChoice`. Assumes nothing.
 use Prim.{Unit}
 use Rattle.std.specs.Prelude.{Bool, true, false, ◌&&◌, cond, List, leb, ltb}
-use Rattle.numbers.specs.declared.InputNumber.{InputNumber}
 use Rattle.numbers.specs.Inputs.{input_count}
 use Rattle.choice.specs.declared.Candidate.{Candidate}
 use Rattle.choice.specs.declared.Leader.{Leader}

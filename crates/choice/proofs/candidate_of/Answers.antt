@@ -1,7 +1,6 @@
 -- `choice::candidate_of` meets its contract: each mode is a law.
 -- Assumes nothing.
 use Rattle.choice.proofs.ChoiceLaws.{candidateOf-laws}
-use borrow.Author.Rules.{rules}
 use Rattle.choice.proofs.candidate_of.Goals as goal
 
 pub returns-then-mode : goal.returns-then-mode

@@ -1,7 +1,6 @@
 -- `choice::is_usable` meets its contract: each way is a law.
 -- Assumes nothing.
 use Rattle.choice.proofs.ChoiceLaws.{isUsable-laws}
-use borrow.Author.Rules.{rules}
 use Rattle.choice.proofs.is_usable.Goals as goal
 
 pub returns-then-is_failed : goal.returns-then-is_failed

@@ -1,7 +1,6 @@
 -- `choice::rank_of` meets its contract: each way is a law.
 -- Assumes nothing.
 use Rattle.choice.proofs.ChoiceLaws.{rankOf-laws}
-use borrow.Author.Rules.{rules}
 use Rattle.choice.proofs.rank_of.Goals as goal
 
 pub returns-then-is_placed : goal.returns-then-is_placed

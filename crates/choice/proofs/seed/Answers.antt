@@ -1,7 +1,6 @@
 -- `choice::seed` meets its contract: each way is a law.
 -- Assumes nothing.
 use Rattle.choice.proofs.ChoiceLaws.{seed-laws}
-use borrow.Author.Rules.{rules}
 use Rattle.choice.proofs.seed.Goals as goal
 
 pub returns-then-is_eligible : goal.returns-then-is_eligible

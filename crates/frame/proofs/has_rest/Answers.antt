@@ -11,32 +11,6 @@ use Rattle.frame.proofs.Words.{low_first_at, has_rest, has_rest-one, has_rest_se
 use borrow.Author.Rules.{rules}
 use Rattle.frame.proofs.has_rest.Goals as goal
 
--- ---- the law for two octets and for one, of the rows that are lent
-abbrev rest_at : (c : tie.After-shared-slice-known2) → ℕ → ℕ → Bool
-rest_at c place start = let args = c.before.before.args in has_rest args.row.now args.wanted.now place start
-
-two-first : (c : tie.After-shared-slice-known2)
-    → let args = c.before.before.args in args.start + 2 ≤ length args.wanted.now
-    → rest_at c args.place args.start
-    ≡ (eqb (low_first_at 2 args.row.now args.place) (low_first_at 2 args.wanted.now args.start)
-    && rest_at c (args.place + 2) (args.start + 2))
-two-first c enough =
-    let args = c.before.before.args in
-    has_rest_several args.row.now args.wanted.now
-    c.before.shared-slice-known.given c.shared-slice-known2.given
-    args.place args.start 2 enough (omega arith)
-
-one_last : (c : tie.After-shared-slice-known2) (place start : ℕ)
-    → let args = c.before.before.args in start + 1 ≡ length args.wanted.now
-    → place + 1 ≤ length args.row.now
-    → rest_at c place start ≡ eqb (get_or args.row.now place 0) (get_or args.wanted.now start 0)
-one_last c place start last inside =
-    let args = c.before.before.args in
-    has_rest-one args.row.now args.wanted.now
-    c.before.shared-slice-known.given c.shared-slice-known2.given
-    place start (omega arith) (omega arith)
-    ∙ rw (has_rest-end args.row.now args.wanted.now (place + 1) (start + 1) last) (and-true _)
-
 pub returns-then-left-lt1 : goal.returns-then-left-lt1
 returns-then-left-lt1 c =
     let args = c.args in
@@ -44,25 +18,56 @@ returns-then-left-lt1 c =
 
 pub returns-then-left-lt2 : goal.returns-then-left-lt2
 returns-then-left-lt2 c =
-    let known = c in
+    let rest_at : ℕ → ℕ → Bool =
+    λ place start. let args = c.args in has_rest args.row.now args.wanted.now place start in
+    let one_last : (place start : ℕ)
+    → let args = c.args in start + 1 ≡ length args.wanted.now
+    → place + 1 ≤ length args.row.now
+    → rest_at place start ≡ eqb (get_or args.row.now place 0) (get_or args.wanted.now start 0) =
+    λ place start last inside. let args = c.args in
+    has_rest-one args.row.now args.wanted.now
+    c.shared_slice_known-1.given c.shared_slice_known-2-1.given
+    place start (omega arith) (omega arith)
+    ∙ rw (has_rest-end args.row.now args.wanted.now (place + 1) (start + 1) last) (and-true _) in
+        let known = c in
     let args = known.args in
-    sym (one_last known args.place args.start (omega arith) (omega arith))
+    sym (one_last args.place args.start (omega arith) (omega arith))
 
 pub returns-then-two_octets : goal.returns-then-two_octets
 returns-then-two_octets c =
-    let compared = c in
+    let rest_at : ℕ → ℕ → Bool =
+    λ place start. let args = c.args in has_rest args.row.now args.wanted.now place start in
+    let two-first : let args = c.args in args.start + 2 ≤ length args.wanted.now
+    → rest_at args.place args.start
+    ≡ (eqb (low_first_at 2 args.row.now args.place) (low_first_at 2 args.wanted.now args.start)
+    && rest_at (args.place + 2) (args.start + 2)) =
+    λ enough. let args = c.args in
+    has_rest_several args.row.now args.wanted.now
+    c.shared_slice_known-1.given c.shared_slice_known-2-1.given
+    args.place args.start 2 enough (omega arith) in
+        let compared = c in
     let known = compared in
     sym
-    (two-first known (omega arith)
+    (two-first (omega arith)
     ∙ rw (← compared.two_octets.ensures.0, ← compared.two_octets-2.ensures.0, ne_eqb _ _ c.if-two_octets.true))
 
 pub returns-then-left-lt3 : goal.returns-then-left-lt3
 returns-then-left-lt3 c =
-    let compared = c in
+    let rest_at : ℕ → ℕ → Bool =
+    λ place start. let args = c.args in has_rest args.row.now args.wanted.now place start in
+    let two-first : let args = c.args in args.start + 2 ≤ length args.wanted.now
+    → rest_at args.place args.start
+    ≡ (eqb (low_first_at 2 args.row.now args.place) (low_first_at 2 args.wanted.now args.start)
+    && rest_at (args.place + 2) (args.start + 2)) =
+    λ enough. let args = c.args in
+    has_rest_several args.row.now args.wanted.now
+    c.shared_slice_known-1.given c.shared_slice_known-2-1.given
+    args.place args.start 2 enough (omega arith) in
+        let compared = c in
     let known = compared in
-    let args = known.before.before.args in
+    let args = known.args in
     sym
-    (two-first known (omega arith)
+    (two-first (omega arith)
     ∙ rw (
       ← compared.two_octets.ensures.0,
       ← compared.two_octets-2.ensures.0,
@@ -72,15 +77,34 @@ returns-then-left-lt3 c =
 
 pub returns : goal.returns
 returns c =
-    let passed = c in
+    let rest_at : ℕ → ℕ → Bool =
+    λ place start. let args = c.args in has_rest args.row.now args.wanted.now place start in
+    let two-first : let args = c.args in args.start + 2 ≤ length args.wanted.now
+    → rest_at args.place args.start
+    ≡ (eqb (low_first_at 2 args.row.now args.place) (low_first_at 2 args.wanted.now args.start)
+    && rest_at (args.place + 2) (args.start + 2)) =
+    λ enough. let args = c.args in
+    has_rest_several args.row.now args.wanted.now
+    c.shared_slice_known-1.given c.shared_slice_known-2-1.given
+    args.place args.start 2 enough (omega arith) in
+    let one_last : (place start : ℕ)
+    → let args = c.args in start + 1 ≡ length args.wanted.now
+    → place + 1 ≤ length args.row.now
+    → rest_at place start ≡ eqb (get_or args.row.now place 0) (get_or args.wanted.now start 0) =
+    λ place start last inside. let args = c.args in
+    has_rest-one args.row.now args.wanted.now
+    c.shared_slice_known-1.given c.shared_slice_known-2-1.given
+    place start (omega arith) (omega arith)
+    ∙ rw (has_rest-end args.row.now args.wanted.now (place + 1) (start + 1) last) (and-true _) in
+        let passed = c in
     let compared = passed in
-    let known = compared.before.before.before.before in
-    let args = known.before.before.args in
+    let known = compared in
+    let args = known.args in
     sym
-    (two-first known (omega arith)
+    (two-first (omega arith)
     ∙ rw (
-      ← compared.before.two-octets.ensures.0,
-      ← compared.two-octets2.ensures.0,
+      ← compared.two_octets.ensures.0,
+      ← compared.two_octets-2.ensures.0,
       eq-eqb _ _ passed.if-two_octets.false,
-      one_last known (args.place + 2) (args.start + 2) (omega arith) (omega arith),
+      one_last (args.place + 2) (args.start + 2) (omega arith) (omega arith),
     ))

@@ -57,9 +57,9 @@ returns-then-four_octets c =
     let compared = c in
     let loop = compared in
     sym
-    (inside loop.before
-    ∙ sym loop.loop.invariant.1
-    ∙ four-next loop.before loop.loop.passed (omega arith) (omega arith)
+    (inside loop
+    ∙ sym loop.loop-passed.invariant.1
+    ∙ four-next loop loop.loop-passed.passed (omega arith) (omega arith)
     ∙ rw (
       ← compared.four_octets.ensures.0,
       ← compared.four_octets-in-loop-passed.ensures.0,
@@ -70,10 +70,10 @@ pub loop-passed-preserved : goal.loop-passed-preserved
 loop-passed-preserved c =
     let compared = c in
     let loop = compared in
-    let args = loop.before.before.before.before.before.args in
-    let next = four-next loop.before loop.loop.passed (omega arith) (omega arith) in (
+    let args = loop.args in
+    let next = four-next loop loop.loop-passed.passed (omega arith) (omega arith) in (
       omega arith,
-      rw (← add_assoc args.place loop.loop.passed 4)
+      rw (← add_assoc args.place loop.loop-passed.passed 4)
           (sym
           (next
           ∙ rw (
@@ -81,7 +81,7 @@ loop-passed-preserved c =
             ← compared.four_octets-in-loop-passed.ensures.0,
             eq-eqb _ _ c.if-four_octets.false,
           ))
-          ∙ loop.loop.invariant.1),
+          ∙ loop.loop-passed.invariant.1),
     )
 
 pub returns : goal.returns

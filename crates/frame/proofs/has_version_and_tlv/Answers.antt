@@ -9,6 +9,6 @@ pub returns : goal.returns
 returns c =
     let masks = c in
     let found = masks in
-    let known = found.before in
-    rw (found.eight-octets.ensures, masks.eight_octets-2.ensures, c.eight_octets-3.ensures)
-    (version_and_tlv known.before.args.frame.now (omega arith) known.shared-slice-known.given)
+    let known = found in
+    rw (found.eight_octets.ensures, masks.eight_octets-2.ensures, c.eight_octets-3.ensures)
+    (version_and_tlv known.args.frame.now (omega arith) known.shared_slice_known-1.given)

@@ -11,9 +11,9 @@ unfolding data_octets
 returns c =
     let put3 = c in
     let put2 = put3 in
-    let put1 = put2.before.before.before.before.before in
-    let start = put1.before.before.before.before in
+    let put1 = put2 in
+    let start = put1 in
     let buffer = start.args.buffer.now in
-    let to27 = put-row buffer _ _ 25 28 put1.put-octets.ensures refl in
-    let to28 = put_next buffer _ _ _ _ 25 28 29 to27 put2.put-octets2.ensures refl (omega arith) (omega arith) in
+    let to27 = put-row buffer _ _ 25 28 put1.put_octets.ensures refl in
+    let to28 = put_next buffer _ _ _ _ 25 28 29 to27 put2.put_octets-2.ensures refl (omega arith) (omega arith) in
     (put_next buffer _ _ _ _ 25 29 61 to28 put3.put_octets-3.ensures refl (omega arith) (omega arith)).content

@@ -7,10 +7,6 @@ use Rattle.frame.proofs.ReadLaws.{frame_number-accepted, read_code_accepted, rea
 use borrow.Author.Rules.{rules}
 use Rattle.frame.proofs.read_frame.Goals as goal
 
--- where a code was read, the frame is accepted
-accepts : (c : tie.After-enum-told) → frame_number c.before.before.before.before.args.frame.now ≡ accepted
-accepts c = read_code_accepted _ _ (sym c.before.before.read-code.ensures ∙ c.enum_told.given.1)
-
 pub returns-in_default : goal.returns-in_default
 returns-in_default c =
     let read = c.read_code-read in
@@ -18,13 +14,21 @@ returns-in_default c =
     (sym (read_frame-untold _ (read_code_unaccepted _ _ (sym read.ensures ∙ c.in_default.is))))
 
 pub event_flag-event-requires : goal.event_flag-event-requires
-event_flag-event-requires c = frame_number-accepted _ (accepts c)
+event_flag-event-requires c =
+    let accepts : frame_number c.args.frame.now ≡ accepted =
+    read_code_accepted _ _ (sym c.read_code-read.ensures ∙ c.in-Code.is) in
+     frame_number-accepted _ (accepts
 
 pub source_address-source-requires : goal.source_address-source-requires
-source_address-source-requires c = frame_number-accepted _ (accepts c)
+source_address-source-requires c =
+    let accepts : frame_number c.args.frame.now ≡ accepted =
+    read_code_accepted _ _ (sym c.read_code-read.ensures ∙ c.in-Code.is) in
+     frame_number-accepted _ (accepts
 
 pub returns : goal.returns
 returns c =
-    let told = c in
+    let accepts : frame_number c.args.frame.now ≡ accepted =
+    read_code_accepted _ _ (sym c.read_code-read.ensures ∙ c.in-Code.is) in
+        let told = c in
     rw (told.read_code-read.ensures, c.event_flag-event.ensures, c.source_address-source.ensures)
-    (sym (read_frame-told _ (accepts told)))
+    (sym (read_frame-told _ (accepts))

@@ -10,15 +10,15 @@ pub returns : goal.returns
 returns c =
     let o5 = c in
     let o4 = o5 in
-    let o3 = o4.before in
-    let o2 = o3.before in
-    let o1 = o2.before in
+    let o3 = o4 in
+    let o2 = o3 in
+    let o1 = o2 in
     rw (
       o1.octet.ensures,
-      o2.octet2.ensures,
-      o3.octet3.ensures,
-      o4.octet4.ensures,
+      o2.octet-2.ensures,
+      o3.octet-3.ensures,
+      o4.octet-4.ensures,
       o5.octet-5.ensures,
       c.octet-6.ensures,
     )
-    (sym (source_address-six o1.before.before.args.frame.now (omega arith)))
+    (sym (source_address-six o1.args.frame.now (omega arith)))

@@ -18,17 +18,17 @@ pub returns : goal.returns
 returns c =
     let data-put = c in
     let header-put = data-put in
-    let long = header-put.before.before in
-    let six = long.before in
-    let fits = six.before in
-    let args = fits.before.before.before.args in
+    let long = header-put in
+    let six = long in
+    let fits = six in
+    let args = fits.args in
     write_frame_written
     args.buffer.now
     args.source.now
     args.event
     args.code
     _
-    (write_answer-written _ _ _ fits.if1.false six.if2.false long.if3.false)
+    (write_answer-written _ _ _ fits.if-code-gt-LARGEST_CODE.false six.if-source-ne-SOURCE_LENGTH.false long.if-buffer-lt-WRITTEN_LENGTH.false)
     (frame_octets-put
     args.buffer.now
     args.source.now
@@ -36,7 +36,7 @@ returns c =
     _
     args.event
     args.code
-    six.if2.false
-    long.if3.false
-    header-put.put-header.ensures
+    six.if-source-ne-SOURCE_LENGTH.false
+    long.if-buffer-lt-WRITTEN_LENGTH.false
+    header-put.put_header.ensures
     data-put.put_data.ensures)

@@ -15,10 +15,6 @@ use Rattle.frametext.proofs.MessageLaws.{octets-front, octets-within, message_li
 use borrow.Author.Rules.{rules}
 use Rattle.frametext.proofs.message_line.Goals as goal
 
--- past the first test all are digits
-digits_of : (c : tie.Else1) → all_digits c.before.before.before.args.line.now ≡ true
-digits_of c = sym c.before.all_digits.ensures ∙ not-false _ c.if1.false
-
 pub returns-then-not-all_digits : goal.returns-then-not-all_digits
 returns-then-not-all_digits c =
     c.number_line.ensures
@@ -29,21 +25,28 @@ returns-then-line-ne0 c = c.number_line-then-line-ne0.ensures ∙ message_line_o
 
 pub returns-then-count-gt-LONGEST_FRAME : goal.returns-then-count-gt-LONGEST_FRAME
 returns-then-count-gt-LONGEST_FRAME c =
-    let even = c in
-    let digits = digits_of even in
+    let digits_of : all_digits c.args.line.now ≡ true =
+    sym c.all_digits.ensures ∙ not-false _ c.if-not-all_digits.false-raw in
+        let even = c in
+    let digits = digits_of in
     c.number_line-then-count-gt-LONGEST_FRAME.ensures ∙ message_line-long _ digits even.if-line-ne0.false c.if-count-gt-LONGEST_FRAME.true
 
 pub octets_of-octets-requires : goal.octets_of-octets-requires
-octets_of-octets-requires c = (digits_of c, omega arith)
+octets_of-octets-requires c =
+    let digits_of : all_digits c.args.line.now ≡ true =
+    sym c.all_digits.ensures ∙ not-false _ c.if-not-all_digits.false-raw in
+     (digits_of, omega arith)
 
 pub slice_bounds-read_frame-end : goal.slice_bounds-read_frame-end
 slice_bounds-read_frame-end c = sym (length-take-le _ _ (octets-within _ _ c.octets_of-octets.ensures))
 
 pub returns : goal.returns
 returns c =
-    let octets = c in
+    let digits_of : all_digits c.args.line.now ≡ true =
+    sym c.all_digits.ensures ∙ not-false _ c.if-not-all_digits.false-raw in
+        let octets = c in
     let even = octets in
     c.line_of.ensures
     ∙ ap (λ (message : FrameMessage). in_front (message_text message)) c.read_frame.ensures
     ∙ ap (λ (frame : List ℕ). in_front (message_text (read_frame frame))) (octets-front _ _ octets.octets_of-octets.ensures)
-    ∙ message_line-frame _ (digits_of even.before) even.if2.false
+    ∙ message_line-frame _ (digits_of even.if-line-ne0.false

@@ -28,9 +28,9 @@ pub returns : goal.returns
 returns c =
     let seeded = c in
     let modes = seeded in
-    let args = modes.before.before.args in
-    let profile = modes.before.profile-at.ensures args.times.now in
-    let mode = modes.mode-at.ensures args.times.now args.wider.now in
+    let args = modes.args in
+    let profile = modes.profile_at-profile.ensures args.times.now in
+    let mode = modes.mode_at-mode.ensures args.times.now args.wider.now in
     leader-end args.times.now args.small.now args.wider.now _ _ args.before _ _
     (c.loop-number.invariant.1 args.before
     (leader-begin args.times.now args.small.now args.wider.now _ _ args.before _ _ _ profile mode

@@ -9,28 +9,28 @@ pub returns : goal.returns
 returns c =
     let decided = c in
     let leader = decided in
-    let own = leader.before.before in
-    let on = own.before.before in
-    let held = on.before in
-    let selection = held.before.before in
-    let switch = selection.before.before in
-    let args = switch.before.before.args in
+    let own = leader in
+    let on = own in
+    let held = on in
+    let selection = held in
+    let switch = selection in
+    let args = switch.args in
     chosen (selector_at args.times.now args.small.now args.wider.now)
     (selector_at args.times.now c.put_choice.new.0 args.wider.now)
     decided.decide-choice.result
-    switch.switch-at.result
-    selection.selection-at.result
-    held.was-locked-at.result
-    on.switch-input.result
-    own.candidate-at.result
-    leader.leader-at.result
+    switch.switch_at-switch.result
+    selection.selection_at-selection.result
+    held.was_locked_at-waslocked.result
+    on.switch_input.result
+    own.candidate_at-own.result
+    leader.leader_at-leader.result
     (switch-on args.times.now args.small.now args.wider.now)
     (inputs-length args.times.now args.small.now args.wider.now)
     (c.put_choice.ensures args.times.now args.wider.now)
     decided.decide-choice.ensures
-    leader.leader-at.ensures
-    own.candidate-at.ensures
-    on.switch-input.ensures
-    (switch.switch-at.ensures args.times.now args.wider.now)
-    (selection.selection-at.ensures args.times.now args.wider.now)
-    (held.was-locked-at.ensures args.times.now args.wider.now)
+    leader.leader_at-leader.ensures
+    own.candidate_at-own.ensures
+    on.switch_input.ensures
+    (switch.switch_at-switch.ensures args.times.now args.wider.now)
+    (selection.selection_at-selection.ensures args.times.now args.wider.now)
+    (held.was_locked_at-waslocked.ensures args.times.now args.wider.now)

@@ -1,7 +1,6 @@
 -- `input::can_expire` meets its contract: each way is a law.
 -- Assumes nothing.
 use Rattle.input.proofs.RecordLaws.{canExpire-laws}
-use borrow.Author.Rules.{rules}
 use Rattle.input.proofs.can_expire.Goals as goal
 
 pub returns-then-settings-eq0 : goal.returns-then-settings-eq0

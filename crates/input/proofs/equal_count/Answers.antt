@@ -1,7 +1,6 @@
 -- `input::equal_count` meets its contract: each way is a law.
 -- Assumes nothing.
 use Rattle.input.proofs.RecordLaws.{equalCount-laws}
-use borrow.Author.Rules.{rules}
 use Rattle.input.proofs.equal_count.Goals as goal
 
 pub returns-then-reports-lt-REPORTS_NEEDED : goal.returns-then-reports-lt-REPORTS_NEEDED

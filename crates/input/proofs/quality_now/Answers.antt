@@ -1,7 +1,6 @@
 -- `input::quality_now` meets its contract: each way is a law.
 -- Assumes nothing.
 use Rattle.input.proofs.RecordLaws.{qualityNow-laws}
-use borrow.Author.Rules.{rules}
 use Rattle.input.proofs.quality_now.Goals as goal
 
 pub returns-then-takes_frames : goal.returns-then-takes_frames

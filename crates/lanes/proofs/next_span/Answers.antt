@@ -11,8 +11,8 @@ pub returns : goal.returns
 returns c =
     let ticked = c in
     let time = ticked in
-    let args = time.before.args in
+    let args = time.args in
     let state = selector_at args.times.now args.small.now args.wider.now in (
-      ticked.tick_once-due.ensures.0 ∙ ap (ticked_once state) time.behind.ensures,
+      ticked.tick_once-due.ensures.0 ∙ ap (ticked_once state) time.behind-time.ensures,
       c.end_before.ensures ∙ ap (λ (due : ℕ). min args.until (due - 1)) ticked.tick_once-due.ensures.1,
     )

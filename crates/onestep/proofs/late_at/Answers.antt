@@ -10,11 +10,11 @@ pub returns-then-is_judged_late : goal.returns-then-is_judged_late
 returns-then-is_judged_late c =
     let leader = c in
     let own = leader in
-    let args = own.before.before.before.args in
+    let args = own.args in
     late-judged (selector_at args.times.now args.small.now args.wider.now) args.event
-    c.switch_at-switch.result own.candidate-at.result leader.leader_at-leader.result c.late_refusal.result S.Nothing
+    c.switch_at-switch.result own.candidate_at-own.result leader.leader_at-leader.result c.late_refusal.result S.Nothing
     (c.switch_at-switch.ensures args.times.now args.wider.now)
-    own.candidate-at.ensures
+    own.candidate_at-own.ensures
     leader.leader_at-leader.ensures
     (inputs-length args.times.now args.small.now args.wider.now)
     c.late_refusal.ensures

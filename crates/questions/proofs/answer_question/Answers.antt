@@ -42,6 +42,6 @@ pub returns : goal.returns
 returns c =
     let source = c in
     let port = source in
-    let read = port.before.before in
-    answered-asked _ _ _ _ read.before.if1.false read.read-question.ensures _ _ _ _ _ _ _ port.port.given.1
+    let read = port in
+    answered-asked _ _ _ _ read.if-line-gt-LONGEST_QUESTION.false read.read_question.ensures _ _ _ _ _ _ _ port.in-Question.is
     source.source_octets-source.ensures.0 source.source_octets-source.ensures.1 c.ask.ensures

@@ -33,30 +33,30 @@ pub slice_bounds-is_source-count : goal.slice_bounds-is_source-count
 slice_bounds-is_source-count c =
     let k3 = c in
     let r3 = k3 in
-    let k2 = r3.before in
-    let r2 = k2.before.before.before in
-    let k1 = r2.before in
-    let r1 = k1.before.before.before in
-    let spaced = r1.before in
-    let marked = spaced.before.before in
-    let long = marked.before.before in
+    let k2 = r3 in
+    let r2 = k2 in
+    let k1 = r2 in
+    let r1 = k1 in
+    let spaced = r1 in
+    let marked = spaced in
+    let long = marked in
     start_inside
-    long.before.before.args.line.now
-    long.if1.false
-    marked.if2.false
-    spaced.if3.false
-    r1.read-part.result
-    r1.read-part.ensures
+    long.args.line.now
+    long.if-line-lt2.false
+    marked.if-line-ne-MARK.false
+    spaced.if-line-ne-SPACE.false
+    r1.read_part.result
+    r1.read_part.ensures
     _
     _
-    k1.before.port.given.1
-    r2.read-part2.result
-    r2.read-part2.ensures
+    k1.in-Number.is
+    r2.read_part-2.result
+    r2.read_part-2.ensures
     _
     _
-    k2.before.time.given.1
-    r3.read-part3.result
-    r3.read-part3.ensures
+    k2.in-Number-read_part.is
+    r3.read_part-3.result
+    r3.read_part-3.ensures
     _
     _
     k3.in-Number-read_part-2.is
@@ -65,30 +65,30 @@ pub slice_bounds-is_source-start : goal.slice_bounds-is_source-start
 slice_bounds-is_source-start c =
     let k3 = c in
     let r3 = k3 in
-    let k2 = r3.before in
-    let r2 = k2.before.before.before in
-    let k1 = r2.before in
-    let r1 = k1.before.before.before in
-    let spaced = r1.before in
-    let marked = spaced.before.before in
-    let long = marked.before.before in
+    let k2 = r3 in
+    let r2 = k2 in
+    let k1 = r2 in
+    let r1 = k1 in
+    let spaced = r1 in
+    let marked = spaced in
+    let long = marked in
     start_inside
-    long.before.before.args.line.now
-    long.if1.false
-    marked.if2.false
-    spaced.if3.false
-    r1.read-part.result
-    r1.read-part.ensures
+    long.args.line.now
+    long.if-line-lt2.false
+    marked.if-line-ne-MARK.false
+    spaced.if-line-ne-SPACE.false
+    r1.read_part.result
+    r1.read_part.ensures
     _
     _
-    k1.before.port.given.1
-    r2.read-part2.result
-    r2.read-part2.ensures
+    k1.in-Number.is
+    r2.read_part-2.result
+    r2.read_part-2.ensures
     _
     _
-    k2.before.time.given.1
-    r3.read-part3.result
-    r3.read-part3.ensures
+    k2.in-Number-read_part.is
+    r3.read_part-3.result
+    r3.read_part-3.ensures
     _
     _
     k3.in-Number-read_part-2.is
@@ -97,30 +97,30 @@ pub returns-then-not-is_source : goal.returns-then-not-is_source
 returns-then-not-is_source c =
     let k3 = c in
     let r3 = k3 in
-    let k2 = r3.before in
-    let r2 = k2.before.before.before in
-    let k1 = r2.before in
-    let r1 = k1.before.before.before in
-    let spaced = r1.before in
-    let marked = spaced.before.before in
-    let long = marked.before.before in
+    let k2 = r3 in
+    let r2 = k2 in
+    let k1 = r2 in
+    let r1 = k1 in
+    let spaced = r1 in
+    let marked = spaced in
+    let long = marked in
     question_no_source
-    long.before.before.args.line.now
-    long.if1.false
-    marked.if2.false
-    spaced.if3.false
-    r1.read-part.result
-    r1.read-part.ensures
+    long.args.line.now
+    long.if-line-lt2.false
+    marked.if-line-ne-MARK.false
+    spaced.if-line-ne-SPACE.false
+    r1.read_part.result
+    r1.read_part.ensures
     _
     _
-    k1.before.port.given.1
-    r2.read-part2.result
-    r2.read-part2.ensures
+    k1.in-Number.is
+    r2.read_part-2.result
+    r2.read_part-2.ensures
     _
     _
-    k2.before.time.given.1
-    r3.read-part3.result
-    r3.read-part3.ensures
+    k2.in-Number-read_part.is
+    r3.read_part-3.result
+    r3.read_part-3.ensures
     _
     _
     k3.in-Number-read_part-2.is
@@ -132,30 +132,30 @@ pub returns : goal.returns
 returns c =
     let k3 = c in
     let r3 = k3 in
-    let k2 = r3.before in
-    let r2 = k2.before.before.before in
-    let k1 = r2.before in
-    let r1 = k1.before.before.before in
-    let spaced = r1.before in
-    let marked = spaced.before.before in
-    let long = marked.before.before in
+    let k2 = r3 in
+    let r2 = k2 in
+    let k1 = r2 in
+    let r1 = k1 in
+    let spaced = r1 in
+    let marked = spaced in
+    let long = marked in
     question-is
-    long.before.before.args.line.now
-    long.if1.false
-    marked.if2.false
-    spaced.if3.false
-    r1.read-part.result
-    r1.read-part.ensures
+    long.args.line.now
+    long.if-line-lt2.false
+    marked.if-line-ne-MARK.false
+    spaced.if-line-ne-SPACE.false
+    r1.read_part.result
+    r1.read_part.ensures
     _
     _
-    k1.before.port.given.1
-    r2.read-part2.result
-    r2.read-part2.ensures
+    k1.in-Number.is
+    r2.read_part-2.result
+    r2.read_part-2.ensures
     _
     _
-    k2.before.time.given.1
-    r3.read-part3.result
-    r3.read-part3.ensures
+    k2.in-Number-read_part.is
+    r3.read_part-3.result
+    r3.read_part-3.ensures
     _
     _
     k3.in-Number-read_part-2.is

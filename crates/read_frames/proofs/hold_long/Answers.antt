@@ -8,10 +8,6 @@ use Rattle.read_frames.specs.Frames.{longest_frame_line, held_long_after}
 use borrow.Author.Rules.{rules}
 use Rattle.read_frames.proofs.hold_long.Goals as goal
 
--- past the first test the character is a digit
-digit : (c : tie.Else1) → is_digit c.before.before.before.args.character ≡ true
-digit c = sym c.before.is_digit.ensures ∙ not-false _ c.if1.false
-
 pub returns-then-not-is_digit : goal.returns-then-not-is_digit
 unfolding held_long_after
 returns-then-not-is_digit c = rw (sym c.is_digit.ensures ∙ not-true _ c.if-not-is_digit.true-raw)
@@ -19,9 +15,11 @@ returns-then-not-is_digit c = rw (sym c.is_digit.ensures ∙ not-true _ c.if-not
 pub returns-then-all_digits : goal.returns-then-all_digits
 unfolding held_long_after
 returns-then-all_digits c =
-    let full = c in
+    let digit : is_digit c.args.character ≡ true =
+    sym c.is_digit.ensures ∙ not-false _ c.if-not-is_digit.false-raw in
+        let full = c in
     rw (
-      digit full,
+      digit,
       eq-eqb _ longest_frame_line full.if-buffered-eq-LONGEST_LINE.true,
       sym c.all_digits.ensures ∙ c.if-all_digits.true,
     )
@@ -29,9 +27,11 @@ returns-then-all_digits c =
 pub returns-then-buffered-eq-LONGEST_LINE : goal.returns-then-buffered-eq-LONGEST_LINE
 unfolding held_long_after
 returns-then-buffered-eq-LONGEST_LINE c =
-    let full = c in
+    let digit : is_digit c.args.character ≡ true =
+    sym c.is_digit.ensures ∙ not-false _ c.if-not-is_digit.false-raw in
+        let full = c in
     rw (
-      digit full,
+      digit,
       eq-eqb _ longest_frame_line full.if-buffered-eq-LONGEST_LINE.true,
       sym c.all_digits.ensures ∙ c.if-all_digits.false,
     )
@@ -39,17 +39,21 @@ returns-then-buffered-eq-LONGEST_LINE c =
 pub returns-then-buffered-eq-LONG_ODD : goal.returns-then-buffered-eq-LONG_ODD
 unfolding held_long_after
 returns-then-buffered-eq-LONG_ODD c =
-    let over = c in
-    rw (digit over, ne_eqb _ longest_frame_line over.if-buffered-eq-LONGEST_LINE.false, eq-eqb _ 3029 c.if-buffered-eq-LONG_ODD.true)
+    let digit : is_digit c.args.character ≡ true =
+    sym c.is_digit.ensures ∙ not-false _ c.if-not-is_digit.false-raw in
+        let over = c in
+    rw (digit, ne_eqb _ longest_frame_line over.if-buffered-eq-LONGEST_LINE.false, eq-eqb _ 3029 c.if-buffered-eq-LONG_ODD.true)
 
 pub returns-then-buffered-eq-LONG_EVEN : goal.returns-then-buffered-eq-LONG_EVEN
 unfolding held_long_after
 returns-then-buffered-eq-LONG_EVEN c =
-    let even = c in
+    let digit : is_digit c.args.character ≡ true =
+    sym c.is_digit.ensures ∙ not-false _ c.if-not-is_digit.false-raw in
+        let even = c in
     let over = even in
     rw (
-      digit over.before,
-      ne_eqb _ longest_frame_line over.if2.false,
+      digit,
+      ne_eqb _ longest_frame_line over.if-buffered-eq-LONGEST_LINE.false,
       ne_eqb _ 3029 even.if-buffered-eq-LONG_ODD.false,
       eq-eqb _ 3030 c.if-buffered-eq-LONG_EVEN.true,
     )
@@ -57,11 +61,13 @@ returns-then-buffered-eq-LONG_EVEN c =
 pub returns : goal.returns
 unfolding held_long_after
 returns c =
-    let even = c in
+    let digit : is_digit c.args.character ≡ true =
+    sym c.is_digit.ensures ∙ not-false _ c.if-not-is_digit.false-raw in
+        let even = c in
     let over = even in
     rw (
-      digit over.before,
-      ne_eqb _ longest_frame_line over.if2.false,
+      digit,
+      ne_eqb _ longest_frame_line over.if-buffered-eq-LONGEST_LINE.false,
       ne_eqb _ 3029 even.if-buffered-eq-LONG_ODD.false,
       ne_eqb _ 3030 c.if-buffered-eq-LONG_EVEN.false,
     )

@@ -8,28 +8,34 @@ use Rattle.replayer.proofs.Written.{put-text}
 use borrow.Author.Rules.{rules}
 use Rattle.read_frames.proofs.put_message.Goals as goal
 
-twenty : (c : tie.Start) → 20 ≡ length c.args.t3
-twenty c = search rules
-
--- so many characters are there
-size : (c : tie.Start) → length (take c.args.count c.args.t3) ≡ c.args.count
-size c = length-take-le _ _ (omega (arith, c.requires.0, twenty c))
-
 pub slice_bounds-copy-end : goal.slice_bounds-copy-end
-slice_bounds-copy-end c = sym (size c)
+slice_bounds-copy-end c =
+    let twenty : 20 ≡ length c.args.t3 =
+    search rules in
+    let size : length (take c.args.count c.args.t3) ≡ c.args.count =
+    length-take-le _ _ (omega (arith, c.requires.0, twenty) in
+     sym (size
 
 pub copy-copied-requires : goal.copy-copied-requires
 copy-copied-requires c =
-    let start = c in
-    let long = size start in
+    let twenty : 20 ≡ length c.args.t3 =
+    search rules in
+    let size : length (take c.args.count c.args.t3) ≡ c.args.count =
+    length-take-le _ _ (omega (arith, c.requires.0, twenty) in
+        let start = c in
+    let long = size in
     let room = start.requires in
     search rules
 
 pub overflow_add-result : goal.overflow_add-result
 overflow_add-result c =
-    let k = c in
+    let twenty : 20 ≡ length c.args.t3 =
+    search rules in
+    let size : length (take c.args.count c.args.t3) ≡ c.args.count =
+    length-take-le _ _ (omega (arith, c.requires.0, twenty) in
+        let k = c in
     let start = k in
-    let long = size start in
+    let long = size in
     let room = start.requires in
     let copied = k.copy-copied.ensures.0 in
     search rules

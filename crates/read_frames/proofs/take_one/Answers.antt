@@ -16,12 +16,12 @@ pub returns-then-character-eq-LINE_FEED : goal.returns-then-character-eq-LINE_FE
 returns-then-character-eq-LINE_FEED c =
     let put = c in
     let message = put in
-    let feed = message.before.before.if1.true in (
-      one-within _ _ _ _ _ _ message.held-message.ensures.0 put.put_message.ensures,
+    let feed = message.if-character-eq-LINE_FEED.true in (
+      one-within _ _ _ _ _ _ message.held_message-message.ensures.0 put.put_message.ensures,
       λ come holds. record {
         ended = λ _. (
           refl,
-          put_same (told_text_lem come (message.held-message.ensures.2 come holds)) put.put_message.ensures,
+          put_same (told_text_lem come (message.held_message-message.ensures.2 come holds)) put.put_message.ensures,
         );
         kept = λ other. absurd (other feed);
         holds = λ other. absurd (other feed);

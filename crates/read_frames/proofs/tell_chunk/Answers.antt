@@ -23,25 +23,25 @@ pub take_one-told-requires : goal.take_one-told-requires
 take_one-told-requires c =
     let test = c in
     let l = test in
-    let start = l.before.before.before.before in (
-      l.loop.invariant.0,
-      omega (arith, l.loop.invariant.1, l.loop.invariant.3, test.loop-passed-test.true, start.requires.1),
+    let start = l in (
+      l.loop-passed.invariant.0,
+      omega (arith, l.loop-passed.invariant.1, l.loop-passed.invariant.3, test.loop-passed-test.true, start.requires.1),
     )
 
 pub loop-passed-preserved : goal.loop-passed-preserved
 loop-passed-preserved c =
     let one = c in
     let test = one in
-    let l = test.before in
-    let start = l.before.before.before.before in (
-      one.take_one-told.auto.0 ∙ l.loop.invariant.0,
-      one.take_one-told.auto.1.0 ∙ l.loop.invariant.1,
-      omega (arith, test.loop-test.true),
-      omega (arith, l.loop.invariant.3, one.take_one-told.ensures.0),
+    let l = test in
+    let start = l in (
+      one.take_one-told.auto.0 ∙ l.loop-passed.invariant.0,
+      one.take_one-told.auto.1.0 ∙ l.loop-passed.invariant.1,
+      omega (arith, test.loop-passed-test.true),
+      omega (arith, l.loop-passed.invariant.3, one.take_one-told.ensures.0),
       λ come holds.
-          let before = l.loop.invariant.4 come holds in
-          told-next _ _ test.loop-test.true come _ _ _ _ before one.take_one-told.result
-          (omega (arith, l.loop.invariant.1, l.loop.invariant.3, test.loop-test.true, start.requires.1))
+          let before = l.loop-passed.invariant.4 come holds in
+          told-next _ _ test.loop-passed-test.true come _ _ _ _ before one.take_one-told.result
+          (omega (arith, l.loop-passed.invariant.1, l.loop-passed.invariant.3, test.loop-passed-test.true, start.requires.1))
           (one.take_one-told.ensures.1 _ before.holds),
     )
 

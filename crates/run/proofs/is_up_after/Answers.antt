@@ -1,7 +1,6 @@
 -- `run::is_up_after` meets its contract: each way is a law.
 -- Assumes nothing.
 use Rattle.run.proofs.RunLaws.{isUpAfter-laws}
-use borrow.Author.Rules.{rules}
 use Rattle.run.proofs.is_up_after.Goals as goal
 
 pub returns-then-has_elapsed : goal.returns-then-has_elapsed

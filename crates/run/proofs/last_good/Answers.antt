@@ -1,7 +1,6 @@
 -- `run::last_good` meets its contract: each way is a law.
 -- Assumes nothing.
 use Rattle.run.proofs.RunLaws.{lastGood-laws}
-use borrow.Author.Rules.{rules}
 use Rattle.run.proofs.last_good.Goals as goal
 
 pub returns-then-is_failed : goal.returns-then-is_failed

@@ -1,7 +1,6 @@
 -- `run::up_before` meets its contract: each way is a law.
 -- Assumes nothing.
 use Rattle.run.proofs.RunLaws.{upBefore-laws}
-use borrow.Author.Rules.{rules}
 use Rattle.run.proofs.up_before.Goals as goal
 
 pub returns-then-wait-end : goal.returns-then-wait-end

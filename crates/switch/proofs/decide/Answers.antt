@@ -1,7 +1,6 @@
 -- `switch::decide` meets its contract: the law of its one way.
 -- Assumes nothing.
 use Rattle.switch.proofs.OneChoiceLaws.{decide_by-made}
-use borrow.Author.Rules.{rules}
 use Rattle.switch.proofs.decide.Goals as goal
 
 pub returns : goal.returns

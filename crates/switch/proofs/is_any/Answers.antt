@@ -1,7 +1,6 @@
 -- `switch::is_any` meets its contract: each way is a law.
 -- Assumes nothing.
 use Rattle.switch.proofs.OneChoiceLaws.{anySelected-laws}
-use borrow.Author.Rules.{rules}
 use Rattle.switch.proofs.is_any.Goals as goal
 
 pub returns-in-Nothing : goal.returns-in-Nothing

@@ -1,7 +1,6 @@
 -- `switch::is_clock_locked` meets its contract: each way is a law.
 -- Assumes nothing.
 use Rattle.switch.proofs.OneChoiceLaws.{isLockedBy-laws}
-use borrow.Author.Rules.{rules}
 use Rattle.switch.proofs.is_clock_locked.Goals as goal
 
 pub returns-in-Nothing : goal.returns-in-Nothing

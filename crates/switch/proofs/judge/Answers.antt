@@ -1,7 +1,6 @@
 -- `switch::judge` meets its contract: each way is a law.
 -- Assumes nothing.
 use Rattle.switch.proofs.OneChoiceLaws.{judgedBy-laws}
-use borrow.Author.Rules.{rules}
 use Rattle.switch.proofs.judge.Goals as goal
 
 pub returns-then-own : goal.returns-then-own

@@ -1,7 +1,6 @@
 -- `switch::manual_may_stand` meets its contract: each way is a law.
 -- Assumes nothing.
 use Rattle.switch.proofs.OneChoiceLaws.{mayStand-laws}
-use borrow.Author.Rules.{rules}
 use Rattle.switch.proofs.manual_may_stand.Goals as goal
 
 pub returns-then-is_eligible : goal.returns-then-is_eligible

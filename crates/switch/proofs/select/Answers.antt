@@ -1,7 +1,6 @@
 -- `switch::select` meets its contract: each way is a law.
 -- Assumes nothing.
 use Rattle.switch.proofs.OneChoiceLaws.{selectedFrom-laws}
-use borrow.Author.Rules.{rules}
 use Rattle.switch.proofs.select.Goals as goal
 
 pub returns-in-Nothing : goal.returns-in-Nothing

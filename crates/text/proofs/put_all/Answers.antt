@@ -30,9 +30,9 @@ pub loop-taken-preserved : goal.loop-taken-preserved
 loop-taken-preserved c =
     let p = c in
     let k = p in
-    let l = k.before.before.before in
-    put_next l.loop.invariant l.before.before.before.requires _ _ k.before.before.loop-test.true
-    (omega (arith, k.shared-slice-known2.given l.loop.taken)) p.put_next-end.ensures p.put_next-end.auto.0
+    let l = k in
+    put_next l.loop-taken.invariant l.requires _ _ k.loop-taken-test.true
+    (omega (arith, k.shared_slice_known-in-loop-taken-1.given l.loop-taken.taken)) p.put_next-end.ensures p.put_next-end.auto.0
 
 pub shape_of-out : goal.shape_of-out
 shape_of-out c = c.loop-taken.invariant.size

@@ -12,10 +12,10 @@ unfolding watch_at
 returns c =
     let until = c in
     let time = until in
-    let behind = time.before.before in
+    let behind = time in
     let whole =
-    whole-made _ _ _ _ _ _ _ behind.before.capped.ensures behind.capped2.ensures
-    (time.time-at.ensures _ _) until.later-until.ensures in (
+    whole-made _ _ _ _ _ _ _ behind.capped.ensures behind.capped-behind.ensures
+    (time.time_at.ensures _ _) until.later-until.ensures in (
       c.advance_all.ensures.0 ∙ ap lanes_of whole,
       c.advance_all.ensures.1 ∙ ap places_of whole,
       c.advance_all.ensures.2,

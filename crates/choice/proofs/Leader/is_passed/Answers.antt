@@ -1,7 +1,6 @@
 -- `choice::is_passed` meets its contract: each way is a law.
 -- Assumes nothing.
 use Rattle.choice.proofs.ChoiceLaws.{isPassed-laws}
-use borrow.Author.Rules.{rules}
 use Rattle.choice.proofs.Leader.is_passed.Goals as goal
 
 pub returns-in-Nothing : goal.returns-in-Nothing

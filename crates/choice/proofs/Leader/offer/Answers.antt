@@ -1,7 +1,6 @@
 -- `choice::offer` meets its contract: each way is a law.
 -- Assumes nothing.
 use Rattle.choice.proofs.ChoiceLaws.{offer-laws}
-use borrow.Author.Rules.{rules}
 use Rattle.choice.proofs.Leader.offer.Goals as goal
 
 pub returns-then-is_passed : goal.returns-then-is_passed

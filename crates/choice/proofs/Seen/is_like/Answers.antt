@@ -1,7 +1,6 @@
 -- `choice::Seen::is_like` meets its contract: each way is a law.
 -- Assumes nothing.
 use Rattle.choice.proofs.ChoiceLaws.{isLike-laws}
-use borrow.Author.Rules.{rules}
 use Rattle.choice.proofs.Seen.is_like.Goals as goal
 
 pub returns-then-self-other-3 : goal.returns-then-self-other-3

@@ -1,7 +1,6 @@
 -- `input::Heard::signal` meets its contract: each way is a law.
 -- Assumes nothing.
 use Rattle.input.proofs.RecordLaws.{heardAfter-signal-laws}
-use borrow.Author.Rules.{rules}
 use Rattle.input.proofs.Heard.signal.Goals as goal
 
 pub returns-then-self : goal.returns-then-self

@@ -1,7 +1,6 @@
 -- `input::Input::at_moment` meets its contract: it is the definition, call by call.
 -- Assumes nothing.
 use Rattle.input.specs.Record.{input_at_moment}
-use borrow.Author.Rules.{rules}
 use Rattle.input.proofs.Input.at_moment.Goals as goal
 
 pub returns : goal.returns

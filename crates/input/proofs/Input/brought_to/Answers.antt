@@ -1,7 +1,6 @@
 -- `input::Input::brought_to` meets its contract: it is the definition, call by call.
 -- Assumes nothing.
 use Rattle.input.specs.Record.{input_brought_to}
-use borrow.Author.Rules.{rules}
 use Rattle.input.proofs.Input.brought_to.Goals as goal
 
 pub returns : goal.returns

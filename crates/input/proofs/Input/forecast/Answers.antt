@@ -1,7 +1,6 @@
 -- `input::Input::forecast` meets its contract: it is the definition, call by call.
 -- Assumes nothing.
 use Rattle.input.specs.Record.{forecast}
-use borrow.Author.Rules.{rules}
 use Rattle.input.proofs.Input.forecast.Goals as goal
 
 pub returns : goal.returns

@@ -1,7 +1,6 @@
 -- `input::Input::frame` meets its contract: it is the definition, call by call.
 -- Assumes nothing.
 use Rattle.input.specs.Record.{after_event, heard_after, settings_after}
-use borrow.Author.Rules.{rules}
 use Rattle.input.proofs.Input.frame.Goals as goal
 
 pub returns : goal.returns

@@ -1,6 +1,5 @@
 -- `input::Input::fresh` meets its contract: it is the definition, call by call.
 -- Assumes nothing.
-use borrow.Author.Rules.{rules}
 use Rattle.input.proofs.Input.fresh.Goals as goal
 
 pub returns : goal.returns

@@ -2,7 +2,6 @@
 -- Assumes nothing.
 use Rattle.input.proofs.RecordLaws.{after_event-kind}
 use mathlib.Core.Path.{◌∙◌}
-use borrow.Author.Rules.{rules}
 use Rattle.input.proofs.Input.kind.Goals as goal
 
 pub returns : goal.returns

@@ -2,7 +2,6 @@
 -- Assumes nothing.
 use Rattle.input.proofs.RecordLaws.{after_event_lockout}
 use mathlib.Core.Path.{◌∙◌}
-use borrow.Author.Rules.{rules}
 use Rattle.input.proofs.Input.lockout.Goals as goal
 
 pub returns : goal.returns

@@ -2,7 +2,6 @@
 -- Assumes nothing.
 use Rattle.input.proofs.RecordLaws.{after_event-sending}
 use mathlib.Core.Path.{◌∙◌}
-use borrow.Author.Rules.{rules}
 use Rattle.input.proofs.Input.sending.Goals as goal
 
 pub returns : goal.returns

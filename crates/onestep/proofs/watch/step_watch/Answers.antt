@@ -64,12 +64,12 @@ unfolding watch_at asking
 returns-then-event-known c =
     let handed = c in
     let test = handed in
-    let a = test.before in
+    let a = test in
     let s = start a in
     let held = c.take.new in
     let all = watch_at held.0 held.1.0 held.1.1.0 held.1.1.1.0 held.1.1.1.1.0 in
-    step-taken (watch s) s.args.event s.args.read (asking a) all c.take.result test.if2.false
-    a.before.before.before.before.before.before.before.before.before.before.before.if1.true
+    step-taken (watch s) s.args.event s.args.read (asking a) all c.take.result test.if-says_again.false
+    a.if-event-known.true
     (subst (Took (watch s) (watch s).due s.args.read all c.take.result) handed.handed.ensures
     c.take.ensures)
 
@@ -78,13 +78,13 @@ unfolding watch_at
 returns c =
     let handed = c in
     let next = handed in
-    let late = next.before.before.before.before in
-    let s = late.before.before.before in
+    let late = next in
+    let s = late in
     let held = c.take-2.new in
     let all = watch_at held.0 held.1.0 held.1.1.0 held.1.1.1.0 held.1.1.1.1.0 in
-    step-late (watch s) s.args.event s.args.read next.next-due.result next.next-due.ensures
-    late.if1.false
+    step-late (watch s) s.args.event s.args.read next.next_due-next.result next.next_due-next.ensures
+    late.if-event-known.false
     all
     c.take-2.result
-    (subst (Took (watch s) next.next-due.result s.args.read all c.take-2.result) handed.handed-2.ensures
+    (subst (Took (watch s) next.next_due-next.result s.args.read all c.take-2.result) handed.handed-2.ensures
     c.take-2.ensures)

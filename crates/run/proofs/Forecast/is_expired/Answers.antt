@@ -1,7 +1,6 @@
 -- `run::Forecast::is_expired` meets its contract: each way is a law.
 -- Assumes nothing.
 use Rattle.run.proofs.RunLaws.{isExpired-laws}
-use borrow.Author.Rules.{rules}
 use Rattle.run.proofs.Forecast.is_expired.Goals as goal
 
 pub returns-then-self : goal.returns-then-self

@@ -1,7 +1,6 @@
 -- `run::Run::at_moment` meets its contract: it is the definition, call by call.
 -- Assumes nothing.
 use Rattle.run.specs.Run.{at_moment}
-use borrow.Author.Rules.{rules}
 use Rattle.run.proofs.Run.at_moment.Goals as goal
 
 pub returns : goal.returns

@@ -1,7 +1,6 @@
 -- `run::Run::brought_to` meets its contract: each way is a law.
 -- Assumes nothing.
 use Rattle.run.proofs.RunLaws.{broughtTo-laws, is_expired-fits}
-use borrow.Author.Rules.{rules}
 use Rattle.run.proofs.Run.brought_to.Goals as goal
 
 pub returns-then-self : goal.returns-then-self

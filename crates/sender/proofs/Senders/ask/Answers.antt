@@ -18,13 +18,13 @@ pub returns : goal.returns
 returns c =
     let sent = c in
     let kept = sent in
-    let beat = kept.before in
-    let told = beat.before in
-    let accept = told.before in
-    let number = accept.before in
-    let inside = number.before.before in
-    let last = inside.before in
-    let args = last.before.before.before.before.args in
+    let beat = kept in
+    let told = beat in
+    let accept = told in
+    let number = accept in
+    let inside = number in
+    let last = inside in
+    let args = last.args in
     ask_accepted
     args.t1
     args.port
@@ -32,19 +32,19 @@ returns c =
     (selector_at args.times.now args.small.now args.wider.now)
     args.source.now
     args.buffer.now
-    number.question-number2.result
-    last.last-port.result
+    number.question_number-number-2.result
+    last.last_port-last.result
     _
-    last.last-port.ensures.1
-    last.last-port.ensures.0
-    inside.if1.false
-    number.question-number2.ensures
-    told.codes_at.result
-    beat.heartbeat.result
-    kept.after.result
+    last.last_port-last.ensures.1
+    last.last_port-last.ensures.0
+    inside.if-last-port.false
+    number.question_number-number-2.ensures
+    told.codes_at-codes.result
+    beat.heartbeat-heartbeat.result
+    kept.after-after.result
     _
-    accept.if2.false
-    told.codes_at.ensures
-    beat.heartbeat.ensures
-    kept.after.ensures
+    accept.if-number-ne-ACCEPTED.false
+    told.codes_at-codes.ensures
+    beat.heartbeat-heartbeat.ensures
+    kept.after-after.ensures
     sent.send.ensures

@@ -13,12 +13,12 @@ returns c =
     let limits = goes in
     let one = c.half_step-one in
     let other = c.half_step-other in
-    unit-stepped (unit_in args.unit) args.to args.event args.read limits.before.profile-at.result
-    limits.Limits-of.result
+    unit-stepped (unit_in args.unit) args.to args.event args.read limits.profile_at-profile.result
+    limits.limits_of-limits.result
     goes.goes_to-to_equipment.result
     goes.goes_to-to_station.result
-    (limits.before.profile-at.ensures args.unit.equipment.times)
-    limits.Limits-of.ensures
+    (limits.profile_at-profile.ensures args.unit.equipment.times)
+    limits.limits_of-limits.ensures
     goes.goes_to-to_equipment.ensures
     goes.goes_to-to_station.ensures
     one.result

@@ -15,27 +15,27 @@ pub returns-then-until-to : goal.returns-then-until-to
 returns-then-until-to c =
     let pushed = c in
     let value = pushed in
-    let turn = value.before.before.before in (
-      going-end-lane _ _ _ _ _ _ _ _ turn.before.loop.invariant.0 _ value.value_of_lem.ensures turn.loop-test.true _ _
+    let turn = value in (
+      going-end-lane _ _ _ _ _ _ _ _ turn.loop-left.invariant.0 _ value.value_of_lem.ensures turn.loop-left-test.true _ _
           pushed.push-lane.ensures.0 pushed.push-lane.ensures.1 c.if-until-to.true,
-      going-end-room _ _ _ _ _ _ _ _ turn.before.loop.invariant.0 _ value.value_of_lem.ensures turn.loop-test.true _ _
+      going-end-room _ _ _ _ _ _ _ _ turn.loop-left.invariant.0 _ value.value_of_lem.ensures turn.loop-left-test.true _ _
           pushed.push-lane.ensures.0 pushed.push-lane.ensures.1 c.if-until-to.true,
-      stays_then _ _ _ turn.before.loop.invariant.1 pushed.push-lane.ensures.2,
+      stays_then _ _ _ turn.loop-left.invariant.1 pushed.push-lane.ensures.2,
     )
 
 pub loop-left-preserved : goal.loop-left-preserved
 loop-left-preserved c =
     let ticked = c in
     let short = ticked in
-    let pushed = short.before in
-    let value = pushed.before.before.before in
-    let turn = value.before.before.before in
-    let start = turn.before.before.before.before.before.before in (
-      going_on _ _ _ _ _ _ _ _ turn.before.loop.invariant.0 _ value.value_of_lem.ensures turn.loop-test.true _ _
-          pushed.push.ensures.0 pushed.push.ensures.1 _
-          (next-made _ _ turn.before.loop.from _ _ _ _ ticked.next_span-to.ensures.0 ticked.next_span-to.ensures.1 (c.time_at-from.ensures ticked.next_span-to.new.1.0 start.args.wider.now))
-          short.if1.false,
-      stays_then _ _ _ turn.before.loop.invariant.1 pushed.push.ensures.2,
+    let pushed = short in
+    let value = pushed in
+    let turn = value in
+    let start = turn in (
+      going_on _ _ _ _ _ _ _ _ turn.loop-left.invariant.0 _ value.value_of_lem.ensures turn.loop-left-test.true _ _
+          pushed.push-lane.ensures.0 pushed.push-lane.ensures.1 _
+          (next-made _ _ turn.loop-left.from _ _ _ _ ticked.next_span-to.ensures.0 ticked.next_span-to.ensures.1 (c.time_at-from.ensures ticked.next_span-to.new.1.0 start.args.wider.now))
+          short.if-until-to.false,
+      stays_then _ _ _ turn.loop-left.invariant.1 pushed.push-lane.ensures.2,
     )
 
 pub returns : goal.returns

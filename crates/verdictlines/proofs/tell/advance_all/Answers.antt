@@ -18,14 +18,14 @@ pub loop-left-preserved : goal.loop-left-preserved
 loop-left-preserved c =
     let ticked = c in
     let short = ticked in
-    let pushed = short.before in
-    let turn = pushed.before.before.before.before.before in
-    let start = turn.before.before.before.before.before in (
-      going-on-all _ _ _ _ _ _ _ turn.before.loop.invariant.0 turn.loop-test.true _ _
-          pushed.push-all.ensures.0 pushed.push-all.ensures.1 _
-          (next-made _ _ turn.before.loop.from _ _ _ _ ticked.next_span-to.ensures.0 ticked.next_span-to.ensures.1 (c.time_at-from.ensures ticked.next_span-to.new.1.0 start.args.wider.now))
-          short.if1.false,
-      stays_then _ _ _ turn.before.loop.invariant.1 pushed.push-all.ensures.2,
+    let pushed = short in
+    let turn = pushed in
+    let start = turn in (
+      going-on-all _ _ _ _ _ _ _ turn.loop-left.invariant.0 turn.loop-left-test.true _ _
+          pushed.push_all-next.ensures.0 pushed.push_all-next.ensures.1 _
+          (next-made _ _ turn.loop-left.from _ _ _ _ ticked.next_span-to.ensures.0 ticked.next_span-to.ensures.1 (c.time_at-from.ensures ticked.next_span-to.new.1.0 start.args.wider.now))
+          short.if-until-to.false,
+      stays_then _ _ _ turn.loop-left.invariant.1 pushed.push_all-next.ensures.2,
     )
 
 pub returns : goal.returns
