@@ -8,7 +8,6 @@ use borrow.Author.Tests.{eq-eqb, ne_eqb}
 use lib.Dec.{eqb}
 use lib.ListN.{length, get_or}
 use Rattle.frame.proofs.Words.{low_first_at, has_rest, has_rest-one, has_rest_several, has_rest-end}
-use borrow.Author.Rules.{rules}
 use Rattle.frame.proofs.has_rest.Goals as goal
 
 pub returns-then-left-lt1 : goal.returns-then-left-lt1
