@@ -1,11 +1,11 @@
 -- What being shown within a tolerance means: `specs/Claims`. Assumes nothing.
-use Prim.Native.Nat.{ℕ, ◌+◌, ◌≤◌}
+use Prim.Native.Nat.{ℕ, ◌+◌}
 use mathlib.Core.List.{[]}
 use mathlib.Core.Logic.{⊎_elim}
-use mathlib.Core.Path.{◌≡◌, sym, subst}
+use mathlib.Core.Path.{◌≡◌, subst}
 use native.Mathlib.Omega.{arith}
 use Rattle.lane.specs.declared.Tolerance.{Tolerance}
-use Rattle.lane.specs.Shown.{Tellings, Stands, Rightness, Good, Wrong}
+use Rattle.lane.specs.Shown.{Tellings, Stands, Rightness}
 use Rattle.lane.specs.Claims.{Claims}
 use Rattle.lane.proofs.Exact.{by_same}
 

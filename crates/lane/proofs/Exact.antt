@@ -1,21 +1,21 @@
 -- The stretches are exact: what is stated in `specs/Exact`. `Agrees` is what holds after anything that a lane was told.
 -- Assumes nothing.
-use Prim.Native.Nat.{ℕ, zero, suc, pred, ◌+◌, ◌-◌, ◌≤◌, ◌<◌, min, max}
-use mathlib.Core.Bool.{Bool, true, false, ◌&&◌, cond, false≢true}
+use Prim.Native.Nat.{ℕ, zero, suc, ◌+◌, ◌-◌, ◌≤◌, ◌<◌, min, max}
+use mathlib.Core.Bool.{Bool, true, false, false≢true}
 use mathlib.Core.List.{List, [], ◌∷◌}
-use mathlib.Core.Logic.{◌⊎◌, inl, inr, ⊎_elim, ◌↔◌}
+use mathlib.Core.Logic.{◌⊎◌, inl, inr, ⊎_elim}
 use mathlib.Core.Path.{◌≡◌, refl, sym, ◌∙◌, ap, subst}
 use native.Mathlib.Nat.{le-min, le_trans, min-le_left, min-le_right}
 use native.Mathlib.Omega.{arith}
-use borrow.Author.Tests.{lt-ltb, le-ltb, le-leb, lt-leb, eq-eqb, ne_eqb, ltb-true, ltb-false, leb-true, leb-false, eqb-true, eqb-false}
+use borrow.Author.Tests.{lt-ltb, eq-eqb, ne_eqb, ltb-true, ltb-false, leb-true, leb-false, eqb-true, eqb-false}
 use lib.Dec.{eqb, leb, ltb}
 use Rattle.lane.specs.declared.Tolerance.{Tolerance}
 use Rattle.lane.specs.declared.Stretch.{Stretch}
 use Rattle.lane.specs.declared.Lane.{Lane}
 use Rattle.lane.specs.declared.Judged.{Judged}
-use Rattle.lane.specs.Shown.{Telling, Tellings, ToldAt, ToldLast, NothingTold, Stands, Rightness, Good, Wrong}
-use Rattle.lane.specs.Lane.{largest, capped, none, bad_from, wrong_from, wrong_until, goes_on, longer, with_stretch, wrong_count, marked, first_after, told_lane, shown_next, known_lane, over_at, right_next}
-use Rattle.lane.specs.History.{Happening, is_right, is_shown, Happenings, RightIn, tellings, last_right, judged_next, lane_after, ended_after, stretches_after, reached_by, after_by, farthest, Orderly, Near}
+use Rattle.lane.specs.Shown.{Telling, Tellings, ToldAt, ToldLast, Stands, Good, Wrong}
+use Rattle.lane.specs.Lane.{capped, none, bad_from, wrong_from, wrong_until, goes_on, with_stretch, wrong_count, marked, first_after, told_lane, shown_next, known_lane, over_at, right_next}
+use Rattle.lane.specs.History.{Happening, is_right, is_shown, Happenings, RightIn, tellings, last_right, lane_after, ended_after, stretches_after, reached_by, after_by, farthest, Orderly, Near}
 use Rattle.lane.specs.Exact.{In, InAny, OverBefore, Apart, lengths, FirstAt, WrongShown, Valued, Exact}
 
 cons_not_nil : {telling : Telling} {told : Tellings} → telling ∷ told ≡ [] → ⊥
@@ -1077,7 +1077,7 @@ module _ (tolerance : Tolerance) (near : Near tolerance) where
       (λ m. let first : first_after lane when ≡ lane.first =
       rw (ne_eqb lane.after 0 (λ e. m (sym after ∙ e))) in
       subst (λ t. FirstAt (record { time = when; value = shown } ∷ tellings earlier) t) (sym (made ∙ first))
-      (first_more (tellings earlier) _ lane.first (kept-first earlier o.1 m)))
+      (first_more (tellings earlier) (record { time = when; value = shown }) lane.first (kept-first earlier o.1 m)))
 
   -- THE STRETCHES ARE EXACT, once it is known what is right to beyond EARLY behind the end.
   pub lane-exact : (happenings : Happenings) → Orderly tolerance happenings

@@ -1,14 +1,14 @@
 -- What the code keeps of a lane: a law for each way through. Assumes nothing.
-use Prim.Native.Nat.{ℕ, ◌-◌, ◌≤◌, ◌<◌, min, max}
+use Prim.Native.Nat.{ℕ, ◌-◌, ◌≤◌, ◌<◌, max}
 use mathlib.Core.Bool.{Bool, true, false}
-use mathlib.Core.Path.{◌≡◌, refl, sym, ◌∙◌, ap}
+use mathlib.Core.Path.{◌≡◌, ◌∙◌}
 use borrow.Author.Tests.{lt-ltb, le-ltb, le-leb, lt-leb, eq-eqb, ne_eqb}
-use lib.Dec.{eqb, leb, ltb}
+use lib.Dec.{leb}
 use Rattle.lane.specs.declared.Tolerance.{Tolerance}
 use Rattle.lane.specs.declared.Stretch.{Stretch}
 use Rattle.lane.specs.declared.Lane.{Lane}
 use Rattle.lane.specs.declared.Judged.{Judged}
-use Rattle.lane.specs.Lane.{capped, none, bad_from, wrong_from, wrong_until, goes_on, longer, with_stretch, wrong_count, marked, first_after, told_lane, shown_next, known_lane, over_at, right_next}
+use Rattle.lane.specs.Lane.{capped, none, bad_from, wrong_from, wrong_until, goes_on, with_stretch, marked, first_after, told_lane, shown_next, known_lane, over_at, right_next}
 
 module _ (late last : ℕ) where
   pub bad_from-never : last ≡ 0 → 0 ≡ bad_from late last

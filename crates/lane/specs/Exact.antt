@@ -1,11 +1,11 @@
 -- What the code answers of a lane is what is shown within the tolerance, by each millisecond: no wrong lane passes and
 -- no right one is accused. Assumes nothing.
-use Rattle.std.specs.Prelude.{ℕ, suc, ◌+◌, ◌-◌, ◌≤◌, ◌<◌, List, [], ◌∷◌, ◌⊎◌, ◌↔◌, ◌≡◌}
+use Rattle.std.specs.Prelude.{ℕ, ◌+◌, ◌-◌, ◌≤◌, ◌<◌, List, [], ◌∷◌, ◌⊎◌, ◌↔◌, ◌≡◌}
 use Rattle.lane.specs.declared.Tolerance.{Tolerance}
 use Rattle.lane.specs.declared.Stretch.{Stretch}
 use Rattle.lane.specs.Shown.{Tellings, Stands, Good, Wrong}
 use Rattle.lane.specs.Lane.{wrong_count}
-use Rattle.lane.specs.History.{Happenings, RightIn, tellings, lane_after, stretches_after, reached_by, Orderly, Near}
+use Rattle.lane.specs.History.{Happenings, RightIn, tellings, lane_after, stretches_after}
 
 -- a millisecond is in a stretch
 abbrev pub In : Stretch → ℕ → Type 0

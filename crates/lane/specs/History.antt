@@ -1,6 +1,6 @@
 -- Any sequence of things that a lane is told: what is right and what is shown by it, the lane that the code keeps after
 -- it, and the stretches that it answered. Assumes nothing.
-use Rattle.std.specs.Prelude.{ℕ, suc, ◌+◌, ◌-◌, ◌≤◌, ◌<◌, cond, List, [], ◌∷◌, ◌⊎◌, ◌≡◌, eqb}
+use Rattle.std.specs.Prelude.{ℕ, suc, ◌+◌, ◌-◌, ◌≤◌, cond, List, [], ◌∷◌, ◌⊎◌, ◌≡◌, eqb}
 use Rattle.lane.specs.declared.Tolerance.{Tolerance}
 use Rattle.lane.specs.declared.Stretch.{Stretch}
 use Rattle.lane.specs.declared.Lane.{Lane}

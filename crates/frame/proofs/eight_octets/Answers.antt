@@ -2,7 +2,6 @@
 -- Assumes nothing.
 use mathlib.Core.Path.{sym}
 use Rattle.frame.proofs.Words.{low_first_twice}
-use borrow.Author.Rules.{rules}
 use Rattle.frame.proofs.eight_octets.Goals as goal
 
 pub returns : goal.returns

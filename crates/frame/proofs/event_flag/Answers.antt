@@ -4,7 +4,6 @@ use Prim.Native.Nat.{ℕ, ◌/◌, ◌%◌}
 use mathlib.Core.Path.{ap}
 use lib.Dec.{eqb}
 use Rattle.frame.specs.Octets.{event_bit}
-use borrow.Author.Rules.{rules}
 use Rattle.frame.proofs.event_flag.Goals as goal
 
 pub returns : goal.returns

@@ -3,7 +3,6 @@
 use mathlib.Core.Path.{sym}
 use native.Mathlib.Omega.{arith}
 use Rattle.frame.proofs.Words.{low_first_twice}
-use borrow.Author.Rules.{rules}
 use Rattle.frame.proofs.four_octets.Goals as goal
 
 pub returns : goal.returns

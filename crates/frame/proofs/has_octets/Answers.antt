@@ -3,7 +3,6 @@
 use Prim.Native.Nat.{◌-◌}
 use mathlib.Core.Path.{◌∙◌}
 use Rattle.frame.proofs.Words.{part-inside}
-use borrow.Author.Rules.{rules}
 use Rattle.frame.proofs.has_octets.Goals as goal
 
 pub returns : goal.returns

@@ -8,7 +8,6 @@ use borrow.Author.Tests.{eq-eqb, ne_eqb}
 use lib.Dec.{eqb}
 use lib.ListN.{length, get_or}
 use Rattle.frame.proofs.Words.{low_first_at, has_rest, has_rest-one, has_rest_several, has_rest-end}
-use borrow.Author.Rules.{rules}
 use Rattle.frame.proofs.has_rest.Goals as goal
 
 pub returns-then-left-lt1 : goal.returns-then-left-lt1
@@ -29,7 +28,7 @@ returns-then-left-lt2 c =
     c.shared_slice_known-1.given c.shared_slice_known-2-1.given
     place start (omega arith) (omega arith)
     ∙ rw (has_rest-end args.row.now args.wanted.now (place + 1) (start + 1) last) (and-true _) in
-        let known = c in
+    let known = c in
     let args = known.args in
     sym (one_last args.place args.start (omega arith) (omega arith))
 
@@ -45,7 +44,7 @@ returns-then-two_octets c =
     has_rest_several args.row.now args.wanted.now
     c.shared_slice_known-1.given c.shared_slice_known-2-1.given
     args.place args.start 2 enough (omega arith) in
-        let compared = c in
+    let compared = c in
     let known = compared in
     sym
     (two-first (omega arith)
@@ -63,7 +62,7 @@ returns-then-left-lt3 c =
     has_rest_several args.row.now args.wanted.now
     c.shared_slice_known-1.given c.shared_slice_known-2-1.given
     args.place args.start 2 enough (omega arith) in
-        let compared = c in
+    let compared = c in
     let known = compared in
     let args = known.args in
     sym
@@ -96,7 +95,7 @@ returns c =
     c.shared_slice_known-1.given c.shared_slice_known-2-1.given
     place start (omega arith) (omega arith)
     ∙ rw (has_rest-end args.row.now args.wanted.now (place + 1) (start + 1) last) (and-true _) in
-        let passed = c in
+    let passed = c in
     let compared = passed in
     let known = compared in
     let args = known.args in

@@ -1,16 +1,9 @@
 -- `frame::has_row` meets its contract. The invariant: what is left decides, where all before it was the same.
 -- Assumes nothing.
-use Prim.Native.Nat.{ℕ, ◌+◌, ◌-◌, ◌≤◌}
-use mathlib.Core.Bool.{◌&&◌}
-use mathlib.Core.Path.{◌≡◌, sym, ◌∙◌}
-use native.Mathlib.Nat.{add-zero, add_assoc}
-use native.Mathlib.Omega.{arith}
-use borrow.Author.Rules.{rules}
-use borrow.Author.Tests.{eq-eqb, ne_eqb, le-leb, lt-leb}
-use lib.Dec.{eqb, leb}
-use lib.ListN.{length, take, drop}
-use Rattle.frame.specs.Octets.{same}
-use Rattle.frame.proofs.Words.{low_first_at, has_rest, has_rest-all, has_rest_several}
+use Prim.Native.Nat.{◌+◌, ◌-◌, ◌≤◌}
+use mathlib.Core.Path.{◌≡◌}
+use lib.ListN.{length}
+use Rattle.frame.proofs.Words.{has_rest}
 use Rattle.frame.proofs.has_row.Given as goal
 
 abbrev pub invariant-loop-passed : goal.invariant-loop-passed

@@ -2,7 +2,6 @@
 -- Assumes nothing.
 use native.Mathlib.Omega.{arith}
 use Rattle.frame.proofs.Header.{version_and_tlv}
-use borrow.Author.Rules.{rules}
 use Rattle.frame.proofs.has_version_and_tlv.Goals as goal
 
 pub returns : goal.returns

@@ -3,7 +3,6 @@ use mathlib.Core.Path.{refl}
 use native.Mathlib.Omega.{arith}
 use Rattle.frame.specs.Write.{data_octets}
 use Rattle.frame.proofs.Rows.{put-row, put_next}
-use borrow.Author.Rules.{rules}
 use Rattle.frame.proofs.put_data.Goals as goal
 
 pub returns : goal.returns

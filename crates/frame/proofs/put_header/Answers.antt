@@ -7,7 +7,6 @@ use lib.ListN.{length}
 use Rattle.frame.specs.Octets.{protocol, organisation}
 use Rattle.frame.specs.Write.{header_octets}
 use Rattle.frame.proofs.Rows.{put-row, put_next}
-use borrow.Author.Rules.{rules}
 use Rattle.frame.proofs.put_header.Goals as goal
 
 pub returns : goal.returns

@@ -1,8 +1,7 @@
 -- `frame::put_octets` meets its contract: the buffer holds what has been put of the row. Assumes nothing.
-use Prim.Native.Nat.{◌≤◌, ◌-◌}
+use Prim.Native.Nat.{◌-◌}
 use mathlib.Core.Path.{◌≡◌, ap, ◌∙◌}
 use native.Mathlib.Omega.{arith}
-use borrow.Author.Rules.{rules}
 use lib.ListN.{length}
 use lib.Seq.{paste, paste-zero}
 use Rattle.frame.specs.Write.{put_octets}

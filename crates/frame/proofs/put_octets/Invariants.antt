@@ -1,12 +1,8 @@
 -- `frame::put_octets` meets its contract: the buffer holds what has been put of the row. Assumes nothing.
 use Prim.Native.Nat.{◌≤◌, ◌-◌}
-use mathlib.Core.Path.{◌≡◌, ap, ◌∙◌}
-use native.Mathlib.Omega.{arith}
-use borrow.Author.Rules.{rules}
+use mathlib.Core.Path.{◌≡◌}
 use lib.ListN.{length}
-use lib.Seq.{paste, paste-zero}
-use Rattle.frame.specs.Write.{put_octets}
-use Rattle.frame.proofs.Rows.{paste_length, paste_put}
+use lib.Seq.{paste}
 use Rattle.frame.proofs.put_octets.Given as goal
 
 abbrev pub invariant-loop-put : goal.invariant-loop-put

@@ -4,7 +4,6 @@ use native.Mathlib.Omega.{arith}
 use Rattle.frame.specs.declared.FrameRead.TheVariants.{Code}
 use Rattle.frame.specs.Octets.{lower_half}
 use Rattle.frame.proofs.ReadLaws.{frame_number-accepted, read_code_refused, read_code_code}
-use borrow.Author.Rules.{rules}
 use Rattle.frame.proofs.read_code.Goals as goal
 
 pub returns-then-number-ne-ACCEPTED : goal.returns-then-number-ne-ACCEPTED

@@ -4,7 +4,6 @@ use mathlib.Core.Path.{◌≡◌, sym, ◌∙◌}
 use Rattle.numbers.specs.Refusal.{accepted}
 use Rattle.frame.specs.Read.{frame_number}
 use Rattle.frame.proofs.ReadLaws.{frame_number-accepted, read_code_accepted, read_code_unaccepted, read_frame-told, read_frame-untold}
-use borrow.Author.Rules.{rules}
 use Rattle.frame.proofs.read_frame.Goals as goal
 
 pub returns-in_default : goal.returns-in_default
@@ -17,18 +16,17 @@ pub event_flag-event-requires : goal.event_flag-event-requires
 event_flag-event-requires c =
     let accepts : frame_number c.args.frame.now ≡ accepted =
     read_code_accepted _ _ (sym c.read_code-read.ensures ∙ c.in-Code.is) in
-     frame_number-accepted _ (accepts
+    frame_number-accepted _ accepts
 
 pub source_address-source-requires : goal.source_address-source-requires
 source_address-source-requires c =
     let accepts : frame_number c.args.frame.now ≡ accepted =
     read_code_accepted _ _ (sym c.read_code-read.ensures ∙ c.in-Code.is) in
-     frame_number-accepted _ (accepts
+    frame_number-accepted _ accepts
 
 pub returns : goal.returns
 returns c =
     let accepts : frame_number c.args.frame.now ≡ accepted =
     read_code_accepted _ _ (sym c.read_code-read.ensures ∙ c.in-Code.is) in
-        let told = c in
-    rw (told.read_code-read.ensures, c.event_flag-event.ensures, c.source_address-source.ensures)
-    (sym (read_frame-told _ (accepts))
+    rw (c.read_code-read.ensures, c.event_flag-event.ensures, c.source_address-source.ensures)
+    (sym (read_frame-told _ accepts))

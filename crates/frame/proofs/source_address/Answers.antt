@@ -3,7 +3,6 @@
 use mathlib.Core.Path.{sym}
 use native.Mathlib.Omega.{arith}
 use Rattle.frame.proofs.ReadLaws.{source_address-six}
-use borrow.Author.Rules.{rules}
 use Rattle.frame.proofs.source_address.Goals as goal
 
 pub returns : goal.returns

@@ -4,7 +4,6 @@ use Prim.Native.Nat.{◌+◌}
 use mathlib.Core.Path.{sym}
 use native.Mathlib.Omega.{arith}
 use Rattle.frame.proofs.Words.{low_first_one, low_first_twice}
-use borrow.Author.Rules.{rules}
 use Rattle.frame.proofs.two_octets.Goals as goal
 
 pub returns : goal.returns

@@ -1,6 +1,5 @@
 -- `frame::write_frame` meets its contract. Assumes nothing.
 use Rattle.frame.proofs.WriteLaws.{write_answer-code, write_answer-source, write_answer-buffer, write_answer-written, write_frame_refused, write_frame_written, frame_octets-put}
-use borrow.Author.Rules.{rules}
 use Rattle.frame.proofs.write_frame.Goals as goal
 
 pub returns-then-code-gt-LARGEST_CODE : goal.returns-then-code-gt-LARGEST_CODE

@@ -1,6 +1,5 @@
 -- `lane::first_after` meets its contract: each way is a law.
 -- Assumes nothing.
-use borrow.Author.Rules.{rules}
 use Rattle.lane.proofs.LaneLaws.{lane-laws}
 use Rattle.lane.proofs.first_after.Goals as goal
 

@@ -1,6 +1,5 @@
 -- `lane::goes_on` meets its contract: each way is a law.
 -- Assumes nothing.
-use borrow.Author.Rules.{rules}
 use Rattle.lane.proofs.LaneLaws.{lane-laws}
 use Rattle.lane.proofs.goes_on.Goals as goal
 

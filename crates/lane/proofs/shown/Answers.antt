@@ -1,6 +1,5 @@
 -- `lane::shown` meets its contract: each way is a law.
 -- Assumes nothing.
-use borrow.Author.Rules.{rules}
 use Rattle.lane.proofs.LaneLaws.{lane-laws}
 use Rattle.lane.proofs.shown.Goals as goal
 

@@ -1,6 +1,5 @@
 -- `lane::told_lane` meets its contract: each way is a law.
 -- Assumes nothing.
-use borrow.Author.Rules.{rules}
 use Rattle.lane.proofs.LaneLaws.{lane-laws}
 use Rattle.lane.proofs.told_lane.Goals as goal
 
