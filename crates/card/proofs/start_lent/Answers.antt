@@ -16,7 +16,7 @@ returns-then-not-names_option c = let args = c.args in
     args.marks
     c.names_option.result
     c.names_option.ensures
-    (watch_at args.times.now args.small.now args.wider.now c.put_number.new.places c.put_number.new.1.0)
+    (watch_at args.times.now args.small.now args.wider.now c.put_number.new.due c.put_number.new.told)
     (not-true _ c.if-not-names_option.true-raw)
     (c.put_number.ensures (selector_at args.times.now args.small.now args.wider.now))
 
@@ -55,6 +55,6 @@ returns c = let args = c.args in
     c.profile_in-profile.ensures
     c.start_number-number.result
     c.start_number-number.ensures
-    (watch_at args.times.now args.small.now args.wider.now c.put_number-2.new.places c.put_number-2.new.1.0)
+    (watch_at args.times.now args.small.now args.wider.now c.put_number-2.new.due c.put_number-2.new.told)
     c.if-number-eq-ACCEPTED.false
     (c.put_number-2.ensures (selector_at args.times.now args.small.now args.wider.now))

@@ -51,9 +51,9 @@ returns-then-says_again c =
     let own = c in
     let a = own in
     let args = (start a).args in
-    let after = selector_at put.new.0 args.small.now args.wider.now in
+    let after = selector_at put.new.times args.small.now args.wider.now in
     step-again _ _ _ (asking a) own.again_own-own.result after
-    (watch_held after c.put_number.new.places c.put_number.new.1.0)
+    (watch_held after c.put_number.new.due c.put_number.new.told)
     own.if-says_again.true
     own.again_own-own.ensures
     (put.ensures args.small.now args.wider.now)

@@ -49,9 +49,9 @@ pub returns-in-Nothing : goal.returns-in-Nothing
 unfolding watch_at taking
 returns-in-Nothing c =
     let put = c.put_own in
-    let after = selector_at put.new.0 put.new.1.0 put.new.1.1.0 in
+    let after = selector_at put.new.times put.new.small put.new.wider in
     take-nothing _ _ _ _ (taking c) after
-    (watch_held after c.put_number.new.places c.put_number.new.1.0)
+    (watch_held after c.put_number.new.due c.put_number.new.told)
     (search rules)
     put.ensures
     (c.put_number.ensures after)
@@ -63,8 +63,8 @@ returns-in-Choice c =
     let all = c.choose in
     take-choice _ _ _ _
     (taking c)
-    (selector_at put.new.0 put.new.1.0 put.new.1.1.0)
-    (watch_at put.new.0 all.new.1.0 put.new.1.1.0 all.new.1.1.1.0 all.new.1.1.1.1.0)
+    (selector_at put.new.times put.new.small put.new.wider)
+    (watch_at put.new.times all.new.small put.new.wider all.new.due all.new.told)
     (search rules)
     put.ensures
     all.ensures

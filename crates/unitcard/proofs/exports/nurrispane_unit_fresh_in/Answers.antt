@@ -16,8 +16,8 @@ returns-then-not-names_option c =
     (watch_at args.station-times.now args.station-small.now args.station-wider.now args.station-due.now args.station-told.now)
     args.sent.now args.option args.provplace args.marks args.minimum c.names_option.result
     c.names_option.ensures
-    (watch_at args.times.now args.small.now args.wider.now c.refuse.new.0 c.refuse.new.1.0)
-    (watch_at args.station-times.now args.station-small.now args.station-wider.now c.refuse-then-not-names_option.new.0 c.refuse-then-not-names_option.new.1.0)
+    (watch_at args.times.now args.small.now args.wider.now c.refuse.new.due c.refuse.new.told)
+    (watch_at args.station-times.now args.station-small.now args.station-wider.now c.refuse-then-not-names_option.new.due c.refuse-then-not-names_option.new.told)
     (not-true _ c.if-not-names_option.true-raw)
     (c.refuse.ensures (selector_at args.times.now args.small.now args.wider.now))
     (c.refuse-then-not-names_option.ensures (selector_at args.station-times.now args.station-small.now args.station-wider.now))
@@ -30,14 +30,14 @@ returns-then-number-eq-ACCEPTED c =
     (watch_at args.station-times.now args.station-small.now args.station-wider.now args.station-due.now args.station-told.now)
     args.sent.now args.option args.provplace args.marks args.minimum c.names_option.result
     c.names_option.ensures
-    (watch_at c.start_half.new.0 c.start_half.new.1.0 c.start_half.new.1.1.0 c.start_half.new.1.1.1.0 c.start_half.new.1.1.1.1.0)
-    (watch_at c.start_half-then-number-eq-ACCEPTED.new.0 c.start_half-then-number-eq-ACCEPTED.new.1.0 c.start_half-then-number-eq-ACCEPTED.new.1.1.0 c.start_half-then-number-eq-ACCEPTED.new.1.1.1.0 c.start_half-then-number-eq-ACCEPTED.new.1.1.1.1.0)
+    (watch_at c.start_half.new.times c.start_half.new.small c.start_half.new.wider c.start_half.new.due c.start_half.new.told)
+    (watch_at c.start_half-then-number-eq-ACCEPTED.new.times c.start_half-then-number-eq-ACCEPTED.new.small c.start_half-then-number-eq-ACCEPTED.new.wider c.start_half-then-number-eq-ACCEPTED.new.due c.start_half-then-number-eq-ACCEPTED.new.told)
     (not-false _ c.if-not-names_option.false-raw)
     c.profile_in-profile.result
     c.profile_in-profile.ensures
     c.unit_start_number-number.result
     c.unit_start_number-number.ensures
-    c.send.new.1.1.1.0
+    c.send.new.sent
     c.if-number-eq-ACCEPTED.true
     c.start_half.ensures
     c.start_half-then-number-eq-ACCEPTED.ensures
@@ -51,8 +51,8 @@ returns c =
     (watch_at args.station-times.now args.station-small.now args.station-wider.now args.station-due.now args.station-told.now)
     args.sent.now args.option args.provplace args.marks args.minimum c.names_option.result
     c.names_option.ensures
-    (watch_at args.times.now args.small.now args.wider.now c.refuse-2.new.0 c.refuse-2.new.1.0)
-    (watch_at args.station-times.now args.station-small.now args.station-wider.now c.refuse-3.new.0 c.refuse-3.new.1.0)
+    (watch_at args.times.now args.small.now args.wider.now c.refuse-2.new.due c.refuse-2.new.told)
+    (watch_at args.station-times.now args.station-small.now args.station-wider.now c.refuse-3.new.due c.refuse-3.new.told)
     (not-false _ c.if-not-names_option.false-raw)
     c.profile_in-profile.result
     c.profile_in-profile.ensures
