@@ -2,13 +2,13 @@
 -- else. Assumes nothing.
 use Prim.Native.Nat.{ℕ, ◌+◌, ◌*◌, ◌<◌, ◌≤◌}
 use mathlib.Core.Bool.{Bool, true, false, cond, ◌&&◌}
-use mathlib.Core.List.{List, [], ◌∷◌, map}
+use mathlib.Core.List.{List, [], ◌∷◌}
 use mathlib.Core.Path.{◌≡◌, refl, sym, ap, ◌∙◌, fun_ext}
 use native.Mathlib.Omega.{arith}
 use lib.Dec.{eqb, ltb}
-use lib.ListN.{get_or, set, length, length-set}
+use lib.ListN.{set, length, length-set}
 use lib.Seq.{get_or-set_same, get_or-set_other}
-use borrow.Author.Tests.{eqb-true, eqb-false, ltb-true, eq-eqb, ne_eqb}
+use borrow.Author.Tests.{eqb-true, eqb-false, ltb-true}
 use mir.Val.{bool_byte}
 use Rattle.numbers.specs.Kind.{kind_argument}
 use Rattle.input.proofs.RecordLaws.{kind_argument-back}
@@ -16,7 +16,6 @@ use Rattle.numbers.proofs.Truth.{by_bool, both_first, both-second}
 use Rattle.run.specs.declared.Run.{Run}
 use Rattle.input.specs.declared.Input.{Input}
 use Rattle.input.specs.Record.{with_run}
-use Rattle.selector.specs.Clock.{ports}
 use Rattle.selector.proofs.Ports.{but_at, set-ports, ports-same}
 use Rattle.inplace.specs.Lists.{is_set, column, rest, input_in, input_at, selector_in, selector_at, with_input}
 

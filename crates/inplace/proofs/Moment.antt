@@ -3,8 +3,8 @@ use Prim.{tt}
 use Prim.Native.Nat.{ℕ}
 use mathlib.Core.Bool.{Bool, true, false}
 use mathlib.Core.List.{List, map}
-use mathlib.Core.Path.{◌≡◌, refl, sym, ap, ◌∙◌}
-use lib.ListN.{length, get_or, set, replicate}
+use mathlib.Core.Path.{◌≡◌, ap, ◌∙◌}
+use lib.ListN.{length, get_or, replicate}
 use Rattle.input.specs.declared.Input.{Input}
 use Rattle.numbers.specs.declared.profile.Profile.{Profile}
 use Rattle.input.specs.Record.{fresh_input, input_brought_to}

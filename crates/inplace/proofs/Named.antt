@@ -16,7 +16,6 @@ use Rattle.choice.specs.declared.Selection.{Selection}
 use Rattle.choice.specs.declared.Selection.TheVariants as S
 use Rattle.choice.specs.Candidate.{eligible_among, better_among}
 use Rattle.choice.proofs.Choosing.{Inside, choose-inside}
-use Rattle.switch.specs.declared.AfterChoice.{AfterChoice}
 use Rattle.switch.specs.declared.Switch.{Switch}
 use Rattle.switch.specs.declared.Switch.TheVariants as W
 use Rattle.switch.specs.OneChoice.{forced_may_stand, manual_may_stand, judged, selected_by, decide}

@@ -1,31 +1,26 @@
 -- Numbers stored among those that stand once change what stands there, and no input. Assumes nothing.
 use Prim.Native.Nat.{ℕ, ◌+◌, ◌*◌, ◌<◌, ◌≤◌}
-use mathlib.Core.Bool.{Bool, true, false, cond, ◌&&◌}
-use mathlib.Core.List.{List, [], ◌∷◌, map}
-use mathlib.Core.Path.{◌≡◌, refl, sym, ap, ◌∙◌, fun_ext}
+use mathlib.Core.Bool.{Bool, true, cond, ◌&&◌}
+use mathlib.Core.List.{List, [], ◌∷◌}
+use mathlib.Core.Path.{◌≡◌, refl, ap, ◌∙◌, fun_ext}
 use mir.Val.{bool_byte}
 use native.Mathlib.Omega.{arith}
 use lib.Dec.{eqb, ltb}
-use lib.ListN.{get_or, set, length, length-set}
+use lib.ListN.{set, length, length-set}
 use lib.Seq.{get_or-set_same, get_or-set_other}
-use borrow.Author.Tests.{eqb-true, eqb-false, ltb-true, eq-eqb, ne_eqb}
+use borrow.Author.Tests.{eqb-true, eqb-false, ltb-true}
 use Rattle.numbers.proofs.Truth.{by_bool, both_first, both-second}
 use Rattle.numbers.proofs.Places.{provplace-read}
-use Rattle.numbers.specs.declared.InputNumber.{InputNumber}
 use Rattle.numbers.specs.declared.profile.ProvPlace.{ProvPlace}
 use Rattle.numbers.specs.declared.profile.Profile.{Profile}
 use Rattle.numbers.specs.declared.profile.Profile.TheVariants as P
 use Rattle.numbers.specs.Profile.{profile_with, profile_in, option_of, prov_place_of, marks_of}
-use Rattle.choice.specs.declared.Selection.{Selection}
-use Rattle.choice.specs.declared.Selection.TheVariants as S
 use Rattle.switch.specs.declared.AfterChoice.{AfterChoice}
 use Rattle.switch.specs.declared.Switch.{Switch}
-use Rattle.switch.specs.declared.Switch.TheVariants as W
-use Rattle.selector.specs.Clock.{ports, selected_number, switch_number, switch_input, switch_forced, switch_manual}
-use Rattle.selector.specs.declared.Selector.{Selector}
+use Rattle.selector.specs.Clock.{selected_number, switch_number, switch_input}
 use Rattle.selector.specs.State.{with_choice}
 use Rattle.selector.proofs.Ports.{ports-same}
-use Rattle.inplace.specs.Lists.{is_set, column, rest, input_in, input_at, selector_in, selector_at, switch_of, selection_of, is_selected, with_time, with_profile, with_command, held_switch, held_choice}
+use Rattle.inplace.specs.Lists.{column, rest, input_in, input_at, selector_in, selector_at, is_selected, with_time, with_profile, with_command, held_switch, held_choice}
 use Rattle.inplace.proofs.Columns.{put, puts, is_set_byte}
 
 -- numbers stored among those that stand once, one after another, in a list

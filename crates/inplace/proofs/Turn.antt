@@ -14,7 +14,6 @@ use Rattle.numbers.specs.declared.quality.Quality.{Quality}
 use Rattle.numbers.specs.Profile.{halved, marks_of, told_by}
 use Rattle.numbers.specs.Quality.{quality}
 use Rattle.numbers.specs.Refusal.{accepted}
-use Rattle.run.specs.declared.Run.{Run}
 use Rattle.input.specs.declared.Input.{Input}
 use Rattle.input.specs.Record.{fresh_input, with_run, input_brought_to, input_at_moment}
 use Rattle.choice.specs.declared.Candidate.{Candidate}
@@ -29,7 +28,7 @@ use Rattle.selector.specs.declared.Selector.{Selector}
 use Rattle.selector.specs.State.{candidate_for, candidates_of, seen_all}
 use Rattle.selector.proofs.Scanning.{leads_after, seen_one, candidate_in_outside, leader-more, leader-done}
 use Rattle.selector.specs.Answer.{answer_of, quality_of, selected_number, sign_for, ports}
-use Rattle.selector.proofs.Filled.{filled, filled-turn, filled-turn_in_place, filled-done}
+use Rattle.selector.proofs.Filled.{filled, filled-turn_in_place, filled-done}
 use Rattle.selector.proofs.SelectorLaws.{get_d_past, sign_for-turn}
 use Rattle.selector.proofs.Ports.{get_d_ports}
 use Rattle.due.specs.Next.{lesser, next_of, next_among, next_of_all, next_due}

@@ -22,7 +22,7 @@ returns c = let args = c.args in
     c.is_ranged.result
     c.is_ranged.ensures
     c.answer_at-answer.result
-    (watch_at args.times.now args.small.now args.wider.now c.tell.new.text c.tell.new.1.0)
+    (watch_at args.times.now args.small.now args.wider.now c.tell.new.due c.tell.new.told)
     c.if-is_ranged.false
     c.answer_at-answer.ensures
     (c.tell.ensures (selector_at args.times.now args.small.now args.wider.now))

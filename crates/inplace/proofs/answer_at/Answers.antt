@@ -1,6 +1,5 @@
 -- `inplace::answer_at` meets its contract. Assumes nothing.
 use Rattle.selector.specs.Answer.{answer_of}
-use borrow.Author.Rules.{rules}
 use Rattle.inplace.proofs.answer_at.Goals as goal
 
 pub returns : goal.returns

@@ -1,10 +1,5 @@
 -- `inplace::are_timely` meets its contract: in the loop the first `at` inputs are timely. Assumes nothing.
-use Prim.Native.Nat.{ℕ, ◌<◌, ◌≤◌, ◌-◌}
-use mathlib.Core.Bool.{true}
-use mathlib.Core.Path.{◌≡◌}
 use borrow.Author.Rules.{rules}
-use Rattle.inplace.specs.Lists.{input_at}
-use Rattle.inplace.specs.Own.{is_timely}
 use Rattle.inplace.proofs.Own.{timely_one-more, timely_all, timely_one_not}
 use Rattle.inplace.proofs.are_timely.Goals as goal
 

@@ -2,10 +2,8 @@
 use Prim.Native.Nat.{ℕ, ◌<◌, ◌≤◌, ◌-◌}
 use mathlib.Core.Bool.{true}
 use mathlib.Core.Path.{◌≡◌}
-use borrow.Author.Rules.{rules}
 use Rattle.inplace.specs.Lists.{input_at}
 use Rattle.inplace.specs.Own.{is_timely}
-use Rattle.inplace.proofs.Own.{timely_one-more, timely_all, timely_one_not}
 use Rattle.inplace.proofs.are_timely.Given as goal
 
 abbrev pub invariant-loop-at : goal.invariant-loop-at

@@ -1,19 +1,13 @@
 -- `inplace::bring_due` meets its contract: a turn of the loop brings one input to the time, or finds it there, and
 -- makes its own time anew. Assumes nothing.
-use Prim.Native.Nat.{ℕ, ◌<◌, ◌≤◌, ◌-◌}
-use mathlib.Core.Bool.{true}
 use mathlib.Core.List.{map}
-use mathlib.Core.Path.{◌≡◌, refl, ◌∙◌}
-use lib.ListN.{get_or}
+use mathlib.Core.Path.{refl, ◌∙◌}
 use borrow.Author.Rules.{rules}
 use Rattle.input.specs.declared.Input.{Input}
-use Rattle.input.specs.Record.{fresh_input, input_brought_to}
-use Rattle.selector.proofs.Filled.{filled}
-use Rattle.due.specs.Next.{next_among}
+use Rattle.input.specs.Record.{input_brought_to}
 use Rattle.due.proofs.DueLaws.{nextAmong-laws, next_among-all}
 use Rattle.inplace.specs.Lists.{input_at, selector_at}
-use Rattle.inplace.specs.Own.{PassesAlike}
-use Rattle.inplace.proofs.Turn.{changed, turn, done, inputs-length}
+use Rattle.inplace.proofs.Turn.{turn, done, inputs-length}
 use Rattle.inplace.proofs.Own.{own_then, untouched, awaits_still, own_turn, own-done, least-turn, alike-turn, all_alike}
 use Rattle.inplace.proofs.bring_due.Goals as goal
 
@@ -55,7 +49,7 @@ loop-at-preserved c =
       search rules,
       turn (λ (input : Input). input_brought_to input args.time args.mode) first loop.times loop.small
           args.wider.now
-          (selector_at one.new.0 one.new.1.0 args.wider.now)
+          (selector_at one.new.times one.new.small args.wider.now)
           loop.at
           (input_brought_to input args.time args.mode)
           sixteen

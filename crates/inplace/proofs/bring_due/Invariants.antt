@@ -3,18 +3,16 @@
 use Prim.Native.Nat.{ℕ, ◌<◌, ◌≤◌, ◌-◌}
 use mathlib.Core.Bool.{true}
 use mathlib.Core.List.{map}
-use mathlib.Core.Path.{◌≡◌, refl, ◌∙◌}
+use mathlib.Core.Path.{◌≡◌}
 use lib.ListN.{get_or}
-use borrow.Author.Rules.{rules}
 use Rattle.input.specs.declared.Input.{Input}
 use Rattle.input.specs.Record.{fresh_input, input_brought_to}
 use Rattle.selector.proofs.Filled.{filled}
 use Rattle.due.specs.Next.{next_among}
-use Rattle.due.proofs.DueLaws.{nextAmong-laws, next_among-all}
-use Rattle.inplace.specs.Lists.{input_at, selector_at}
+use Rattle.inplace.specs.Lists.{selector_at}
 use Rattle.inplace.specs.Own.{PassesAlike}
-use Rattle.inplace.proofs.Turn.{changed, turn, done, inputs-length}
-use Rattle.inplace.proofs.Own.{own_then, untouched, awaits_still, own_turn, own-done, least-turn, alike-turn, all_alike}
+use Rattle.inplace.proofs.Turn.{changed}
+use Rattle.inplace.proofs.Own.{own_then}
 use Rattle.inplace.proofs.bring_due.Given as goal
 
 abbrev pub invariant-loop-at : goal.invariant-loop-at

@@ -1,7 +1,6 @@
 -- `inplace::bring_input` meets its contract: an input that awaits its own time is as it would be. Assumes nothing.
 use mathlib.Core.Path.{refl, sym, ap}
 use lib.Seq.{set-get_or}
-use borrow.Author.Rules.{rules}
 use Rattle.input.specs.Record.{input_brought_to, passed_of}
 use Rattle.inplace.specs.Lists.{input_at}
 use Rattle.inplace.proofs.Own.{same-stored, own_awaited, own-made, passes-alike, brought-stored}

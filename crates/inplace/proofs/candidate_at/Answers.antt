@@ -1,7 +1,6 @@
 -- `inplace::candidate_at` meets its contract.
 -- Assumes nothing.
 use Rattle.inplace.proofs.Turn.{candidate-inside, candidate-outside}
-use borrow.Author.Rules.{rules}
 use Rattle.inplace.proofs.candidate_at.Goals as goal
 
 pub returns-then-number-lt-INPUT_COUNT : goal.returns-then-number-lt-INPUT_COUNT

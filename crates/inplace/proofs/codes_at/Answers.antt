@@ -3,7 +3,6 @@ use Rattle.numbers.specs.Codes.{code_of_quality}
 use Rattle.selector.specs.Answer.{outgoing_code, outgoing_codes}
 use Rattle.inplace.specs.Lists.{selector_at}
 use Rattle.inplace.proofs.Turn.{signs_told}
-use borrow.Author.Rules.{rules}
 use Rattle.inplace.proofs.codes_at.Goals as goal
 
 pub returns : goal.returns

@@ -4,11 +4,8 @@ use mathlib.Core.Path.{◌≡◌}
 use lib.ListN.{length}
 use Rattle.numbers.specs.Profile.{halved}
 use Rattle.selector.specs.Answer.{outgoing_code, sign_for, ports}
-use Rattle.selector.proofs.Filled.{filled, filled-done}
-use Rattle.selector.proofs.SelectorLaws.{halved-laws}
+use Rattle.selector.proofs.Filled.{filled}
 use Rattle.inplace.specs.Lists.{selector_at}
-use Rattle.inplace.proofs.Turn.{sign-turn}
-use borrow.Author.Rules.{rules}
 use Rattle.inplace.proofs.codes_for.Given as goal
 
 abbrev pub invariant-loop-port : goal.invariant-loop-port

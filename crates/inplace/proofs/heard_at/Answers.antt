@@ -1,6 +1,5 @@
 -- `inplace::heard_at` meets its contract. Assumes nothing.
 use native.Mathlib.Nat.{add-zero}
-use borrow.Author.Rules.{rules}
 use Rattle.inplace.proofs.heard_at.Goals as goal
 
 pub returns : goal.returns

@@ -1,6 +1,5 @@
 -- `inplace::input_at` meets its contract. Assumes nothing.
 use Rattle.inplace.proofs.Turn.{input_at_inside, input_at_past}
-use borrow.Author.Rules.{rules}
 use Rattle.inplace.proofs.input_at.Goals as goal
 
 pub returns-then-number-lt-INPUT_COUNT : goal.returns-then-number-lt-INPUT_COUNT

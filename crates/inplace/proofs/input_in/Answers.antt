@@ -1,6 +1,5 @@
 -- `inplace::input_in` meets its contract. Assumes nothing.
 use Rattle.inplace.specs.Lists.{input_at}
-use borrow.Author.Rules.{rules}
 use Rattle.inplace.proofs.input_in.Goals as goal
 
 pub returns : goal.returns

@@ -1,13 +1,12 @@
 -- `inplace::inputs_at_moment` meets its contract: a turn of the loop brings one input to the moment.
 -- Assumes nothing.
-use Prim.Native.Nat.{◌≤◌, ◌-◌}
 use mathlib.Core.Bool.{false}
-use mathlib.Core.Path.{◌≡◌, refl}
+use mathlib.Core.Path.{refl}
 use borrow.Author.Rules.{rules}
 use Rattle.input.specs.declared.Input.{Input}
 use Rattle.input.specs.Record.{input_at_moment, with_run}
 use Rattle.inplace.specs.Lists.{input_at, selector_at}
-use Rattle.inplace.proofs.Turn.{changed, turn, done, momentary, inputs-length}
+use Rattle.inplace.proofs.Turn.{turn, done, momentary, inputs-length}
 use Rattle.inplace.proofs.inputs_at_moment.Goals as goal
 
 pub loop-at-init : goal.loop-at-init
@@ -23,7 +22,7 @@ loop-at-preserved c =
           loop.times
           loop.small
           args.wider.now
-          (selector_at c.put_run.new.0 c.put_run.new.1.0 args.wider.now)
+          (selector_at c.put_run.new.times c.put_run.new.small args.wider.now)
           loop.at
           (with_run (input_at loop.times loop.small args.wider.now loop.at) c.at_moment-after.result.run)
           (inputs-length args.times.now args.small.now args.wider.now)

@@ -2,12 +2,11 @@
 -- Assumes nothing.
 use Prim.Native.Nat.{◌≤◌, ◌-◌}
 use mathlib.Core.Bool.{false}
-use mathlib.Core.Path.{◌≡◌, refl}
-use borrow.Author.Rules.{rules}
+use mathlib.Core.Path.{◌≡◌}
 use Rattle.input.specs.declared.Input.{Input}
-use Rattle.input.specs.Record.{input_at_moment, with_run}
-use Rattle.inplace.specs.Lists.{input_at, selector_at}
-use Rattle.inplace.proofs.Turn.{changed, turn, done, momentary, inputs-length}
+use Rattle.input.specs.Record.{input_at_moment}
+use Rattle.inplace.specs.Lists.{selector_at}
+use Rattle.inplace.proofs.Turn.{changed}
 use Rattle.inplace.proofs.inputs_at_moment.Given as goal
 
 abbrev pub invariant-loop-at : goal.invariant-loop-at

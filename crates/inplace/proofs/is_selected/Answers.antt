@@ -1,7 +1,6 @@
 -- `inplace::is_selected` meets its contract: each way is a law.
 -- Assumes nothing.
 use Rattle.inplace.proofs.Named.{isSelected-laws}
-use borrow.Author.Rules.{rules}
 use Rattle.inplace.proofs.is_selected.Goals as goal
 
 pub returns-in-Nothing : goal.returns-in-Nothing

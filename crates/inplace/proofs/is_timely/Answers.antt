@@ -1,5 +1,4 @@
 -- `inplace::is_timely` meets its contract: each way is a law. Assumes nothing.
-use borrow.Author.Rules.{rules}
 use Rattle.inplace.proofs.Own.{timely-laws}
 use Rattle.inplace.proofs.is_timely.Goals as goal
 

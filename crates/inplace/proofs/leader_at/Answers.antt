@@ -1,12 +1,6 @@
 -- `inplace::leader_at` meets its contract.
 -- Assumes nothing.
-use Prim.Native.Nat.{◌≤◌, ◌-◌}
-use mathlib.Core.Path.{◌≡◌}
 use borrow.Author.Rules.{rules}
-use Rattle.choice.specs.declared.Selection.{Selection}
-use Rattle.selector.specs.State.{candidates_of}
-use Rattle.selector.proofs.Scanning.{leads_after}
-use Rattle.inplace.specs.Lists.{selector_at}
 use Rattle.inplace.proofs.Turn.{leader-begin, leader-turn, leader-end}
 use Rattle.inplace.proofs.leader_at.Goals as goal
 

@@ -2,7 +2,6 @@
 use Rattle.inplace.specs.Lists.{selector_at}
 use Rattle.inplace.proofs.Moment.{switch-on, chosen}
 use Rattle.inplace.proofs.Turn.{inputs-length}
-use borrow.Author.Rules.{rules}
 use Rattle.inplace.proofs.make_choice.Goals as goal
 
 pub returns : goal.returns
@@ -16,7 +15,7 @@ returns c =
     let switch = selection in
     let args = switch.args in
     chosen (selector_at args.times.now args.small.now args.wider.now)
-    (selector_at args.times.now c.put_choice.new.0 args.wider.now)
+    (selector_at args.times.now c.put_choice.new.small args.wider.now)
     decided.decide-choice.result
     switch.switch_at-switch.result
     selection.selection_at-selection.result

@@ -1,11 +1,8 @@
 -- `inplace::next_due` meets its contract. Assumes nothing.
 use Prim.Native.Nat.{◌≤◌, ◌-◌}
 use mathlib.Core.Path.{◌≡◌}
-use borrow.Author.Rules.{rules}
 use Rattle.due.specs.Next.{next_among}
-use Rattle.due.proofs.DueLaws.{nextAmong-laws}
 use Rattle.inplace.specs.Lists.{selector_at}
-use Rattle.inplace.proofs.Turn.{due-turn, due-done}
 use Rattle.inplace.proofs.next_due.Given as goal
 
 abbrev pub invariant-loop-at : goal.invariant-loop-at

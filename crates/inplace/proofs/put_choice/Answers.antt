@@ -1,6 +1,5 @@
 -- `inplace::put_choice` meets its contract. Assumes nothing.
 use Rattle.inplace.proofs.Once.{choice-stored}
-use borrow.Author.Rules.{rules}
 use Rattle.inplace.proofs.put_choice.Goals as goal
 
 pub returns : goal.returns

@@ -1,6 +1,5 @@
 -- `inplace::put_command` meets its contract. Assumes nothing.
 use Rattle.inplace.proofs.Once.{command-stored}
-use borrow.Author.Rules.{rules}
 use Rattle.inplace.proofs.put_command.Goals as goal
 
 pub returns : goal.returns

@@ -1,10 +1,9 @@
 -- `inplace::put_fresh` meets its contract. Assumes nothing.
-use Prim.Native.Nat.{◌≤◌, ◌-◌}
-use mathlib.Core.Path.{◌≡◌, refl}
+use mathlib.Core.Path.{refl}
 use Rattle.input.specs.declared.Input.{Input}
 use Rattle.input.specs.Record.{fresh_input}
 use Rattle.inplace.specs.Lists.{selector_at}
-use Rattle.inplace.proofs.Turn.{changed, turn, fresh-done, inputs-length}
+use Rattle.inplace.proofs.Turn.{turn, fresh-done, inputs-length}
 use borrow.Author.Rules.{rules}
 use Rattle.inplace.proofs.put_fresh.Goals as goal
 
@@ -21,7 +20,7 @@ loop-at-preserved c =
           loop.times
           loop.small
           loop.wider
-          (selector_at c.put_in.new.0 c.put_in.new.1.0 c.put_in.new.1.1.0)
+          (selector_at c.put_in.new.times c.put_in.new.small c.put_in.new.wider)
           loop.at
           c.fresh-fresh.result
           (inputs-length args.times.now args.small.now args.wider.now)

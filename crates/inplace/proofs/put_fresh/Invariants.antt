@@ -1,11 +1,10 @@
 -- `inplace::put_fresh` meets its contract. Assumes nothing.
 use Prim.Native.Nat.{◌≤◌, ◌-◌}
-use mathlib.Core.Path.{◌≡◌, refl}
+use mathlib.Core.Path.{◌≡◌}
 use Rattle.input.specs.declared.Input.{Input}
 use Rattle.input.specs.Record.{fresh_input}
 use Rattle.inplace.specs.Lists.{selector_at}
-use Rattle.inplace.proofs.Turn.{changed, turn, fresh-done, inputs-length}
-use borrow.Author.Rules.{rules}
+use Rattle.inplace.proofs.Turn.{changed}
 use Rattle.inplace.proofs.put_fresh.Given as goal
 
 abbrev pub invariant-loop-at : goal.invariant-loop-at

@@ -1,7 +1,6 @@
 -- `inplace::put_in` meets its contract. Assumes nothing.
 use native.Mathlib.Nat.{add-zero}
 use Rattle.inplace.proofs.Columns.{input-stored}
-use borrow.Author.Rules.{rules}
 use Rattle.inplace.proofs.put_in.Goals as goal
 
 pub returns : goal.returns

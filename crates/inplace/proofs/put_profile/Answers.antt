@@ -1,6 +1,5 @@
 -- `inplace::put_profile` meets its contract. Assumes nothing.
 use Rattle.inplace.proofs.Once.{profile-stored}
-use borrow.Author.Rules.{rules}
 use Rattle.inplace.proofs.put_profile.Goals as goal
 
 pub returns : goal.returns

@@ -1,6 +1,5 @@
 -- `inplace::put_run` meets its contract. Assumes nothing.
 use Rattle.inplace.proofs.Columns.{run_stored}
-use borrow.Author.Rules.{rules}
 use Rattle.inplace.proofs.put_run.Goals as goal
 
 pub returns : goal.returns

@@ -1,6 +1,5 @@
 -- `inplace::put_time` meets its contract. Assumes nothing.
 use Rattle.inplace.proofs.Once.{time-stored}
-use borrow.Author.Rules.{rules}
 use Rattle.inplace.proofs.put_time.Goals as goal
 
 pub returns : goal.returns

@@ -1,5 +1,4 @@
 -- `inplace::run_at` meets its contract. Assumes nothing.
-use borrow.Author.Rules.{rules}
 use Rattle.inplace.proofs.run_at.Goals as goal
 
 pub returns : goal.returns

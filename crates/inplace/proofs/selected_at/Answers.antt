@@ -1,6 +1,5 @@
 -- `inplace::selected_at` meets its contract. Assumes nothing.
 use Rattle.selector.proofs.SelectorLaws.{selectedCandidate-laws}
-use borrow.Author.Rules.{rules}
 use Rattle.inplace.proofs.selected_at.Goals as goal
 
 pub returns-in-Nothing : goal.returns-in-Nothing

@@ -2,7 +2,6 @@
 -- changes nothing. Assumes nothing.
 use mathlib.Core.Bool.{Bool}
 use mathlib.Core.Path.{sym, subst}
-use borrow.Author.Rules.{rules}
 use Rattle.numbers.proofs.Truth.{both_first, both-second}
 use Rattle.inplace.specs.Lists.{selector_at}
 use Rattle.inplace.specs.Own.{Awaiting}
@@ -31,15 +30,15 @@ returns-then-chosen-brought c =
     let brought = c.bring_due-brought in
     let timed = c.put_time in
     let state = selector_at args.times.now args.small.now args.wider.now in
-    let after = selector_at timed.new.0 brought.new.1.0 args.wider.now in
+    let after = selector_at timed.new.times brought.new.small args.wider.now in
     let mode = asked.ensures args.times.now args.wider.now in
     let both = c.if-chosen-brought.true in
-    let ticked = moment-alike state (selector_at brought.new.0 brought.new.1.0 args.wider.now) after args.time
+    let ticked = moment-alike state (selector_at brought.new.times brought.new.small args.wider.now) after args.time
     asked.result
     (inputs-length args.times.now args.small.now args.wider.now)
     mode
     brought.ensures.0
-    (timed.ensures brought.new.1.0 args.wider.now)
+    (timed.ensures brought.new.small args.wider.now)
     (start.requires.1 (both_first args.chosen brought.result.alike both))
     (brought.ensures.3 (both-second args.chosen brought.result.alike both)) in (
       ticked,
@@ -54,16 +53,16 @@ returns c =
     let brought = c.bring_due-brought in
     let timed = c.put_time in
     let state = selector_at args.times.now args.small.now args.wider.now in
-    let after = selector_at timed.new.0 c.make_choice.new.1.0 args.wider.now in
+    let after = selector_at timed.new.times c.make_choice.new.small args.wider.now in
     let mode = asked.ensures args.times.now args.wider.now in
-    let ticked = moment state (selector_at brought.new.0 brought.new.1.0 args.wider.now)
-    (selector_at timed.new.0 brought.new.1.0 args.wider.now)
+    let ticked = moment state (selector_at brought.new.times brought.new.small args.wider.now)
+    (selector_at timed.new.times brought.new.small args.wider.now)
     after
     args.time
     asked.result
     mode
     brought.ensures.0
-    (timed.ensures brought.new.1.0 args.wider.now)
+    (timed.ensures brought.new.small args.wider.now)
     c.make_choice.ensures in (
       ticked,
       moment-own state after args.time asked.result mode ticked _ brought.ensures.1,

@@ -1,5 +1,4 @@
 -- `inplace::settings_at` meets its contract. Assumes nothing.
-use borrow.Author.Rules.{rules}
 use Rattle.inplace.proofs.settings_at.Goals as goal
 
 pub returns : goal.returns

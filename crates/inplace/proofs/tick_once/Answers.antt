@@ -1,8 +1,6 @@
 -- `inplace::tick_once` meets its contract: with no own time known, all inputs are brought on. Assumes nothing.
-use Prim.Native.Nat.{ℕ}
 use mathlib.Core.Bool.{true≢false}
 use mathlib.Core.Path.{sym}
-use borrow.Author.Rules.{rules}
 use Rattle.inplace.specs.Lists.{selector_at}
 use Rattle.inplace.proofs.Own.{awaiting_first}
 use Rattle.inplace.proofs.tick_once.Goals as goal

@@ -4,7 +4,6 @@ use Rattle.numbers.specs.Codes.{word_of_quality}
 use Rattle.selector.specs.Answer.{outgoing_word, outgoing_words}
 use Rattle.inplace.specs.Lists.{selector_at}
 use Rattle.inplace.proofs.Turn.{signs_told}
-use borrow.Author.Rules.{rules}
 use Rattle.inplace.proofs.words_at.Goals as goal
 
 pub returns : goal.returns

@@ -1,12 +1,6 @@
 -- `inplace::words_for` meets its contract. Assumes nothing.
-use Prim.Native.Nat.{◌≤◌, ◌-◌}
-use mathlib.Core.Path.{◌≡◌}
-use lib.ListN.{length}
-use Rattle.numbers.specs.Profile.{halved}
-use Rattle.selector.specs.Answer.{outgoing_word, sign_for, ports}
-use Rattle.selector.proofs.Filled.{filled, filled-done}
+use Rattle.selector.proofs.Filled.{filled-done}
 use Rattle.selector.proofs.SelectorLaws.{halved-laws}
-use Rattle.inplace.specs.Lists.{selector_at}
 use Rattle.inplace.proofs.Turn.{sign-turn}
 use borrow.Author.Rules.{rules}
 use Rattle.inplace.proofs.words_for.Goals as goal

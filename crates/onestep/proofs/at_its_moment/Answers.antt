@@ -9,9 +9,9 @@ pub returns : goal.returns
 returns c = let args = c.args in
     let all = c.inputs_after in
     own-moment (selector_at args.times.now args.small.now args.wider.now)
-    (selector_at all.new.0 all.new.1.0 all.new.1.1.0)
-    (selector_at all.new.0 c.put_command.new.0 all.new.1.1.0)
-    (selector_at all.new.0 c.make_choice.new.1.0 all.new.1.1.0)
+    (selector_at all.new.times all.new.small all.new.wider)
+    (selector_at all.new.times c.put_command.new.small all.new.wider)
+    (selector_at all.new.times c.make_choice.new.small all.new.wider)
     args.event
     c.profile_at-profile.result
     c.mode_at-earlier.result
@@ -26,5 +26,5 @@ returns c = let args = c.args in
     c.commanded-switch.ensures
     (c.profile_at-profile.ensures args.times.now)
     all.ensures
-    (c.put_command.ensures all.new.0 all.new.1.1.0)
+    (c.put_command.ensures all.new.times all.new.wider)
     c.make_choice.ensures

@@ -12,8 +12,8 @@ returns c = let args = c.args in
     let tick = c.serve-count in
     let after = c.step_ticked-number in
     accepted-step (selector_at args.times.now args.small.now args.wider.now)
-    (selector_at tick.new.0 tick.new.1.0 args.wider.now)
-    (selector_at after.new.0 after.new.1.0 after.new.1.1.0)
+    (selector_at tick.new.times tick.new.small args.wider.now)
+    (selector_at after.new.times after.new.small after.new.wider)
     tick.result
     after.result
     args.event

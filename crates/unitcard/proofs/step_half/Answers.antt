@@ -11,9 +11,9 @@ returns c =
     let args = c.args in
     let step = c.half_step-number in
     half-stepped (half_step (selector_at args.times.now args.small.now args.wider.now) args.goes args.event args.read) step.result
-    (selector_at step.new.0 step.new.1.0 step.new.1.1.0)
-    (watch_at step.new.0 step.new.1.0 step.new.1.1.0 c.tell_half.new.1.1.1.0
-    c.tell_half.new.1.1.1.1.0)
+    (selector_at step.new.times step.new.small step.new.wider)
+    (watch_at step.new.times step.new.small step.new.wider c.tell_half.new.due
+    c.tell_half.new.told)
     step.ensures.0
     step.ensures.1
     c.tell_half.ensures

@@ -11,7 +11,7 @@ returns c =
     let args = c.args in
     let state = selector_at args.times.now args.small.now args.wider.now in
     half-told args.number state c.next_due-next.result c.answer_at-answer.result
-    (watch_held state c.tell.new.text c.tell.new.1.0)
+    (watch_held state c.tell.new.due c.tell.new.told)
     c.next_due-next.ensures
     c.answer_at-answer.ensures
     (c.tell.ensures state)

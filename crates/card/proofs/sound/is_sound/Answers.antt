@@ -15,7 +15,7 @@ returns c = let args = c.args in
     c.next_due-next.result
     again.result
     c.answer_at-answer.result
-    (selector_at again.new.0 again.new.1.0 args.wider.now)
+    (selector_at again.new.times again.new.small args.wider.now)
     c.same_runs-runs.result
     c.same_once-once.result
     c.same_answer-told_right.result
@@ -24,5 +24,5 @@ returns c = let args = c.args in
     c.answer_at-answer.ensures
     again.ensures
     c.same_runs-runs.ensures
-    (c.same_once-once.ensures args.times.now again.new.0 args.wider.now)
+    (c.same_once-once.ensures args.times.now again.new.times args.wider.now)
     c.same_answer-told_right.ensures

@@ -8,10 +8,10 @@ pub returns : goal.returns
 returns c = let args = c.args in
     let put = c.put_input in
     own-moved (selector_at args.times.now args.small.now args.wider.now)
-    (selector_at put.new.0 put.new.1.0 put.new.1.1.0)
-    (selector_at c.put_time.new.0 put.new.1.0 put.new.1.1.0)
+    (selector_at put.new.times put.new.small put.new.wider)
+    (selector_at c.put_time.new.times put.new.small put.new.wider)
     args.number.0
     args.input
     args.time
     put.ensures
-    (c.put_time.ensures put.new.1.0 put.new.1.1.0)
+    (c.put_time.ensures put.new.small put.new.wider)

@@ -9,7 +9,7 @@ pub returns : goal.returns
 unfolding watch_at
 returns c = let args = c.args in
     let step = c.step_accepted-after in
-    let after = selector_at step.new.0 step.new.1.0 step.new.1.1.0 in
+    let after = selector_at step.new.times step.new.small step.new.wider in
     served-told (selector_at args.times.now args.small.now args.wider.now) after args.next
     c.due_left-later.result
     step.result.number
@@ -17,7 +17,7 @@ returns c = let args = c.args in
     c.answer_at-answer.result
     args.event
     args.read
-    (watch_held after c.tell.new.text c.tell.new.1.0)
+    (watch_held after c.tell.new.due c.tell.new.told)
     step.ensures
     c.due_left-later.ensures
     c.answer_at-answer.ensures

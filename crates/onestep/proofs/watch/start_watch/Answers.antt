@@ -9,9 +9,9 @@ pub returns : goal.returns
 unfolding watch_at
 returns c = let args = c.args in
     let fresh = c.start in
-    let state = selector_at fresh.new.0 fresh.new.1.0 fresh.new.1.1.0 in
+    let state = selector_at fresh.new.times fresh.new.small fresh.new.wider in
     fresh-told args.profile state c.next_due-next.result c.answer_at-answer.result
-    (watch_held state c.tell.new.text c.tell.new.1.0)
+    (watch_held state c.tell.new.due c.tell.new.told)
     fresh.ensures
     c.next_due-next.ensures
     c.answer_at-answer.ensures
