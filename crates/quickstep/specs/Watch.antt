@@ -101,13 +101,13 @@ own_put watch own event read =
     read
 
 -- the event's own input before it
-abbrev pub field_own : Selector → Event → Input
-field_own state event = get_or state.inputs (own_index event) fresh_input
+abbrev pub own_at : Selector → Event → Input
+own_at state event = get_or state.inputs (own_index event) fresh_input
 
 -- what an event makes of its own input, where nothing is due before a time
 abbrev pub own_from : Selector → ℕ → Event → FrameRead → Own
 own_from state due event read =
-    own_step (field_own state event) state.profile state.mode state.time due event read
+    own_step (own_at state event) state.profile state.mode state.time due event read
 
 -- one event, taken by its own input, where nothing is due before a time
 abbrev pub take_with : Watch → ℕ → Event → FrameRead → Watch
@@ -127,13 +127,13 @@ take_step watch event read = take_with watch (due_at watch event) event read
 abbrev pub is_put_at_once : Watch → Event → FrameRead → Bool
 is_put_at_once watch event read =
     let state = watch.state in
-    says_again (field_own state event) state.profile state.time watch.due event read
+    says_again (own_at state event) state.profile state.time watch.due event read
 
 -- one event: said again, and put at once; or taken
 unfoldable pub watch_step : Watch → Event → FrameRead → Watch
 watch_step watch event read =
     cond (is_put_at_once watch event read)
-    (own_put watch (again_own (field_own watch.state event) watch.due event) event read)
+    (own_put watch (again_own (own_at watch.state event) watch.due event) event read)
     (take_step watch event read)
 
 -- the answer to an event is made anew, by a choice or by the plain step; otherwise it is the answer before it with

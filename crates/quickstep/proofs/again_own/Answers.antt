@@ -1,7 +1,6 @@
 -- `quickstep::again_own` meets its contract: each way is a law.
 -- Assumes nothing.
 use Rattle.quickstep.proofs.QuickLaws.{againOwn-laws}
-use borrow.Author.Rules.{rules}
 use Rattle.quickstep.proofs.again_own.Goals as goal
 
 pub returns-then-event-eq-KIND_FRAME : goal.returns-then-event-eq-KIND_FRAME

@@ -1,7 +1,6 @@
 -- `quickstep::code_again` meets its contract: each way is a law.
 -- Assumes nothing.
 use Rattle.quickstep.proofs.QuickLaws.{codeAgain-laws}
-use borrow.Author.Rules.{rules}
 use Rattle.quickstep.proofs.code_again.Goals as goal
 
 pub returns-then-heard-code : goal.returns-then-heard-code

@@ -1,7 +1,6 @@
 -- `quickstep::frame_again` meets its contract: each way is a law.
 -- Assumes nothing.
 use Rattle.quickstep.proofs.QuickLaws.{frameAgain-laws}
-use borrow.Author.Rules.{rules}
 use Rattle.quickstep.proofs.frame_again.Goals as goal
 
 pub returns-then-failed : goal.returns-then-failed

@@ -1,7 +1,6 @@
 -- `quickstep::is_served` meets its contract: each way is a law.
 -- Assumes nothing.
 use Rattle.quickstep.proofs.QuickLaws.{isServed-laws}
-use borrow.Author.Rules.{rules}
 use Rattle.quickstep.proofs.is_served.Goals as goal
 
 pub returns-then-due-time : goal.returns-then-due-time

@@ -1,6 +1,5 @@
 -- `quickstep::own_step` meets its contract: each way is a law.
 -- Assumes nothing.
-use borrow.Author.Rules.{rules}
 use Rattle.quickstep.proofs.QuickLaws.{ownStep-laws}
 use Rattle.quickstep.proofs.own_step.Goals as goal
 

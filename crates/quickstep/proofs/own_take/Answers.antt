@@ -1,6 +1,5 @@
 -- `quickstep::own_take` meets its contract: each way is a law.
 -- Assumes nothing.
-use borrow.Author.Rules.{rules}
 use Rattle.quickstep.proofs.QuickLaws.{ownTake-laws}
 use Rattle.quickstep.proofs.own_take.Goals as goal
 

@@ -1,6 +1,5 @@
 -- `quickstep::repeats` meets its contract: each way is a law.
 -- Assumes nothing.
-use borrow.Author.Rules.{rules}
 use Rattle.quickstep.proofs.QuickLaws.{repeats-laws}
 use Rattle.quickstep.proofs.repeats.Goals as goal
 

@@ -1,7 +1,6 @@
 -- `quickstep::seen_alike` meets its contract by a law.
 -- Assumes nothing.
 use Rattle.quickstep.proofs.QuickLaws.{seenAlike-laws}
-use borrow.Author.Rules.{rules}
 use Rattle.quickstep.proofs.seen_alike.Goals as goal
 
 pub returns : goal.returns
