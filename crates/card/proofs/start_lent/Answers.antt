@@ -2,7 +2,6 @@
 use Rattle.inplace.specs.Lists.{selector_at}
 use Rattle.onestep.specs.Watched.{watch_at}
 use Rattle.card.proofs.CardLaws.{start_neither, start_fresh, start_refused}
-use borrow.Author.Tests.{not-true, not-false}
 use borrow.Author.Rules.{rules}
 use Rattle.card.proofs.start_lent.Goals as goal
 
@@ -17,7 +16,7 @@ returns-then-not-names_option c = let args = c.args in
     c.names_option.result
     c.names_option.ensures
     (watch_at args.times.now args.small.now args.wider.now c.put_number.new.due c.put_number.new.told)
-    (not-true _ c.if-not-names_option.true-raw)
+    c.if-not-names_option.true
     (c.put_number.ensures (selector_at args.times.now args.small.now args.wider.now))
 
 pub returns-then-number-eq-ACCEPTED : goal.returns-then-number-eq-ACCEPTED
@@ -31,12 +30,12 @@ returns-then-number-eq-ACCEPTED c = let args = c.args in
     args.marks
     c.names_option.result
     c.names_option.ensures
-    (not-false _ c.if-not-names_option.false-raw)
+    c.if-not-names_option.false
     c.profile_in-profile.result
     c.profile_in-profile.ensures
     c.start_number-number.result
     c.start_number-number.ensures
-    (watch_at all.0 all.1.0 all.1.1.0 all.1.1.1.0 all.1.1.1.1.0)
+    (watch_at all.times all.small all.wider all.due all.told)
     c.if-number-eq-ACCEPTED.true
     c.start_watch.ensures
 
@@ -50,7 +49,7 @@ returns c = let args = c.args in
     args.marks
     c.names_option.result
     c.names_option.ensures
-    (not-false _ c.if-not-names_option.false-raw)
+    c.if-not-names_option.false
     c.profile_in-profile.result
     c.profile_in-profile.ensures
     c.start_number-number.result

@@ -11,7 +11,7 @@ returns c = let args = c.args in
     step-called
     (watch_at args.times.now args.small.now args.wider.now args.due.now args.told.now)
     (watch_at args.times.now args.small.now args.wider.now ranged.new.due ranged.new.told)
-    (watch_at all.0 all.1.0 all.1.1.0 all.1.1.1.0 all.1.1.1.1.0)
+    (watch_at all.times all.small all.wider all.due all.told)
     args.kind
     args.time
     args.input

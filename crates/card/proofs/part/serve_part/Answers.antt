@@ -1,7 +1,6 @@
 -- `card::part::serve_part` meets its contract. Assumes nothing.
 use Prim.Native.Nat.{◌≤◌, ◌-◌}
 use mathlib.Core.Path.{◌≡◌}
-use borrow.Author.Tests.{leb-true, leb-false}
 use Rattle.due.specs.Next.{next_due}
 use Rattle.onestep.specs.Watched.{watch_at}
 use Rattle.card.proofs.Portions.{Parted, parted_none, parted_turn, parted_late, parted_full}
@@ -24,12 +23,12 @@ loop-count-preserved c =
           (watch_at args.times.now args.small.now args.wider.now args.due.now args.told.now)
           args.time
           (watch_at loop.times loop.small loop.wider loop.due loop.told)
-          (watch_at all.0 all.1.0 all.1.1.0 all.1.1.1.0 all.1.1.1.1.0)
+          (watch_at all.times all.small all.wider all.due all.told)
           loop.count
           loop.next
           loop.invariant.2
           loop.invariant.1
-          (leb-true _ _ c.if-next-time.true-raw)
+          c.if-next-time.true
           c.loop-count-test.true
           c.tick_at.ensures,
     )
@@ -44,7 +43,7 @@ returns-else-next-time c =
           loop.next
           loop.invariant.2
           loop.invariant.1
-          (leb-false _ _ c.if-next-time.false-raw),
+          c.if-next-time.false,
       loop.invariant.1,
     )
 

@@ -1,7 +1,6 @@
 -- `card::part::serve_part` meets its contract. Assumes nothing.
 use Prim.Native.Nat.{◌≤◌, ◌-◌}
 use mathlib.Core.Path.{◌≡◌}
-use borrow.Author.Tests.{leb-true, leb-false}
 use Rattle.due.specs.Next.{next_due}
 use Rattle.onestep.specs.Watched.{watch_at}
 use Rattle.card.proofs.Portions.{Parted, parted_none, parted_turn, parted_late, parted_full}

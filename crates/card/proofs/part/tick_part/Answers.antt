@@ -10,7 +10,7 @@ returns-then-time-ge-TIME_LIMIT c = let args = c.args in
     part_limit args.most
     (watch_at args.times.now args.small.now args.wider.now args.due.now args.told.now)
     args.time
-    (watch_at all.0 all.1.0 all.1.1.0 all.1.1.1.0 all.1.1.1.1.0)
+    (watch_at all.times all.small all.wider all.due all.told)
     (search rules)
     c.tick_at.ensures
 
@@ -23,7 +23,7 @@ returns-then-next-time c = let args = c.args in
     args.time
     c.at_least_one-limit.result
     part.result
-    (watch_at all.0 all.1.0 all.1.1.0 all.1.1.1.0 all.1.1.1.1.0)
+    (watch_at all.times all.small all.wider all.due all.told)
     (search rules)
     c.at_least_one-limit.ensures
     part.ensures.0
@@ -40,11 +40,11 @@ returns c = let args = c.args in
     args.time
     c.at_least_one-limit.result
     part.result
-    (watch_at some.0 some.1.0 some.1.1.0 some.1.1.1.0 some.1.1.1.1.0)
+    (watch_at some.times some.small some.wider some.due some.told)
     (search rules)
     c.at_least_one-limit.ensures
     part.ensures.0
     part.ensures.1
-    (watch_at all.0 all.1.0 all.1.1.0 all.1.1.1.0 all.1.1.1.1.0)
+    (watch_at all.times all.small all.wider all.due all.told)
     (search rules)
     c.tick_at-2.ensures

@@ -14,7 +14,7 @@ loop-at-init c =
       search rules,
       search rules,
       c.test_lines-lines.ensures,
-      answered-none _ (watch_at all.0 all.1.0 all.1.1.0 all.1.1.1.0 all.1.1.1.1.0)
+      answered-none _ (watch_at all.times all.small all.wider all.due all.told)
           c.start_watch.ensures,
     )
 
@@ -29,7 +29,7 @@ loop-at-preserved c =
       inv.2,
       answered-more _ loop.at loop.right _
           (watch_at loop.times loop.small loop.wider loop.due loop.told)
-          (watch_at all.0 all.1.0 all.1.1.0 all.1.1.1.0 all.1.1.1.1.0)
+          (watch_at all.times all.small all.wider all.due all.told)
           _
           inv.3
           (search rules)

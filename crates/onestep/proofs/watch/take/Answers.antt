@@ -5,52 +5,41 @@ use Rattle.onestep.specs.Watched.{watch_held, watch_at}
 use Rattle.onestep.proofs.Watched.{Taking, take-nothing, take-choice, take_service, service_accepted}
 use borrow.Author.Rules.{rules}
 use Rattle.onestep.proofs.watch.take.Goals as goal
+use Rattle.onestep.proofs.watch.take.Goals.{After-own_step-own}
 
--- the start
-abbrev start : tie.After-own-step → tie.Start
-start a = a.before.before.before.before.before.before.before.before.before.before.before.before.before
-
--- the watch that the arrays held then
-abbrev watch : tie.After-own-step → Watch
-watch a =
-    let args = (start a).args in
+-- the watch that the arrays held at the start
+abbrev watch : After-own_step-own → Watch
+watch a = let args = a.args in
     watch_at args.times.now args.small.now args.wider.now args.due.now args.told.now
 
 -- what was read of it, and what the event makes of its own input
-taking : (a : tie.After-own-step)
-    → let args = (start a).args in
-    Taking (watch a) args.next args.event args.read
+taking : (a : After-own_step-own) → Taking (watch a) a.args.next a.args.event a.args.read
 unfolding watch_at
-taking a =
-    let args = (start a).args in
-    let time = a.before in
-    let mode = time.before.before in
-    let profile = mode.before.before in
-    let input = profile.before.before.before in
+taking a = let args = a.args in
     record {
-      before = input.input-at.result;
-      profile = profile.profile-at.result;
-      mode = mode.mode-at.result;
-      time = time.time-at.result;
-      own = a.own-step.result;
-      is_before = input.input-at.ensures;
-      is_profile = profile.profile-at.ensures args.times.now;
-      is_mode = mode.mode-at.ensures args.times.now args.wider.now;
-      is_time = time.time-at.ensures args.small.now args.wider.now;
-      is_own = a.own-step.ensures;
+      before = a.input_at-before.result;
+      profile = a.profile_at-profile.result;
+      mode = a.mode_at-mode.result;
+      time = a.time_at-time.result;
+      own = a.own_step-own.result;
+      is_before = a.input_at-before.ensures;
+      is_profile = a.profile_at-profile.ensures args.times.now;
+      is_mode = a.mode_at-mode.ensures args.times.now args.wider.now;
+      is_time = a.time_at-time.ensures args.small.now args.wider.now;
+      is_own = a.own_step-own.ensures;
     }
 
 pub serve_event-requires : goal.serve_event-requires
 unfolding watch_at taking
 serve_event-requires c =
-    service_accepted _ _ _ _ (taking c) (search rules)
+    service_accepted _ _ _ _ (taking (goal.at.serve_event-requires c).After-own_step-own) (search rules)
 
 pub returns-in-Nothing : goal.returns-in-Nothing
 unfolding watch_at taking
 returns-in-Nothing c =
     let put = c.put_own in
     let after = selector_at put.new.times put.new.small put.new.wider in
-    take-nothing _ _ _ _ (taking c) after
+    take-nothing _ _ _ _ (taking (goal.at.returns-in-Nothing c).After-own_step-own) after
     (watch_held after c.put_number.new.due c.put_number.new.told)
     (search rules)
     put.ensures
@@ -62,7 +51,7 @@ returns-in-Choice c =
     let put = c.put_own-in-Choice in
     let all = c.choose in
     take-choice _ _ _ _
-    (taking c)
+    (taking (goal.at.returns-in-Choice c).After-own_step-own)
     (selector_at put.new.times put.new.small put.new.wider)
     (watch_at put.new.times all.new.small put.new.wider all.new.due all.new.told)
     (search rules)
@@ -73,6 +62,6 @@ pub returns-in-Service : goal.returns-in-Service
 unfolding watch_at taking
 returns-in-Service c =
     let all = c.serve_event.new in
-    take_service _ _ _ _ (taking c) (search rules)
-    (watch_at all.0 all.1.0 all.1.1.0 all.1.1.1.0 all.1.1.1.1.0)
+    take_service _ _ _ _ (taking (goal.at.returns-in-Service c).After-own_step-own) (search rules)
+    (watch_at all.times all.small all.wider all.due all.told)
     c.serve_event.ensures

@@ -13,26 +13,26 @@ unfolding lent_at watch_at
 returns-then-not-names_option c =
     let args = c.args in
     start_neither (watch_at args.times.now args.small.now args.wider.now args.due.now args.told.now)
-    (watch_at args.station-times.now args.station-small.now args.station-wider.now args.station-due.now args.station-told.now)
+    (watch_at args.station_times.now args.station_small.now args.station_wider.now args.station_due.now args.station_told.now)
     args.sent.now args.option args.provplace args.marks args.minimum c.names_option.result
     c.names_option.ensures
     (watch_at args.times.now args.small.now args.wider.now c.refuse.new.due c.refuse.new.told)
-    (watch_at args.station-times.now args.station-small.now args.station-wider.now c.refuse-then-not-names_option.new.due c.refuse-then-not-names_option.new.told)
-    (not-true _ c.if-not-names_option.true-raw)
+    (watch_at args.station_times.now args.station_small.now args.station_wider.now c.refuse-then-not-names_option.new.due c.refuse-then-not-names_option.new.told)
+    c.if-not-names_option.true
     (c.refuse.ensures (selector_at args.times.now args.small.now args.wider.now))
-    (c.refuse-then-not-names_option.ensures (selector_at args.station-times.now args.station-small.now args.station-wider.now))
+    (c.refuse-then-not-names_option.ensures (selector_at args.station_times.now args.station_small.now args.station_wider.now))
 
 pub returns-then-number-eq-ACCEPTED : goal.returns-then-number-eq-ACCEPTED
 unfolding lent_at watch_at
 returns-then-number-eq-ACCEPTED c =
     let args = c.args in
     start_fresh (watch_at args.times.now args.small.now args.wider.now args.due.now args.told.now)
-    (watch_at args.station-times.now args.station-small.now args.station-wider.now args.station-due.now args.station-told.now)
+    (watch_at args.station_times.now args.station_small.now args.station_wider.now args.station_due.now args.station_told.now)
     args.sent.now args.option args.provplace args.marks args.minimum c.names_option.result
     c.names_option.ensures
     (watch_at c.start_half.new.times c.start_half.new.small c.start_half.new.wider c.start_half.new.due c.start_half.new.told)
     (watch_at c.start_half-then-number-eq-ACCEPTED.new.times c.start_half-then-number-eq-ACCEPTED.new.small c.start_half-then-number-eq-ACCEPTED.new.wider c.start_half-then-number-eq-ACCEPTED.new.due c.start_half-then-number-eq-ACCEPTED.new.told)
-    (not-false _ c.if-not-names_option.false-raw)
+    c.if-not-names_option.false
     c.profile_in-profile.result
     c.profile_in-profile.ensures
     c.unit_start_number-number.result
@@ -48,16 +48,16 @@ unfolding lent_at watch_at
 returns c =
     let args = c.args in
     start_refused (watch_at args.times.now args.small.now args.wider.now args.due.now args.told.now)
-    (watch_at args.station-times.now args.station-small.now args.station-wider.now args.station-due.now args.station-told.now)
+    (watch_at args.station_times.now args.station_small.now args.station_wider.now args.station_due.now args.station_told.now)
     args.sent.now args.option args.provplace args.marks args.minimum c.names_option.result
     c.names_option.ensures
     (watch_at args.times.now args.small.now args.wider.now c.refuse-2.new.due c.refuse-2.new.told)
-    (watch_at args.station-times.now args.station-small.now args.station-wider.now c.refuse-3.new.due c.refuse-3.new.told)
-    (not-false _ c.if-not-names_option.false-raw)
+    (watch_at args.station_times.now args.station_small.now args.station_wider.now c.refuse-3.new.due c.refuse-3.new.told)
+    c.if-not-names_option.false
     c.profile_in-profile.result
     c.profile_in-profile.ensures
     c.unit_start_number-number.result
     c.unit_start_number-number.ensures
     c.if-number-eq-ACCEPTED.false
     (c.refuse-2.ensures (selector_at args.times.now args.small.now args.wider.now))
-    (c.refuse-3.ensures (selector_at args.station-times.now args.station-small.now args.station-wider.now))
+    (c.refuse-3.ensures (selector_at args.station_times.now args.station_small.now args.station_wider.now))

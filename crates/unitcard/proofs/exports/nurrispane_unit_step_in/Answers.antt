@@ -13,10 +13,10 @@ unfolding lent_at watch_at
 returns-then-half-gt-STATION c =
     let args = c.args in
     step-neither (watch_at args.times.now args.small.now args.wider.now args.due.now args.told.now)
-    (watch_at args.station-times.now args.station-small.now args.station-wider.now args.station-due.now args.station-told.now)
+    (watch_at args.station_times.now args.station_small.now args.station_wider.now args.station_due.now args.station_told.now)
     args.sent.now c.send.new.sent args.half args.kind args.time args.input args.argument args.frame.now
     (watch_at args.times.now args.small.now args.wider.now c.tell_half.new.due c.tell_half.new.told)
-    (watch_at args.station-times.now args.station-small.now args.station-wider.now c.tell_half-then-half-gt-STATION.new.due c.tell_half-then-half-gt-STATION.new.told)
+    (watch_at args.station_times.now args.station_small.now args.station_wider.now c.tell_half-then-half-gt-STATION.new.due c.tell_half-then-half-gt-STATION.new.told)
     c.send.ensures
     c.if-half-gt-STATION.true
     c.tell_half.ensures
@@ -27,7 +27,7 @@ unfolding lent_at watch_at
 returns c =
     let args = c.args in
     step-taken (watch_at args.times.now args.small.now args.wider.now args.due.now args.told.now)
-    (watch_at args.station-times.now args.station-small.now args.station-wider.now args.station-due.now args.station-told.now)
+    (watch_at args.station_times.now args.station_small.now args.station_wider.now args.station_due.now args.station_told.now)
     args.sent.now c.send-2.new.sent args.half args.kind args.time args.input args.argument args.frame.now
     (watch_at c.step_half.new.times c.step_half.new.small c.step_half.new.wider c.step_half.new.due c.step_half.new.told)
     (watch_at c.step_half-2.new.times c.step_half-2.new.small c.step_half-2.new.wider c.step_half-2.new.due c.step_half-2.new.told)
