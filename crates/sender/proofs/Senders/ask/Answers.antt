@@ -2,7 +2,6 @@
 -- Assumes nothing.
 use Rattle.inplace.specs.Lists.{selector_at}
 use Rattle.sender.proofs.SenderLaws.{lent-laws, code-small, ask_no_port, ask_refused, ask_accepted}
-use borrow.Author.Rules.{rules}
 use Rattle.sender.proofs.Senders.ask.Goals as goal
 
 pub returns-then-last-port : goal.returns-then-last-port
@@ -26,7 +25,7 @@ returns c =
     let last = inside in
     let args = last.args in
     ask_accepted
-    args.t1
+    args.self
     args.port
     args.time
     (selector_at args.times.now args.small.now args.wider.now)
