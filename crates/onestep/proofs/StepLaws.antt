@@ -1,11 +1,10 @@
 -- A step in place, a law for each way through it. Assumes nothing.
 use Prim.Native.Nat.{ℕ, ◌<◌}
 use mathlib.Core.Bool.{Bool, false}
-use mathlib.Core.List.{List, map}
+use mathlib.Core.List.{map}
 use mathlib.Core.Path.{◌≡◌, refl, sym, ap, ◌∙◌, subst}
-use lib.ListN.{get_or, set}
+use lib.ListN.{get_or}
 use Rattle.numbers.specs.declared.Event.{Event}
-use Rattle.numbers.specs.declared.kind.InputKind.{InputKind}
 use Rattle.numbers.specs.declared.profile.Profile.{Profile}
 use Rattle.numbers.specs.Inputs.{input_count}
 use Rattle.numbers.specs.Kind.{kind_quality_mode}
@@ -19,12 +18,12 @@ use Rattle.switch.specs.declared.Switch.{Switch}
 use Rattle.switch.specs.Choices.{commanded}
 use Rattle.selector.specs.declared.Selector.{Selector}
 use Rattle.selector.specs.State.{decided}
-use Rattle.due.specs.Served.{Served, served_of, served}
+use Rattle.due.specs.Served.{served_of, served}
 use Rattle.inplace.specs.Lists.{with_inputs, with_input, with_command, held_switch}
 use Rattle.inplace.proofs.Named.{On, switch_of-back, commanded-on}
 use Rattle.events.specs.Given.{read_event}
 use Rattle.events.specs.Refusals.{early_refusal}
-use Rattle.events.specs.Step.{Stepped, input_after, inputs_after, mode_after, at_its_moment, kind_at, stepped, early_number, late_number, step_ticked, step_read}
+use Rattle.events.specs.Step.{input_after, inputs_after, mode_after, at_its_moment, kind_at, stepped, early_number, late_number, step_ticked, step_read}
 use Rattle.events.proofs.EventLaws.{inputs_after-mode, inputs_after-own, at_its_moment_calls, step_ticked-late, step_ticked-accepted, step_read-early, step_read-late}
 use Rattle.events.proofs.Refused.{accepted-input}
 

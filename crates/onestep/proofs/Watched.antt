@@ -1,8 +1,8 @@
 -- The quick step in place, a law for each way through it. Assumes nothing.
 use Prim.Native.Nat.{ℕ, ◌%◌, ◌<◌, ◌≤◌}
-use mathlib.Core.Bool.{Bool, true, false, not, cond, true≢false}
+use mathlib.Core.Bool.{Bool, true, false, true≢false}
 use mathlib.Core.List.{List, [], ◌∷◌}
-use mathlib.Core.Path.{◌≡◌, refl, sym, ap, ◌∙◌, subst}
+use mathlib.Core.Path.{◌≡◌, refl, sym, ap, ◌∙◌}
 use native.Mathlib.Omega.{arith}
 use native.Mathlib.Nat.{mod-eq_of_lt}
 use lib.Dec.{eqb}
@@ -24,7 +24,7 @@ use Rattle.selector.specs.declared.Selector.{Selector}
 use Rattle.selector.specs.State.{fresh_selector, decided}
 use Rattle.selector.specs.Answer.{answer_of}
 use Rattle.due.specs.Next.{next_due}
-use Rattle.inplace.specs.Lists.{rest, selector_at, with_input, framed_at, with_framed, with_time}
+use Rattle.inplace.specs.Lists.{with_input, framed_at, with_framed, with_time}
 use Rattle.inplace.proofs.Once.{onces-rest}
 use Rattle.events.specs.Refusals.{early_refusal}
 use Rattle.events.specs.Step.{Stepped, input_after, stepped, early_number, step_read}
@@ -36,7 +36,7 @@ use Rattle.quickstep.specs.declared.Own.{Own}
 use Rattle.quickstep.specs.Again.{own_of, says_again, again_input, again_own}
 use Rattle.quickstep.specs.Own.{is_served, seen_alike, own_take, own_step, is_left}
 use Rattle.quickstep.specs.Watch.{Watch, watch_of, fresh_watch, numbered, moved_to, due_anew, due_after, served_watch, completed, own_index, own_put, own_at, own_from, take_with, due_at, take_step, is_put_at_once, watch_step, is_anew}
-use Rattle.onestep.specs.Watched.{six_values, answer_in, watch_held, watch_at}
+use Rattle.onestep.specs.Watched.{six_values, answer_in, watch_held}
 
 -- ---- what was answered
 

@@ -12,7 +12,7 @@ use Rattle.sender.specs.declared.Heartbeat.TheVariants as H
 use Rattle.sender.specs.Heartbeat.{Questions, code_asked, accepted_of, Sent, window, window_frames, is_later, later_count, due_frame, heartbeat_over, sent_after, sent_over}
 use Rattle.sender.specs.Sender.{asked}
 use Rattle.sender.specs.Sending.{is_within, within_count, Window}
-use Rattle.sender.proofs.Kept.{Descending, last_asked, is_earlier-asked, event, falling_descending}
+use Rattle.sender.proofs.Kept.{Descending, last_asked, is_earlier-asked, falling_descending}
 use Rattle.sender.proofs.Agrees.{accepted_falling}
 use Rattle.sender.proofs.Sending.{answered-by}
 

@@ -1,9 +1,8 @@
 -- The spans of a state are right: `specs/Spans`. Between two due moments a tick changes the time alone, and from the
 -- next on it is the tick of the state that was ticked there. Assumes nothing.
 use Prim.Native.Nat.{ℕ, zero, suc, ◌+◌, ◌-◌, ◌≤◌, ◌<◌, min}
-use mathlib.Core.Bool.{Bool, true, false, cond}
 use mathlib.Core.List.{List, [], ◌∷◌}
-use mathlib.Core.Logic.{◌⊎◌, inl, inr, ⊎_elim, ◌↔◌}
+use mathlib.Core.Logic.{inl, inr, ⊎_elim, ◌↔◌}
 use mathlib.Core.Path.{◌≡◌, refl, sym, ◌∙◌, ap, subst}
 use native.Mathlib.Omega.{arith}
 use borrow.Author.Tests.{lt-leb, leb-true, leb-false}
@@ -29,7 +28,6 @@ use Rattle.events.specs.Step.{Stepped, kind_at, early_number, late_number, at_it
 use Rattle.events.specs.Given.{Given, Sequence, tick_at}
 use Rattle.events.specs.Past.{past_of, recorded}
 use Rattle.events.specs.Sequence.{state_after}
-use Rattle.events.specs.Demand2.{Demand2}
 use Rattle.events.proofs.Calm.{accepted_or_not, step_read-refused, step_read_barred, step_read-taken, brought-time, sequence-calm}
 use Rattle.events.proofs.Refused.{accepted_limit, accepted-time}
 use Rattle.events.proofs.Demand1.{tick_state}
@@ -38,7 +36,7 @@ use Rattle.events.proofs.Happened.{happened}
 use Rattle.lanes.specs.declared.View.{View}
 use Rattle.lanes.specs.Value.{value_of}
 use Rattle.lanes.specs.Span.{Span, span_of, next_span}
-use Rattle.spans.specs.Spans.{value_by, RightAfter, RightUpTo, RightBy, spans_from, InSpans, spans_after, SpansRight, InParts, RightExactly}
+use Rattle.spans.specs.Spans.{value_by, RightUpTo, RightBy, spans_from, InSpans, spans_after, SpansRight, InParts, RightExactly}
 
 -- what a state shows does not depend on its time
 value-moved : (view : View) (state : Selector) (lane time : ℕ)

@@ -1,15 +1,15 @@
 -- A lane that is told the spans of the events is judged by the law: `specs/Verdict`. Assumes nothing.
-use Prim.Native.Nat.{ℕ, ◌+◌, ◌≤◌, ◌<◌}
+use Prim.Native.Nat.{ℕ, ◌+◌, ◌≤◌}
 use mathlib.Core.Logic.{◌↔◌}
 use native.Mathlib.Omega.{arith}
 use Rattle.events.specs.Given.{Sequence}
 use Rattle.lane.specs.declared.Tolerance.{Tolerance}
-use Rattle.lane.specs.Shown.{Tellings, Stands, Rightness, Good, Wrong}
+use Rattle.lane.specs.Shown.{Tellings, Rightness, Wrong}
 use Rattle.lane.specs.History.{Happenings, RightIn, tellings, stretches_after}
 use Rattle.lane.specs.Exact.{InAny}
 use Rattle.lane.proofs.Exact.{lane-exact}
 use Rattle.lanes.specs.declared.View.{View}
-use Rattle.spans.specs.Spans.{RightBy, InParts}
+use Rattle.spans.specs.Spans.{RightBy}
 use Rattle.spans.specs.Verdict.{Told, JudgedByLaw}
 use Rattle.spans.proofs.Spans.{right-exactly}
 

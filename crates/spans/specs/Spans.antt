@@ -1,6 +1,6 @@
 -- What is right at a millisecond, by what has happened: what the law answers after some first part of the events and a
 -- tick then. And the spans of a state, which have it from when to when till an event comes. Assumes nothing.
-use Rattle.std.specs.Prelude.{ℕ, zero, suc, ◌≤◌, ◌<◌, cond, List, [], ◌∷◌, ◌⊎◌, ◌↔◌, ◌≡◌, leb}
+use Rattle.std.specs.Prelude.{ℕ, zero, suc, ◌≤◌, cond, List, [], ◌∷◌, ◌⊎◌, ◌↔◌, ◌≡◌, leb}
 use Rattle.numbers.specs.From.{started, ◌following◌}
 use Rattle.selector.specs.declared.Selector.{Selector}
 use Rattle.events.specs.Given.{Sequence, tick_at}

@@ -1,6 +1,5 @@
 -- `lanes::answer_index` meets its contract: each way is a law.
 -- Assumes nothing.
-use borrow.Author.Rules.{rules}
 use Rattle.lanes.proofs.LanesLaws.{lanes-laws}
 use Rattle.lanes.proofs.answer_index.Goals as goal
 

@@ -1,6 +1,5 @@
 -- `lanes::code_value` meets its contract: each way is a law.
 -- Assumes nothing.
-use borrow.Author.Rules.{rules}
 use Rattle.lanes.proofs.LanesLaws.{lanes-laws}
 use Rattle.lanes.proofs.code_value.Goals as goal
 

@@ -2,7 +2,6 @@
 -- Assumes nothing.
 use mathlib.Core.Path.{◌∙◌, ap}
 use Prim.Native.Nat.{min}
-use borrow.Author.Rules.{rules}
 use Rattle.lanes.proofs.end_before.Goals as goal
 
 pub returns : goal.returns

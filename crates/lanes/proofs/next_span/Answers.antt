@@ -2,7 +2,6 @@
 -- Assumes nothing.
 use mathlib.Core.Path.{◌∙◌, ap}
 use Prim.Native.Nat.{ℕ, ◌-◌, min}
-use borrow.Author.Rules.{rules}
 use Rattle.inplace.specs.Lists.{selector_at}
 use Rattle.selector.specs.State.{ticked_once}
 use Rattle.lanes.proofs.next_span.Goals as goal

@@ -2,7 +2,6 @@
 -- Assumes nothing.
 use mathlib.Core.Path.{◌∙◌, ap}
 use Prim.Native.Nat.{ℕ, ◌-◌, min}
-use borrow.Author.Rules.{rules}
 use Rattle.lanes.proofs.span_end.Goals as goal
 
 pub returns : goal.returns

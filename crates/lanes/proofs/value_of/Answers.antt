@@ -1,6 +1,5 @@
 -- `lanes::value_of` meets its contract: each way is a law.
 -- Assumes nothing.
-use borrow.Author.Rules.{rules}
 use Rattle.lanes.proofs.LanesLaws.{lanes-laws}
 use Rattle.lanes.proofs.value_of.Goals as goal
 

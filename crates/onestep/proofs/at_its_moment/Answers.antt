@@ -2,7 +2,6 @@
 use Rattle.inplace.specs.Lists.{selector_at}
 use Rattle.inplace.proofs.Moment.{switch-on}
 use Rattle.onestep.proofs.StepLaws.{own-moment}
-use borrow.Author.Rules.{rules}
 use Rattle.onestep.proofs.at_its_moment.Goals as goal
 
 pub returns : goal.returns

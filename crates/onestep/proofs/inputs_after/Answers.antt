@@ -1,6 +1,5 @@
 -- `onestep::inputs_after` meets its contract: each way is a law. Assumes nothing.
 use Rattle.onestep.proofs.StepLaws.{inputs-mode, inputs-own}
-use borrow.Author.Rules.{rules}
 use Rattle.onestep.proofs.inputs_after.Goals as goal
 
 pub returns-then-event-eq-KIND_QUALITY_MODE : goal.returns-then-event-eq-KIND_QUALITY_MODE

@@ -3,7 +3,6 @@ use Rattle.choice.specs.declared.Selection.TheVariants as S
 use Rattle.events.proofs.EventLaws.{late-judged, late-never}
 use Rattle.inplace.specs.Lists.{selector_at}
 use Rattle.inplace.proofs.Turn.{inputs-length}
-use borrow.Author.Rules.{rules}
 use Rattle.onestep.proofs.late_at.Goals as goal
 
 pub returns-then-is_judged_late : goal.returns-then-is_judged_late

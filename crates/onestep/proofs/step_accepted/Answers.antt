@@ -1,7 +1,6 @@
 -- `onestep::step_accepted` meets its contract: it is the definition, call by call. Assumes nothing.
 use Rattle.inplace.specs.Lists.{selector_at}
 use Rattle.onestep.proofs.StepLaws.{accepted-few, accepted-step}
-use borrow.Author.Rules.{rules}
 use Rattle.onestep.proofs.step_accepted.Goals as goal
 
 pub step_ticked-number-requires : goal.step_ticked-number-requires

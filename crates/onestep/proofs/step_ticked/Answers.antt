@@ -1,6 +1,5 @@
 -- `onestep::step_ticked` meets its contract: each way is a law. Assumes nothing.
 use Rattle.onestep.proofs.StepLaws.{ticked-late, ticked-accepted, recorded-input}
-use borrow.Author.Rules.{rules}
 use Rattle.onestep.proofs.step_ticked.Goals as goal
 
 pub returns-then-late-ne-ACCEPTED : goal.returns-then-late-ne-ACCEPTED

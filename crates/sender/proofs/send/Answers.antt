@@ -1,7 +1,6 @@
 -- `sender::send` meets its contract: each way is a law.
 -- Assumes nothing.
 use Rattle.sender.proofs.SenderLaws.{contentBy-laws}
-use borrow.Author.Rules.{rules}
 use Rattle.sender.proofs.send.Goals as goal
 
 pub returns-in-Information : goal.returns-in-Information

@@ -2,7 +2,6 @@
 -- Assumes nothing.
 use native.Mathlib.Omega.{arith}
 use Rattle.status.proofs.StatusLaws.{end_ahead_sum, end_ahead-over, end_ahead-never, end_ahead-past}
-use borrow.Author.Rules.{rules}
 use Rattle.status.proofs.end_ahead.Goals as goal
 
 pub returns-then-time-began : goal.returns-then-time-began

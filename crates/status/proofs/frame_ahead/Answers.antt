@@ -1,7 +1,6 @@
 -- `status::frame_ahead` meets its contract: each way is a law.
 -- Assumes nothing.
 use Rattle.status.proofs.StatusLaws.{frameAhead-laws}
-use borrow.Author.Rules.{rules}
 use Rattle.status.proofs.frame_ahead.Goals as goal
 
 pub returns-then-is_failed : goal.returns-then-is_failed

@@ -1,7 +1,6 @@
 -- `status::input_status` meets its contract. Assumes nothing.
 use mathlib.Core.Path.{◌∙◌}
 use Rattle.status.specs.Kept.{status_of}
-use borrow.Author.Rules.{rules}
 use Rattle.status.proofs.input_status.Goals as goal
 
 pub returns : goal.returns

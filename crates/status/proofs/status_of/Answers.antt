@@ -1,7 +1,6 @@
 -- `status::status_of` meets its contract: it is the definition, call by call.
 -- Assumes nothing.
 use Rattle.status.specs.Kept.{status_of}
-use borrow.Author.Rules.{rules}
 use Rattle.status.proofs.status_of.Goals as goal
 
 pub returns : goal.returns

@@ -1,7 +1,6 @@
 -- `status::timer_ahead` meets its contract: each way is a law.
 -- Assumes nothing.
 use Rattle.status.proofs.StatusLaws.{timerAhead-laws}
-use borrow.Author.Rules.{rules}
 use Rattle.status.proofs.timer_ahead.Goals as goal
 
 pub returns-then-run : goal.returns-then-run

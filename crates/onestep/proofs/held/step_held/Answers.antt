@@ -1,6 +1,5 @@
 -- `onestep::held::step_held` meets its contract: it is that of the step in place.
 -- Assumes nothing.
-use borrow.Author.Rules.{rules}
 use Rattle.onestep.proofs.held.step_held.Goals as goal
 
 pub returns : goal.returns

@@ -2,7 +2,6 @@
 use Rattle.inplace.specs.Lists.{selector_at}
 use Rattle.onestep.specs.Watched.{watch_held, watch_at}
 use Rattle.onestep.proofs.Watched.{chosen-told}
-use borrow.Author.Rules.{rules}
 use Rattle.onestep.proofs.watch.choose.Goals as goal
 
 pub returns : goal.returns

@@ -1,6 +1,5 @@
 -- `onestep::watch::due_left` meets its contract: each way is a law. Assumes nothing.
 use Rattle.quickstep.proofs.QuickLaws.{dueAfter-laws}
-use borrow.Author.Rules.{rules}
 use Rattle.onestep.proofs.watch.due_left.Goals as goal
 
 pub returns-then-time-due : goal.returns-then-time-due

@@ -2,7 +2,6 @@
 use mathlib.Core.Path.{ap, ◌∙◌}
 use Rattle.selector.specs.declared.Selector.{Selector}
 use Rattle.inplace.specs.Lists.{with_time}
-use borrow.Author.Rules.{rules}
 use Rattle.onestep.proofs.watch.put_again.Goals as goal
 
 pub returns : goal.returns

@@ -1,6 +1,5 @@
 -- `onestep::watch::put_number` meets its contract: what is stored is what is read. Assumes nothing.
 use Rattle.onestep.proofs.Watched.{told-number}
-use borrow.Author.Rules.{rules}
 use Rattle.onestep.proofs.watch.put_number.Goals as goal
 
 pub returns : goal.returns

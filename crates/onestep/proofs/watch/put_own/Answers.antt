@@ -1,7 +1,6 @@
 -- `onestep::watch::put_own` meets its contract: it is the definition, call by call. Assumes nothing.
 use Rattle.inplace.specs.Lists.{selector_at}
 use Rattle.onestep.proofs.Watched.{own-moved}
-use borrow.Author.Rules.{rules}
 use Rattle.onestep.proofs.watch.put_own.Goals as goal
 
 pub returns : goal.returns

@@ -1,5 +1,4 @@
 -- `onestep::watch::refuse` meets its contract: the number is stored, and what is due again. Assumes nothing.
-use borrow.Author.Rules.{rules}
 use Rattle.onestep.proofs.watch.refuse.Goals as goal
 
 pub returns : goal.returns

@@ -9,7 +9,6 @@ use Rattle.quickstep.specs.Watch.{Watch, own_from, take_with}
 use Rattle.inplace.specs.Lists.{selector_at}
 use Rattle.onestep.specs.Watched.{watch_held, watch_at}
 use Rattle.onestep.proofs.Watched.{Asking, step-again, step-taken, step-late}
-use borrow.Author.Rules.{rules}
 use Rattle.onestep.proofs.watch.step_watch.Goals as goal
 use Rattle.onestep.proofs.watch.step_watch.Goals.{After-says_again}
 

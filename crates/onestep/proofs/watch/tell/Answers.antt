@@ -1,6 +1,5 @@
 -- `onestep::watch::tell` meets its contract: what is stored is what is read. Assumes nothing.
 use Rattle.onestep.proofs.Watched.{told-answer}
-use borrow.Author.Rules.{rules}
 use Rattle.onestep.proofs.watch.tell.Goals as goal
 
 pub returns : goal.returns

@@ -1,7 +1,6 @@
 -- `sender::Sender::after` meets its contract: each way is a law.
 -- Assumes nothing.
 use Rattle.sender.proofs.SenderLaws.{after-laws}
-use borrow.Author.Rules.{rules}
 use Rattle.sender.proofs.Sender.after.Goals as goal
 
 pub returns-in-Information : goal.returns-in-Information

@@ -1,7 +1,6 @@
 -- `sender::Sender::due_frame` meets its contract: each way is a law.
 -- Assumes nothing.
 use Rattle.sender.proofs.SenderLaws.{heartbeatDue-laws}
-use borrow.Author.Rules.{rules}
 use Rattle.sender.proofs.Sender.due_frame.Goals as goal
 
 pub returns-then-self-eq0 : goal.returns-then-self-eq0

@@ -1,7 +1,6 @@
 -- `sender::Sender::heartbeat` meets its contract: each way is a law.
 -- Assumes nothing.
 use Rattle.sender.proofs.SenderLaws.{heartbeatOf-laws}
-use borrow.Author.Rules.{rules}
 use Rattle.sender.proofs.Sender.heartbeat.Goals as goal
 
 pub returns-then-is_full : goal.returns-then-is_full

@@ -1,7 +1,6 @@
 -- `sender::Sender::is_full` meets its contract: each way is a law.
 -- Assumes nothing.
 use Rattle.sender.proofs.SenderLaws.{isFull-laws}
-use borrow.Author.Rules.{rules}
 use Rattle.sender.proofs.Sender.is_full.Goals as goal
 
 pub returns-then-self-lt-WINDOW_FRAMES : goal.returns-then-self-lt-WINDOW_FRAMES

@@ -1,7 +1,6 @@
 -- `sender::Sender::with_frame` meets its contract: each way is a law.
 -- Assumes nothing.
 use Rattle.sender.proofs.SenderLaws.{withFrame-laws}
-use borrow.Author.Rules.{rules}
 use Rattle.sender.proofs.Sender.with_frame.Goals as goal
 
 pub returns-then-self-ge-WINDOW_FRAMES : goal.returns-then-self-ge-WINDOW_FRAMES

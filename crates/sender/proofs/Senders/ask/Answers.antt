@@ -2,7 +2,6 @@
 -- Assumes nothing.
 use Rattle.inplace.specs.Lists.{selector_at}
 use Rattle.sender.proofs.SenderLaws.{lent-laws, code-small, ask_no_port, ask_refused, ask_accepted}
-use borrow.Author.Rules.{rules}
 use Rattle.sender.proofs.Senders.ask.Goals as goal
 
 pub returns-then-last-port : goal.returns-then-last-port
@@ -16,35 +15,27 @@ send-requires c = (search code-small, search lent-laws, search lent-laws)
 
 pub returns : goal.returns
 returns c =
-    let sent = c in
-    let kept = sent in
-    let beat = kept in
-    let told = beat in
-    let accept = told in
-    let number = accept in
-    let inside = number in
-    let last = inside in
-    let args = last.args in
+    let args = c.args in
     ask_accepted
-    args.t1
+    args.self
     args.port
     args.time
     (selector_at args.times.now args.small.now args.wider.now)
     args.source.now
     args.buffer.now
-    number.question_number-number-2.result
-    last.last_port-last.result
+    c.question_number-number-2.result
+    c.last_port-last.result
     _
-    last.last_port-last.ensures.1
-    last.last_port-last.ensures.0
-    inside.if-last-port.false
-    number.question_number-number-2.ensures
-    told.codes_at-codes.result
-    beat.heartbeat-heartbeat.result
-    kept.after-after.result
+    c.last_port-last.ensures.1
+    c.last_port-last.ensures.0
+    c.if-last-port.false
+    c.question_number-number-2.ensures
+    c.codes_at-codes.result
+    c.heartbeat-heartbeat.result
+    c.after-after.result
     _
-    accept.if-number-ne-ACCEPTED.false
-    told.codes_at-codes.ensures
-    beat.heartbeat-heartbeat.ensures
-    kept.after-after.ensures
-    sent.send.ensures
+    c.if-number-ne-ACCEPTED.false
+    c.codes_at-codes.ensures
+    c.heartbeat-heartbeat.ensures
+    c.after-after.ensures
+    c.send.ensures
