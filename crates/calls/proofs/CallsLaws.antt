@@ -13,7 +13,7 @@ use lib.Signed.{lt_z}
 use mir.Syntax.{w32}
 use mir.Val.{SFits, of_z, to_z}
 use mir.Facts.{to_z-of_z}
-use Rattle.io.specs.Counts.{clamp_len}
+use Rattle.calls.specs.Calls.{clamp_len}
 use Rattle.calls.specs.declared.Ending.{Ending}
 use Rattle.calls.specs.declared.Ending.TheVariants.{Whole, Unread, Unwritten, Closed}
 use Rattle.calls.specs.declared.Outcome.{Outcome}

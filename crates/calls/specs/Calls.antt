@@ -20,6 +20,11 @@ interrupted = 4
 abbrev pub no_reader : ℕ
 no_reader = 32
 
+-- an answer, and no more than was lent: 0 where it is below 0
+abbrev pub clamp_len : ℤ → ℕ → ℕ
+clamp_len (pos octets) size = min octets size
+clamp_len (negsuc below) size = 0
+
 -- why a call failed, by errno
 unfoldable pub failure_of : ℤ → Outcome
 failure_of (pos error) = cond (eqb error interrupted) Interrupted (cond (eqb error no_reader) NoReader Failed)

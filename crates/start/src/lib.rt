@@ -13,7 +13,7 @@ ghost use Rattle.digits.specs.Decimal.{decimal_value};
 ghost use Rattle.start.specs.Start.{is_option_word, is_decimal, is_marks, digits_value, start_of, start_in, start_by, StartReadRight};
 ghost use Rattle.start.specs.Said.{start_stream, start_said};
 
-use calls::{Ending, Stream, write_alone};
+use calls::{Ending, Stream, argument, argument_count, write_alone};
 use numbers::profile::{OPTION_TWO, ProvPlace, prov_place_in, start_number};
 use numbers::refusal::ACCEPTED;
 use text::NumberRead;
@@ -32,6 +32,9 @@ const LARGEST: u64 = 255;
 
 // So many octets of a place are read: the programs' stack has room for them.
 const LONGEST_WORD: usize = 65_536;
+
+// So many octets of the other words.
+const LONGEST_OTHER: usize = 4_096;
 
 // What START says: the place of PROV and the marks; that the start is refused; or that it is no
 // START.
@@ -145,8 +148,8 @@ pub fn start_by(count: usize, option: &[u8], provplace: &[u8], marks: &[u8]) -> 
 }
 
 // How many words the arguments have behind the program's name.
-fn argument_count() -> usize {
-    let count = os::arg_count();
+fn word_count(rt: &HostRuntime) -> usize {
+    let count = argument_count(rt);
     if count == 0 {
         return 0;
     }
@@ -155,17 +158,17 @@ fn argument_count() -> usize {
 
 // Reads START from the program's arguments. A word that is longer than what is lent for it is taken
 // as an empty one, so it is no START: a place of more than 65,536 digits too.
-pub fn read_start() -> StartRead
+pub fn read_start(rt: &HostRuntime) -> StartRead
     ensures { StartReadRight result }
 {
-    let mut option = io::buffer();
+    let mut option = [0u8; LONGEST_OTHER];
     let mut provplace = [0u8; LONGEST_WORD];
-    let mut marks = io::buffer();
-    let first = os::arg(1, &mut option);
-    let second = os::arg(2, &mut provplace);
-    let third = os::arg(3, &mut marks);
+    let mut marks = [0u8; LONGEST_OTHER];
+    let first = argument(rt, 1, &mut option);
+    let second = argument(rt, 2, &mut provplace);
+    let third = argument(rt, 3, &mut marks);
     start_by(
-        argument_count(),
+        word_count(rt),
         &option[..first],
         &provplace[..second],
         &marks[..third],
@@ -173,23 +176,24 @@ pub fn read_start() -> StartRead
 }
 
 // Writes a line that says a start.
-fn start_line(stream: Stream, line: &[u8], start: StartRead) -> Ending
+fn start_line(rt: &HostRuntime, stream: Stream, line: &[u8], start: StartRead) -> Ending
     requires { (stream ≡ start_stream start) × (line.now ≡ start_said start) }
     ensures { TextSaid (length (start_said start)) result }
 {
-    write_alone(stream, line)
+    write_alone(rt, stream, line)
 }
 
 // Says that there is no start: of a refused one its number on standard output, and nothing else; of
 // words that are no START on standard error, in one line, what START is. Of a start nothing is
 // said.
-pub fn say_start(start: StartRead) -> Ending
+pub fn say_start(rt: &HostRuntime, start: StartRead) -> Ending
     ensures { TextSaid (length (start_said start)) result }
 {
     match start {
-        StartRead::Started(_, _) => start_line(Stream::Error, b"", start),
-        StartRead::Refused => start_line(Stream::Output, b"06\n", start),
+        StartRead::Started(_, _) => start_line(rt, Stream::Error, b"", start),
+        StartRead::Refused => start_line(rt, Stream::Output, b"06\n", start),
         StartRead::NoStart => start_line(
+            rt,
             Stream::Error,
             b"START is nothing, or 2 PLACE MARKS: a decimal number, four hexadecimal digits\n",
             start,

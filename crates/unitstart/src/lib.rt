@@ -13,6 +13,7 @@ ghost use Rattle.digits.specs.Decimal.{decimal_value};
 ghost use Rattle.start.specs.Start.{is_decimal};
 ghost use Rattle.unitstart.specs.Start.{unit_start_of, unit_start_two, unit_start_in, unit_start_by, UnitStartReadRight};
 
+use calls::{argument, argument_count};
 use numbers::profile::Profile;
 use numbers::quality::Quality;
 use start::{StartRead, is_decimal, is_option_word, start_in};
@@ -30,6 +31,9 @@ const LARGEST: u64 = 255;
 
 // So many octets of a number are read: the program's stack has room for them.
 const LONGEST_WORD: usize = 65_536;
+
+// So many octets of the other words.
+const LONGEST_OTHER: usize = 4_096;
 
 // What the words say: a profile and a minimum; that the start is refused; or that they are no start
 // of a unit.
@@ -111,19 +115,19 @@ pub fn unit_start_by(
 
 // Reads the start of a unit from the program's arguments. A word that is longer than what is lent
 // for it is taken as an empty one, so it is no start: a number of more than 65,536 digits too.
-pub fn read_unit_start() -> UnitStart
+pub fn read_unit_start(rt: &HostRuntime) -> UnitStart
     ensures { UnitStartReadRight result }
 {
-    let mut option = io::buffer();
+    let mut option = [0u8; LONGEST_OTHER];
     let mut provplace = [0u8; LONGEST_WORD];
-    let mut marks = io::buffer();
+    let mut marks = [0u8; LONGEST_OTHER];
     let mut minimum = [0u8; LONGEST_WORD];
-    let first = os::arg(1, &mut option);
-    let second = os::arg(2, &mut provplace);
-    let third = os::arg(3, &mut marks);
-    let fourth = os::arg(4, &mut minimum);
+    let first = argument(rt, 1, &mut option);
+    let second = argument(rt, 2, &mut provplace);
+    let third = argument(rt, 3, &mut marks);
+    let fourth = argument(rt, 4, &mut minimum);
     unit_start_by(
-        os::arg_count(),
+        argument_count(rt),
         &option[..first],
         &provplace[..second],
         &marks[..third],

@@ -1,6 +1,5 @@
 -- `calls::descriptor_of` meets its contract: each stream has its number.
 -- Assumes nothing.
-use borrow.Author.Rules.{rules}
 use Rattle.calls.proofs.descriptor_of.Goals as goal
 
 pub returns-in-Output : goal.returns-in-Output

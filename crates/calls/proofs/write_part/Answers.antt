@@ -3,7 +3,6 @@
 use mathlib.Core.Path.{refl}
 use native.Mathlib.Omega.{arith}
 use Rattle.calls.proofs.CallsLaws.{moved-within, sum_is}
-use borrow.Author.Rules.{rules}
 use Rattle.calls.proofs.write_part.Goals as goal
 
 pub overflow_add-sent : goal.overflow_add-sent

@@ -1,7 +1,6 @@
 -- `due::frame_due` meets its contract: each way is a law.
 -- Assumes nothing.
 use Rattle.due.proofs.DueLaws.{frameDue-laws}
-use borrow.Author.Rules.{rules}
 use Rattle.due.proofs.frame_due.Goals as goal
 
 pub returns-then-is_failed : goal.returns-then-is_failed

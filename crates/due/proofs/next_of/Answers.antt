@@ -1,7 +1,6 @@
 -- `due::next_of` meets its contract: it is the definition, call by call.
 -- Assumes nothing.
 use Rattle.due.proofs.DueLaws.{next_of_made}
-use borrow.Author.Rules.{rules}
 use Rattle.due.proofs.next_of.Goals as goal
 
 pub returns : goal.returns

@@ -2,7 +2,6 @@
 -- Assumes nothing.
 use native.Mathlib.Omega.{arith}
 use Rattle.due.proofs.DueLaws.{sum_or_never_sum, sum_or_never-never}
-use borrow.Author.Rules.{rules}
 use Rattle.due.proofs.sum_or_never.Goals as goal
 
 pub returns-then-length-began : goal.returns-then-length-began

@@ -1,7 +1,6 @@
 -- `due::timer_due` meets its contract: each way is a law.
 -- Assumes nothing.
 use Rattle.due.proofs.DueLaws.{timerDue-laws}
-use borrow.Author.Rules.{rules}
 use Rattle.due.proofs.timer_due.Goals as goal
 
 pub returns-then-run : goal.returns-then-run

@@ -10,31 +10,19 @@ use Rattle.frametext.proofs.address_digits.Goals as goal
 pub returns : goal.returns
 unfolding digits_of places_from
 returns c =
-    let six : 6 ≡ length c.args.t1 =
-    search rules in
-     let d11 = c in
-    let d10 = d11 in
-    let d9 = d10 in
-    let d8 = d9 in
-    let d7 = d8 in
-    let d6 = d7 in
-    let d5 = d6 in
-    let d4 = d5 in
-    let d3 = d4 in
-    let d2 = d3 in
-    let d1 = d2 in
+    let six : 6 ≡ length c.args.source = search rules in
     simp (
-      d1.upper_digit.ensures,
-      d2.lower_digit.ensures,
-      d3.upper_digit-2.ensures,
-      d4.lower_digit-2.ensures,
-      d5.upper_digit-3.ensures,
-      d6.lower_digit-3.ensures,
-      d7.upper_digit-4.ensures,
-      d8.lower_digit-4.ensures,
-      d9.upper_digit-5.ensures,
-      d10.lower_digit-5.ensures,
-      d11.upper_digit-6.ensures,
+      c.upper_digit.ensures,
+      c.lower_digit.ensures,
+      c.upper_digit-2.ensures,
+      c.lower_digit-2.ensures,
+      c.upper_digit-3.ensures,
+      c.lower_digit-3.ensures,
+      c.upper_digit-4.ensures,
+      c.lower_digit-4.ensures,
+      c.upper_digit-5.ensures,
+      c.lower_digit-5.ensures,
+      c.upper_digit-6.ensures,
       c.lower_digit-6.ensures,
     )
-    (ap digits_of (places_from-all 0 6 d1.args.t1 (six))
+    (ap digits_of (places_from-all 0 6 c.args.source six))

@@ -10,17 +10,12 @@ use Rattle.frametext.proofs.code_line.Goals as goal
 pub returns : goal.returns
 unfolding digits_of places_from
 returns c =
-    let six : 6 ≡ length c.args.source =
-    search rules in
-     let d4 = c in
-    let d3 = d4 in
-    let d2 = d3 in
-    let d1 = d2 in
+    let six : 6 ≡ length c.args.source = search rules in
     rw (
-      d1.address_digits-address.ensures,
-      d2.upper_digit.ensures,
-      d3.lower_digit.ensures,
-      d4.lower_digit-2.ensures,
+      c.address_digits-address.ensures,
+      c.upper_digit.ensures,
+      c.lower_digit.ensures,
+      c.lower_digit-2.ensures,
       c.flag_digit.ensures,
     )
-    (code_line_is _ _ d1.args.source (six)
+    (code_line_is _ _ c.args.source six)

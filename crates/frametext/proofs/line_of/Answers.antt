@@ -6,7 +6,6 @@ use mathlib.Core.Path.{ap, ◌∙◌}
 use Rattle.digits.specs.Digits.{digits_of}
 use Rattle.frametext.specs.Message.{in_front}
 use Rattle.frametext.proofs.MessageLaws.{message_text-refused, message_text-code}
-use borrow.Author.Rules.{rules}
 use Rattle.frametext.proofs.line_of.Goals as goal
 
 pub returns-in_default : goal.returns-in_default

@@ -2,7 +2,6 @@
 -- Assumes nothing.
 use Rattle.digits.specs.Digits.{digits_of}
 use Rattle.frametext.specs.Message.{in_front}
-use borrow.Author.Rules.{rules}
 use Rattle.frametext.proofs.number_line.Goals as goal
 
 pub returns : goal.returns

@@ -1,12 +1,9 @@
 -- `frametext::octets_of` meets its contract: the octets passed are written, zeros stand after them.
 -- Assumes nothing.
-use Prim.Native.Nat.{◌+◌, ◌*◌, ◌-◌, ◌/◌, ◌≤◌}
-use mathlib.Core.List.{◌++◌}
+use Prim.Native.Nat.{◌+◌, ◌*◌, ◌/◌, ◌≤◌}
 use mathlib.Core.Path.{◌≡◌, refl, sym, ◌∙◌}
 use native.Mathlib.Omega.{arith}
-use lib.ListN.{length, take, replicate}
-use Rattle.digits.specs.Digits.{octets_of}
-use Rattle.frame.specs.Octets.{longest_frame}
+use lib.ListN.{length}
 use Rattle.frametext.proofs.MessageLaws.{octets_of-at, octets-next, octets-all}
 use borrow.Author.Rules.{rules}
 use Rattle.frametext.proofs.octets_of.Goals as goal

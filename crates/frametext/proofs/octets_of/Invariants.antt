@@ -1,14 +1,11 @@
 -- `frametext::octets_of` meets its contract: the octets passed are written, zeros stand after them.
 -- Assumes nothing.
-use Prim.Native.Nat.{◌+◌, ◌*◌, ◌-◌, ◌/◌, ◌≤◌}
+use Prim.Native.Nat.{◌-◌, ◌/◌, ◌≤◌}
 use mathlib.Core.List.{◌++◌}
-use mathlib.Core.Path.{◌≡◌, refl, sym, ◌∙◌}
-use native.Mathlib.Omega.{arith}
+use mathlib.Core.Path.{◌≡◌}
 use lib.ListN.{length, take, replicate}
 use Rattle.digits.specs.Digits.{octets_of}
 use Rattle.frame.specs.Octets.{longest_frame}
-use Rattle.frametext.proofs.MessageLaws.{octets_of-at, octets-next, octets-all}
-use borrow.Author.Rules.{rules}
 use Rattle.frametext.proofs.octets_of.Given as goal
 
 abbrev pub invariant-loop-passed : goal.invariant-loop-passed

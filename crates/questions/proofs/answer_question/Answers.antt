@@ -3,7 +3,6 @@
 use Rattle.questions.proofs.Answering.{start_lent_lem, source-lent, octets-lent, answered-long, answered-nothing, answered-asked}
 use lib.Seq.{length-take-le}
 use mathlib.Core.Path.{sym}
-use borrow.Author.Rules.{rules}
 use Rattle.questions.proofs.answer_question.Goals as goal
 
 pub returns-then-line-gt-LONGEST_QUESTION : goal.returns-then-line-gt-LONGEST_QUESTION

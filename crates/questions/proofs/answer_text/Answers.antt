@@ -2,7 +2,6 @@
 -- Assumes nothing.
 use mathlib.Core.Path.{ap, ◌∙◌}
 use Rattle.questions.specs.Asked.{held_line}
-use borrow.Author.Rules.{rules}
 use Rattle.questions.proofs.answer_text.Goals as goal
 
 pub returns : goal.returns

@@ -5,7 +5,6 @@ use Rattle.questions.proofs.Texts.{lent_room-fits}
 use lib.Seq.{length-take-le}
 use mathlib.Core.Path.{refl, sym}
 use native.Mathlib.Omega.{arith}
-use borrow.Author.Rules.{rules}
 use Rattle.questions.proofs.ask.Goals as goal
 
 pub slice_bounds-frame-end : goal.slice_bounds-frame-end

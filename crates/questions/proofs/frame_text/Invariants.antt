@@ -1,12 +1,10 @@
 -- `questions::frame_text` meets its contract. The invariant: the digits of the octets passed are written.
 -- Assumes nothing.
 use Prim.Native.Nat.{◌≤◌, ◌-◌}
-use mathlib.Core.Path.{◌≡◌, refl}
+use mathlib.Core.Path.{◌≡◌}
 use lib.ListN.{length, take}
 use Rattle.digits.specs.Digits.{digits_of}
 use Rattle.questions.specs.Asked.{padded, text_octets}
-use Rattle.questions.proofs.Texts.{frame-turn, frame-done}
-use borrow.Author.Rules.{rules}
 use Rattle.questions.proofs.frame_text.Given as goal
 
 abbrev pub invariant-loop-passed : goal.invariant-loop-passed

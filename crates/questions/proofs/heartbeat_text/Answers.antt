@@ -1,7 +1,6 @@
 -- `questions::heartbeat_text` meets its contract: each way is a law.
 -- Assumes nothing.
 use Rattle.questions.proofs.Answering.{heartbeatText-laws}
-use borrow.Author.Rules.{rules}
 use Rattle.questions.proofs.heartbeat_text.Goals as goal
 
 pub returns-in-Information : goal.returns-in-Information

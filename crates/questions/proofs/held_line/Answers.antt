@@ -5,4 +5,6 @@ use borrow.Author.Rules.{rules}
 use Rattle.questions.proofs.held_line.Goals as goal
 
 pub returns : goal.returns
-returns c = line_copied _ _ _ c.copy-count.ensures.0 c.copy-count.ensures.1
+returns c =
+    let copied = c.copy-count.ensures.whole (search rules) in
+    line_copied _ _ _ copied.0 copied.1

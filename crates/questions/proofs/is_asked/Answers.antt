@@ -1,7 +1,6 @@
 -- `questions::is_asked` meets its contract: each way is a law.
 -- Assumes nothing.
 use Rattle.questions.proofs.Texts.{isAsked-laws}
-use borrow.Author.Rules.{rules}
 use Rattle.questions.proofs.is_asked.Goals as goal
 
 pub returns-then-line-eq0 : goal.returns-then-line-eq0

@@ -1,7 +1,6 @@
 -- `questions::is_source` meets its contract: each way is a law.
 -- Assumes nothing.
 use Rattle.questions.proofs.LineParts.{isSource-laws}
-use borrow.Author.Rules.{rules}
 use Rattle.questions.proofs.is_source.Goals as goal
 
 pub returns-then-text-eq1 : goal.returns-then-text-eq1

@@ -2,7 +2,6 @@
 -- Assumes nothing.
 use mathlib.Core.Path.{◌∙◌}
 use Rattle.questions.proofs.Texts.{number_digits}
-use borrow.Author.Rules.{rules}
 use Rattle.questions.proofs.number_text.Goals as goal
 
 pub returns : goal.returns

@@ -1,12 +1,9 @@
 -- `questions::part_end_lem` meets its contract. The invariant: from the place reached the part has the same end.
 -- Assumes nothing.
 use Prim.Native.Nat.{◌-◌}
-use mathlib.Core.Path.{◌≡◌, refl, ◌∙◌}
-use native.Mathlib.Omega.{arith}
-use borrow.Author.Rules.{rules}
+use mathlib.Core.Path.{◌≡◌}
 use lib.ListN.{length}
 use Rattle.questions.specs.Line.{part_end}
-use Rattle.questions.proofs.LineParts.{part_end-next, part_end-space, part_end-over}
 use Rattle.questions.proofs.part_end.Given as goal
 
 abbrev pub invariant-loop-place : goal.invariant-loop-place

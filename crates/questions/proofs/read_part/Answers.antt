@@ -1,7 +1,6 @@
 -- `questions::read_part` meets its contract: each way is a law.
 -- Assumes nothing.
 use Rattle.questions.proofs.LineParts.{readPart-laws}
-use borrow.Author.Rules.{rules}
 use Rattle.questions.proofs.read_part.Goals as goal
 
 pub returns-then-end-line : goal.returns-then-end-line

@@ -1,7 +1,6 @@
 -- `questions::read_question` meets its contract: each way is a law.
 -- Assumes nothing.
 use Rattle.questions.proofs.Question.{question-short, question-unmarked, question-joined, question_no_port, second-inside, question_no_time, third-inside, question_no_room, start_inside, question_no_source, question-is}
-use borrow.Author.Rules.{rules}
 use borrow.Author.Tests.{not-true, not-false}
 use Rattle.questions.proofs.read_question.Goals as goal
 

@@ -1,13 +1,10 @@
 -- `questions::source_octets` meets its contract. The invariant: the octets of the digits passed are in front.
 -- Assumes nothing.
-use native.Mathlib.Omega.{arith}
 use Prim.Native.Nat.{◌≤◌, ◌-◌, ◌*◌}
-use mathlib.Core.Path.{◌≡◌, refl}
+use mathlib.Core.Path.{◌≡◌}
 use lib.ListN.{length, take}
 use Rattle.digits.specs.Digits.{octets_of}
 use Rattle.questions.specs.Asked.{padded}
-use Rattle.questions.proofs.Texts.{source_fits, source-turn, source-all, source-done}
-use borrow.Author.Rules.{rules}
 use Rattle.questions.proofs.source_octets.Given as goal
 
 abbrev pub invariant-loop-count : goal.invariant-loop-count

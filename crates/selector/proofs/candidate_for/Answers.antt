@@ -1,7 +1,6 @@
 -- `selector::candidate_for` meets its contract: it is the definition, call by call.
 -- Assumes nothing.
 use Rattle.selector.specs.State.{candidate_for}
-use borrow.Author.Rules.{rules}
 use Rattle.selector.proofs.candidate_for.Goals as goal
 
 pub returns : goal.returns

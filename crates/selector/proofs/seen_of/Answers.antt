@@ -1,6 +1,5 @@
 -- `selector::seen_of` meets its contract: it is the definition, call by call.
 -- Assumes nothing.
-use borrow.Author.Rules.{rules}
 use Rattle.selector.proofs.seen_of.Goals as goal
 
 pub returns : goal.returns

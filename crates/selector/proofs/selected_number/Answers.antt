@@ -1,7 +1,6 @@
 -- `selector::selected_number` meets its contract: each way is a law.
 -- Assumes nothing.
 use Rattle.selector.proofs.SelectorLaws.{selectedNumber-laws}
-use borrow.Author.Rules.{rules}
 use Rattle.selector.proofs.selected_number.Goals as goal
 
 pub returns-in-Nothing : goal.returns-in-Nothing

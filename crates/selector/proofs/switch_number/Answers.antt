@@ -1,7 +1,6 @@
 -- `selector::switch_number` meets its contract: each way is a law.
 -- Assumes nothing.
 use Rattle.selector.proofs.SelectorLaws.{switchNumber-laws}
-use borrow.Author.Rules.{rules}
 use Rattle.selector.proofs.switch_number.Goals as goal
 
 pub returns-in-Nothing : goal.returns-in-Nothing

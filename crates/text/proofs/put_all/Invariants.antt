@@ -1,9 +1,8 @@
 -- `text::put_all` meets its contract: what holds at each turn is `PutSoFar`.
 -- Assumes nothing.
 use Prim.Native.Nat.{◌-◌}
-use native.Mathlib.Omega.{arith}
 use lib.ListN.{length}
-use Rattle.text.proofs.PlacedText.{PutSoFar, put_start, put-room, put_next, put-end}
+use Rattle.text.proofs.PlacedText.{PutSoFar}
 use Rattle.text.proofs.put_all.Given as goal
 
 abbrev pub invariant-loop-taken : goal.invariant-loop-taken

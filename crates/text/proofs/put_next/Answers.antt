@@ -2,7 +2,6 @@
 -- Assumes nothing.
 use mathlib.Core.Path.{◌∙◌}
 use native.Mathlib.Omega.{arith}
-use borrow.Author.Rules.{rules}
 use lib.ListN.{length-set}
 use Rattle.text.proofs.PlacedText.{decimal_of-short, written-spaced, written-first}
 use Rattle.text.proofs.put_next.Goals as goal
@@ -14,7 +13,7 @@ put_decimal-requires c =
     (omega (arith, start.requires, decimal_of-short start.args.number (omega (arith, start.ranges.number))))
 
 pub shape_of-out-then-behind : goal.shape_of-out-then-behind
-shape_of-out-then-behind c = c.put_decimal.auto.0 ∙ simp length-set
+shape_of-out-then-behind c = c.put_decimal.auto.out ∙ simp length-set
 
 pub returns-then-behind : goal.returns-then-behind
 returns-then-behind c =

@@ -1,7 +1,6 @@
 -- `text::put_numbers` meets its contract: there is room, or nothing is written.
 -- Assumes nothing.
 use native.Mathlib.Omega.{arith}
-use borrow.Author.Rules.{rules}
 use Rattle.text.proofs.PlacedText.{put-none}
 use Rattle.text.proofs.put_numbers.Goals as goal
 

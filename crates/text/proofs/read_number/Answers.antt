@@ -1,18 +1,9 @@
 -- `text::read_number` meets its contract: what holds at each turn is `Reading`.
 -- Assumes nothing.
-use Prim.Native.Nat.{◌+◌, ◌*◌, ◌-◌, ◌≤◌}
 use mathlib.Core.Path.{sym, ◌∙◌}
 use native.Mathlib.Omega.{arith}
-use lib.ListN.{length, get_or}
-use Rattle.text.proofs.PlacedText.{read_number-none, read_number-some, read_on_low, read_on_high, read_on_over, read_on_next, Reading, read_on_end}
+use Rattle.text.proofs.PlacedText.{read_number-none, read_number-some, read_on_low, read_on_high, read_on_over, read_on_next, read_on_end}
 use Rattle.text.proofs.read_number.Goals as goal
-
--- with a digit more, the value is still no larger than the largest
-larger : (c : tie.Else5 invariant-loop decreases-loop)
-    → let l = c.before.before.before.before.before.before in
-    let a = l.before.before.args in
-    l.loop.value * 10 + (get_or a.text.now l.loop.passed 0 - 48) ≤ a.most
-larger c = omega (arith, c.if5.false, c.before.if4.false)
 
 pub returns-then-text-eq0 : goal.returns-then-text-eq0
 returns-then-text-eq0 c = read_number-none _ _ c.if-text-eq0.true
@@ -36,7 +27,7 @@ returns-then-character-gt57 c =
 pub overflow_cast-digit : goal.overflow_cast-digit
 overflow_cast-digit c =
     let k = c in
-    omega (arith, k.shared_slice_known-1.given k.loop-passed.passed)
+    omega (arith, k.type_inv.text k.loop-passed.passed)
 
 pub returns-then-most-digit : goal.returns-then-most-digit
 returns-then-most-digit c =
@@ -49,12 +40,6 @@ returns-then-most-digit-2 c =
     let k = c in
     read_on_over _ _ _ _ k.loop-passed-test.true (omega (arith, c.if-most-digit-2.true, c.if-most-digit.false))
     ∙ sym k.loop-passed.invariant.rest
-
-pub overflow_mul-value : goal.overflow_mul-value
-overflow_mul-value c = omega (arith, larger c)
-
-pub overflow_add-value : goal.overflow_add-value
-overflow_add-value c = omega (arith, larger c)
 
 pub overflow_add-passed : goal.overflow_add-passed
 overflow_add-passed c =
@@ -70,7 +55,7 @@ pub loop-passed-preserved : goal.loop-passed-preserved
 loop-passed-preserved c =
     let k = c in
     record {
-      fits = omega (arith, larger c);
+      fits = omega arith;
       rest =
           k.loop-passed.invariant.rest
           ∙ read_on_next _ _ _ _ k.loop-passed-test.true c.if-character-lt48.false

@@ -1,8 +1,6 @@
 -- `digits::decimal::decimal` meets its contract: what holds at each turn is `SoFar`; the measure is how many places are
 -- left. Assumes nothing.
-use native.Mathlib.Omega.{arith}
-use borrow.Author.Rules.{rules}
-use Rattle.digits.proofs.Decimals.{SoFar, so_far_start, so_far_next, so_far_end}
+use Rattle.digits.proofs.Decimals.{SoFar}
 use Rattle.digits.proofs.decimal.decimal.Given as goal
 
 abbrev pub invariant-loop-rest : goal.invariant-loop-rest
