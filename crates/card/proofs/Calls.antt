@@ -1,6 +1,6 @@
 -- Calls in a row are steps in a row. Assumes nothing.
 use Prim.Native.Nat.{ℕ, ◌+◌, ◌-◌, ◌≤◌, ◌<◌}
-use mathlib.Core.Bool.{Bool, true, false, ◌&&◌, or-true}
+use mathlib.Core.Bool.{true, false, ◌&&◌, or-true}
 use mathlib.Core.List.{List, [], ◌++◌}
 use mathlib.Core.Logic.{◌≢◌}
 use mathlib.Core.Path.{◌≡◌, refl, sym, ◌∙◌, ap, subst}
@@ -45,18 +45,17 @@ use Rattle.events.proofs.NextDue.{next-right}
 use Rattle.events.proofs.Demand2.{demand_2_answers}
 use Rattle.events.proofs.Demand3.{demand_3}
 use Rattle.events.proofs.Demand4.{demand_4}
-use Rattle.status.specs.declared.Status.{Status}
 use Rattle.status.specs.Kept.{input_status}
 use Rattle.status.proofs.WhatHappened.{status_right}
 use Rattle.quickstep.specs.Again.{says_again, again_own, is_again}
 use Rattle.quickstep.specs.Own.{own_step}
-use Rattle.quickstep.specs.Watch.{Watch, numbered, fresh_watch, due_anew, completed, own_put, own_at, take_step, watch_step}
+use Rattle.quickstep.specs.Watch.{Watch, numbered, due_anew, completed, own_put, own_at, take_step, watch_step}
 use Rattle.quickstep.proofs.Due.{again_due-later}
 use Rattle.quickstep.proofs.Step.{ever}
 use Rattle.quickstep.proofs.SameAsPlain.{Kept, Right, own-early, fresh_kept, take_step-right, watch_step-right, numbered-answer}
-use Rattle.card.specs.Lent.{with_number, names_option, start_lent, read_for, ranged_watch, event_lent, step_lent}
+use Rattle.card.specs.Lent.{names_option, start_lent, read_for, ranged_watch, event_lent, step_lent}
 use Rattle.card.specs.Known.{ends_of, known_of, ends_known, input_known}
-use Rattle.card.specs.Calls.{called, lent_after, latest_number, latest_count, latest_by, StartRight, LentRight, Demand1Lent, Demand2Lent, Demand3Lent, Demand4Lent, NextDueLent, StatusLent}
+use Rattle.card.specs.Calls.{lent_after, latest_number, latest_count, latest_by, StartRight, LentRight, Demand1Lent, Demand2Lent, Demand3Lent, Demand4Lent, NextDueLent, StatusLent}
 use Rattle.card.specs.Range.{InRange}
 use Rattle.card.proofs.Ports.{port-written}
 use Rattle.card.proofs.Range.{step_read-read_for, sequence_named, answer_in_range, in_range_ranged}

@@ -6,9 +6,7 @@ use mathlib.Core.List.{List}
 use mathlib.Core.Path.{◌≡◌, refl, sym, ◌∙◌, ap, subst}
 use native.Mathlib.Omega.{arith}
 use lib.Dec.{eqb, leb, ltb}
-use lib.ListN.{get_or}
 use borrow.Author.Tests.{eq-eqb, eqb-true, lt-ltb, le-leb}
-use Rattle.numbers.specs.declared.Answer.{Answer}
 use Rattle.numbers.specs.declared.Event.{Event}
 use Rattle.numbers.specs.From.{started, ◌following◌}
 use Rattle.numbers.specs.Profile.{limits_of}
@@ -17,7 +15,6 @@ use Rattle.numbers.specs.Kind.{flag}
 use Rattle.numbers.specs.Refusal.{accepted}
 use Rattle.frame.specs.Read.{read_code}
 use Rattle.input.specs.declared.Input.{Input}
-use Rattle.input.specs.Record.{fresh_input}
 use Rattle.selector.specs.declared.Selector.{Selector}
 use Rattle.selector.specs.Answer.{answer_of}
 use Rattle.selector.specs.State.{decided}
@@ -26,7 +23,7 @@ use Rattle.due.specs.Served.{ticked}
 use Rattle.due.specs.Each.{each}
 use Rattle.due.proofs.Calm.{Calm}
 use Rattle.due.proofs.ServesEachDue.{ticked-each}
-use Rattle.events.specs.Given.{Given, Sequence}
+use Rattle.events.specs.Given.{Sequence}
 use Rattle.events.specs.Step.{Stepped, at_its_moment, kind_at, early_number, late_number, step_read, step}
 use Rattle.events.specs.Sequence.{state_after}
 use Rattle.events.proofs.Refused.{accepted_limit}
@@ -35,7 +32,7 @@ use Rattle.events.proofs.Extra.{sequence-ever}
 use Rattle.quickstep.specs.Watch.{Watch}
 use Rattle.onestep.specs.Watched.{answer_in, watch_at}
 use Rattle.inplace.specs.Lists.{selector_at}
-use Rattle.card.specs.Sound.{same_run, same_among, same_runs, same_once, same_answer, is_sound}
+use Rattle.card.specs.Sound.{same_among, same_runs, same_once, same_answer, is_sound}
 use Rattle.card.specs.Calls.{lent_after, latest_number}
 use Rattle.card.specs.Range.{IsInput, InRange, SoundRight}
 use Rattle.card.proofs.Calls.{lent-right}

@@ -1,19 +1,16 @@
 -- A tick in portions: a law for each way through the functions that make it, and that it ends in the same state.
 -- Assumes nothing.
 use Prim.Native.Nat.{ℕ, zero, suc, ◌+◌, ◌-◌, ◌≤◌, ◌<◌}
-use mathlib.Core.Bool.{Bool, true, false}
-use mathlib.Core.List.{List, []}
+use mathlib.Core.List.{[]}
 use mathlib.Core.Path.{◌≡◌, refl, sym, ◌∙◌, ap, subst}
 use native.Mathlib.Omega.{arith}
-use lib.Dec.{eqb, leb}
-use mir.Val.{bool_byte}
+use lib.Dec.{leb}
 use borrow.Author.Tests.{eq-eqb, ne_eqb, le-leb, lt-leb, leb-true}
 use Rattle.numbers.specs.From.{◌following◌}
 use Rattle.numbers.specs.Inputs.{time_limit}
 use Rattle.numbers.specs.Kind.{kind_tick}
 use Rattle.numbers.specs.Refusal.{accepted}
 use Rattle.numbers.proofs.Truth.{by_bool}
-use Rattle.frame.specs.declared.FrameRead.{FrameRead}
 use Rattle.frame.specs.declared.FrameRead.TheVariants.{Code}
 use Rattle.frame.specs.Read.{read_code}
 use Rattle.selector.specs.declared.Selector.{Selector}
@@ -23,7 +20,7 @@ use Rattle.due.specs.Served.{ticked}
 use Rattle.due.proofs.Jump.{next_due-later}
 use Rattle.due.proofs.ServesEachDue.{ticked-twice, served-time}
 use Rattle.events.specs.Given.{Given, Sequence, tick_at}
-use Rattle.events.specs.Step.{Stepped, recorded_event, at_its_moment, early_number, late_number, step_read, step}
+use Rattle.events.specs.Step.{Stepped, recorded_event, at_its_moment, early_number, late_number, step}
 use Rattle.events.specs.Sequence.{state_after, number_after}
 use Rattle.events.proofs.Calm.{accepted_or_not, step_read-taken, step_read_barred, sequence-calm, not_never}
 use Rattle.events.proofs.Agrees.{step-accepted}

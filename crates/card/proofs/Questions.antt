@@ -1,12 +1,11 @@
 -- Questions in a row to senders that are lent one by one. Cites `sending` of the sixteen. Assumes nothing.
 use Prim.Native.Nat.{ℕ, ◌≤◌, ◌<◌}
-use mathlib.Core.Bool.{Bool, true, false, cond, not}
-use mathlib.Core.List.{List, [], ◌∷◌}
-use mathlib.Core.Path.{◌≡◌, refl, sym, ap, subst, ◌∙◌}
+use mathlib.Core.List.{[], ◌∷◌}
+use mathlib.Core.Path.{◌≡◌, sym, ap, subst, ◌∙◌}
 use native.Mathlib.Omega.{arith}
-use lib.Dec.{eqb, leb, ltb}
-use lib.ListN.{length, get_or, set}
-use lib.Seq.{get_or-set_same, get_or-set_other}
+use lib.Dec.{eqb, ltb}
+use lib.ListN.{length}
+use lib.Seq.{get_or-set_same}
 use borrow.Author.Tests.{eqb-true, eqb-false, eq-eqb, ne_eqb, le-ltb, ltb-true, ltb-false}
 use Rattle.numbers.specs.Inputs.{last_input}
 use Rattle.numbers.specs.Refusal.{accepted}
@@ -18,8 +17,8 @@ use Rattle.sender.specs.declared.AskedOne.{AskedOne}
 use Rattle.sender.specs.declared.Heartbeat.TheVariants as H
 use Rattle.sender.specs.declared.Sender.{Sender}
 use Rattle.sender.specs.declared.Senders.{Senders}
-use Rattle.sender.specs.Heartbeat.{Question, Questions, code_asked, heartbeat_by, question_number}
-use Rattle.sender.specs.Sender.{fresh_sender, heartbeat_of, after_heartbeat, sender_at, asked_number, last_asked, one_number, one_with, asked_one, answered_with, asked_of, asked}
+use Rattle.sender.specs.Heartbeat.{Question, Questions, code_asked, question_number}
+use Rattle.sender.specs.Sender.{fresh_sender, heartbeat_of, after_heartbeat, sender_at, asked_number, last_asked, one_number, one_with, asked_one, asked}
 use Rattle.sender.specs.Sequence.{senders_after}
 use Rattle.sender.proofs.Agrees.{asked-refused, asked-accepted, senders-sixteen, fresh_at, other-kept}
 use Rattle.sender.proofs.Codes.{code_of_port-small}

@@ -14,18 +14,13 @@ use Rattle.numbers.specs.Inputs.{input_count}
 use Rattle.numbers.specs.Profile.{prov_place_of}
 use Rattle.numbers.specs.Quality.{quality, prov}
 use Rattle.numbers.specs.Refusal.{accepted}
-use Rattle.input.specs.Recorded.{History, mode_on, floor_of, time_of, priority_of, is_locked_out, passed_at}
+use Rattle.input.specs.Recorded.{History, mode_on, time_of, passed_at}
 use Rattle.numbers.proofs.Truth.{by_bool}
 use Rattle.choice.specs.declared.Candidate.{Candidate}
-use Rattle.choice.specs.declared.Selection.{Selection}
-use Rattle.choice.specs.declared.Selection.TheVariants as S
-use Rattle.choice.specs.Candidate as Seen
-use Rattle.choice.specs.Candidate.{is_admitted, ranked_quality, candidate_of, is_eligible}
 use Rattle.choice.specs.Choice.{selected}
 use Rattle.choice.specs.Rank.{is_placed, rank_of}
 use Rattle.choice.proofs.Choosing.{selected-injective}
 use Rattle.choice.proofs.Places.{rank_placed, rank_numbered}
-use Rattle.choice.proofs.Ranks.{eligible-exact}
 use Rattle.switch.specs.declared.Switch.{Switch}
 use Rattle.switch.specs.declared.Switch.TheVariants as W
 use Rattle.switch.specs.Choices.{choices_ago}
@@ -34,11 +29,10 @@ use Rattle.selector.specs.Clock.{no_input, locked, clock_state, clock_quality, s
 use Rattle.selector.specs.Answer.{answer_of}
 use Rattle.events.specs.Given.{Sequence}
 use Rattle.events.specs.Sequence.{state_after}
-use Rattle.events.specs.Past.{Made, Past, candidate_by, decided_by, past_of, recorded, made_in}
-use Rattle.events.specs.Told.{shown, candidate_selected, answer_by}
+use Rattle.events.specs.Past.{Made, Past, decided_by, past_of, recorded, made_in}
+use Rattle.events.specs.Told.{candidate_selected, answer_by}
 use Rattle.events.specs.Demand3.{Admitted, Latest, Unsurpassed}
 use Rattle.events.proofs.Agrees.{sequence-agrees}
-use Rattle.events.proofs.Stated.{passed_at_passes, passed_at_only}
 use Rattle.events.proofs.Happened.{happened}
 use Rattle.events.proofs.Demand2.{demand_2_answers}
 use Rattle.events.proofs.Demand3.{demand_3}

@@ -1,7 +1,6 @@
 -- `card::card_frame` meets its contract. Assumes nothing.
 use mathlib.Core.Path.{ap}
 use Rattle.card.specs.Lent.{message_told, frame_told}
-use borrow.Author.Rules.{rules}
 use Rattle.card.proofs.card_frame.Goals as goal
 
 pub returns : goal.returns

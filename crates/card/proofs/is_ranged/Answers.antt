@@ -1,6 +1,5 @@
 -- `card::is_ranged` meets its contract. Assumes nothing.
 use Rattle.card.specs.Lent.{is_ranged}
-use borrow.Author.Rules.{rules}
 use Rattle.card.proofs.is_ranged.Goals as goal
 
 pub returns : goal.returns

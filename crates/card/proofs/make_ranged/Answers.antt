@@ -2,7 +2,6 @@
 use Rattle.inplace.specs.Lists.{selector_at}
 use Rattle.onestep.specs.Watched.{watch_at}
 use Rattle.card.proofs.CardLaws.{ranged_kept, ranged_anew}
-use borrow.Author.Rules.{rules}
 use Rattle.card.proofs.make_ranged.Goals as goal
 
 pub returns-then-is_ranged : goal.returns-then-is_ranged

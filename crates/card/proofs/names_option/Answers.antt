@@ -1,6 +1,5 @@
 -- `card::names_option` meets its contract. Assumes nothing.
 use Rattle.card.proofs.CardLaws.{names_option-one, names_option-other}
-use borrow.Author.Rules.{rules}
 use Rattle.card.proofs.names_option.Goals as goal
 
 pub returns-then-option-eq-OPTION_ONE : goal.returns-then-option-eq-OPTION_ONE

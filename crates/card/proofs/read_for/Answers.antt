@@ -1,6 +1,5 @@
 -- `card::read_for` meets its contract. Assumes nothing.
 use Rattle.card.proofs.CardLaws.{readFor-laws}
-use borrow.Author.Rules.{rules}
 use Rattle.card.proofs.read_for.Goals as goal
 
 pub returns-then-kind-eq-KIND_FRAME : goal.returns-then-kind-eq-KIND_FRAME

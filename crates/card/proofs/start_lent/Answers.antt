@@ -2,7 +2,6 @@
 use Rattle.inplace.specs.Lists.{selector_at}
 use Rattle.onestep.specs.Watched.{watch_at}
 use Rattle.card.proofs.CardLaws.{start_neither, start_fresh, start_refused}
-use borrow.Author.Rules.{rules}
 use Rattle.card.proofs.start_lent.Goals as goal
 
 pub returns-then-not-names_option : goal.returns-then-not-names_option

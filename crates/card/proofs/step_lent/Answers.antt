@@ -1,7 +1,6 @@
 -- `card::step_lent` meets its contract. Assumes nothing.
 use Rattle.onestep.specs.Watched.{watch_at}
 use Rattle.card.proofs.CardLaws.{step-called}
-use borrow.Author.Rules.{rules}
 use Rattle.card.proofs.step_lent.Goals as goal
 
 pub returns : goal.returns

@@ -1,6 +1,5 @@
 -- `card::write_port` meets its contract. Assumes nothing.
 use Rattle.card.proofs.CardLaws.{writePort-laws}
-use borrow.Author.Rules.{rules}
 use Rattle.card.proofs.write_port.Goals as goal
 
 pub returns-then-port-gt-LAST_INPUT : goal.returns-then-port-gt-LAST_INPUT

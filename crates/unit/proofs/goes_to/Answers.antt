@@ -1,7 +1,6 @@
 -- `unit::goes_to` meets its contract: each way is a law.
 -- Assumes nothing.
 use Rattle.unit.proofs.UnitLaws.{goesTo-laws}
-use borrow.Author.Rules.{rules}
 use Rattle.unit.proofs.goes_to.Goals as goal
 
 pub returns-then-goes_to_both : goal.returns-then-goes_to_both

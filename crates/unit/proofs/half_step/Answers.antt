@@ -1,7 +1,6 @@
 -- `unit::half_step` meets its contract: the tick, and the event where it goes there. Assumes nothing.
 use Rattle.inplace.specs.Lists.{selector_at}
 use Rattle.unit.proofs.UnitLaws.{half-ticked, half-taken}
-use borrow.Author.Rules.{rules}
 use Rattle.unit.proofs.half_step.Goals as goal
 
 pub returns-then-goes : goal.returns-then-goes
@@ -10,12 +9,12 @@ returns-then-goes c =
     let tick = c.step_read-ticked in
     let step = c.step_read-after in
     half-taken (selector_at args.times.now args.small.now args.wider.now) args.goes args.event args.read tick.result.number tick.result.count
-    (selector_at tick.new.0 tick.new.1.0 tick.new.1.1.0) tick.ensures step.result.number step.result.count
-    (selector_at step.new.0 step.new.1.0 step.new.1.1.0) c.if-goes.true step.ensures
+    (selector_at tick.new.times tick.new.small tick.new.wider) tick.ensures step.result.number step.result.count
+    (selector_at step.new.times step.new.small step.new.wider) c.if-goes.true step.ensures
 
 pub returns : goal.returns
 returns c =
     let args = c.args in
     let tick = c.step_read-ticked in
     half-ticked (selector_at args.times.now args.small.now args.wider.now) args.goes args.event args.read tick.result.number tick.result.count
-    (selector_at tick.new.0 tick.new.1.0 tick.new.1.1.0) tick.ensures c.if-goes.false
+    (selector_at tick.new.times tick.new.small tick.new.wider) tick.ensures c.if-goes.false

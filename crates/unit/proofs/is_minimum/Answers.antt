@@ -1,7 +1,6 @@
 -- `unit::is_minimum` meets its contract: each way is a law.
 -- Assumes nothing.
 use Rattle.unit.proofs.UnitLaws.{isMinimum-laws}
-use borrow.Author.Rules.{rules}
 use Rattle.unit.proofs.is_minimum.Goals as goal
 
 pub returns-then-minimum-lt1 : goal.returns-then-minimum-lt1

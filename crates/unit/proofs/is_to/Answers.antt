@@ -1,7 +1,6 @@
 -- `unit::is_to` meets its contract: each way is a law.
 -- Assumes nothing.
 use Rattle.unit.proofs.UnitLaws.{isTo-laws}
-use borrow.Author.Rules.{rules}
 use Rattle.unit.proofs.is_to.Goals as goal
 
 pub returns-in-Equipment-half : goal.returns-in-Equipment-half

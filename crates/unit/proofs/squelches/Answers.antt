@@ -1,7 +1,6 @@
 -- `unit::squelches` meets its contract: each way is a law.
 -- Assumes nothing.
 use Rattle.unit.proofs.UnitLaws.{squelchedBy-laws}
-use borrow.Author.Rules.{rules}
 use Rattle.unit.proofs.squelches.Goals as goal
 
 pub returns-then-answer-ne-LOCKED : goal.returns-then-answer-ne-LOCKED

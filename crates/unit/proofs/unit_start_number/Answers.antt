@@ -1,7 +1,6 @@
 -- `unit::unit_start_number` meets its contract: each way is a law.
 -- Assumes nothing.
 use Rattle.unit.proofs.UnitLaws.{unitStartNumber-laws}
-use borrow.Author.Rules.{rules}
 use Rattle.unit.proofs.unit_start_number.Goals as goal
 
 pub returns-then-is_minimum : goal.returns-then-is_minimum

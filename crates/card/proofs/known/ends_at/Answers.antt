@@ -1,6 +1,5 @@
 -- `card::known::ends_at` meets its contract. Assumes nothing.
 use Rattle.card.proofs.Status.{endsKnown-laws}
-use borrow.Author.Rules.{rules}
 use Rattle.card.proofs.known.ends_at.Goals as goal
 
 pub returns-then-input-gt-LAST_INPUT : goal.returns-then-input-gt-LAST_INPUT

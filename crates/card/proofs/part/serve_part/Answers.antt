@@ -1,9 +1,6 @@
 -- `card::part::serve_part` meets its contract. Assumes nothing.
-use Prim.Native.Nat.{◌≤◌, ◌-◌}
-use mathlib.Core.Path.{◌≡◌}
-use Rattle.due.specs.Next.{next_due}
 use Rattle.onestep.specs.Watched.{watch_at}
-use Rattle.card.proofs.Portions.{Parted, parted_none, parted_turn, parted_late, parted_full}
+use Rattle.card.proofs.Portions.{parted_none, parted_turn, parted_late, parted_full}
 use borrow.Author.Rules.{rules}
 use Rattle.card.proofs.part.serve_part.Goals as goal
 

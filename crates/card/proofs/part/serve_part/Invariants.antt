@@ -3,8 +3,7 @@ use Prim.Native.Nat.{◌≤◌, ◌-◌}
 use mathlib.Core.Path.{◌≡◌}
 use Rattle.due.specs.Next.{next_due}
 use Rattle.onestep.specs.Watched.{watch_at}
-use Rattle.card.proofs.Portions.{Parted, parted_none, parted_turn, parted_late, parted_full}
-use borrow.Author.Rules.{rules}
+use Rattle.card.proofs.Portions.{Parted}
 use Rattle.card.proofs.part.serve_part.Given as goal
 
 abbrev pub invariant-loop-count : goal.invariant-loop-count

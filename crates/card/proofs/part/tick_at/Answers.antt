@@ -1,7 +1,6 @@
 -- `card::part::tick_at` meets its contract. Assumes nothing.
 use Rattle.onestep.specs.Watched.{watch_at}
 use Rattle.card.proofs.Portions.{tick_called}
-use borrow.Author.Rules.{rules}
 use Rattle.card.proofs.part.tick_at.Goals as goal
 
 pub returns : goal.returns

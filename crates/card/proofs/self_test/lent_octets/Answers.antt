@@ -1,6 +1,5 @@
 -- `card::self_test::lent_octets` meets its contract. Assumes nothing.
 use Rattle.card.proofs.Tested.{lentOctets-laws}
-use borrow.Author.Rules.{rules}
 use Rattle.card.proofs.self_test.lent_octets.Goals as goal
 
 pub returns-then-count-lt-FRAME : goal.returns-then-count-lt-FRAME

@@ -1,10 +1,8 @@
 -- `card::self_test::self_test` meets its contract. Assumes nothing.
-use Prim.Native.Nat.{◌≤◌, ◌-◌}
-use mathlib.Core.Path.{◌≡◌}
+use Prim.Native.Nat.{◌≤◌}
 use lib.ListN.{length}
 use Rattle.onestep.specs.Watched.{watch_at}
-use Rattle.card.specs.SelfTest.{test_lines}
-use Rattle.card.proofs.Tested.{Answered, answered-none, answered-more, answered-all}
+use Rattle.card.proofs.Tested.{answered-none, answered-more, answered-all}
 use borrow.Author.Rules.{rules}
 use Rattle.card.proofs.self_test.self_test.Goals as goal
 

@@ -4,8 +4,7 @@ use mathlib.Core.Path.{◌≡◌}
 use lib.ListN.{length}
 use Rattle.onestep.specs.Watched.{watch_at}
 use Rattle.card.specs.SelfTest.{test_lines}
-use Rattle.card.proofs.Tested.{Answered, answered-none, answered-more, answered-all}
-use borrow.Author.Rules.{rules}
+use Rattle.card.proofs.Tested.{Answered}
 use Rattle.card.proofs.self_test.self_test.Given as goal
 
 abbrev pub invariant-loop-at : goal.invariant-loop-at

@@ -1,6 +1,5 @@
 -- `card::self_test::test_frame` meets its contract. Assumes nothing.
 use Rattle.card.specs.SelfTest.{test_frame}
-use borrow.Author.Rules.{rules}
 use Rattle.card.proofs.self_test.test_frame.Goals as goal
 
 pub returns : goal.returns

@@ -1,9 +1,6 @@
 -- `card::self_test::test_line` meets its contract. Assumes nothing.
-use mathlib.Core.Path.{sym, ◌∙◌}
-use lib.ListN.{take}
+use mathlib.Core.Path.{sym}
 use lib.Seq.{length-take-le}
-use Rattle.onestep.specs.Watched.{watch_at}
-use Rattle.card.specs.Lent.{step_lent}
 use Rattle.card.specs.SelfTest.{tested_watch}
 use Rattle.card.proofs.Tested.{lent_octets-most}
 use borrow.Author.Rules.{rules}

@@ -1,6 +1,5 @@
 -- `card::senders::code_at` meets its contract. Assumes nothing.
 use Rattle.card.proofs.Asking.{code_laws}
-use borrow.Author.Rules.{rules}
 use Rattle.card.proofs.senders.code_at.Goals as goal
 
 pub returns-then-port-gt-LAST_INPUT : goal.returns-then-port-gt-LAST_INPUT

@@ -1,6 +1,5 @@
 -- `card::senders::nurrispane_ask_in` meets its contract. Assumes nothing.
 use Rattle.card.proofs.Asking.{asked-lent}
-use borrow.Author.Rules.{rules}
 use Rattle.card.proofs.senders.nurrispane_ask_in.Goals as goal
 
 pub returns : goal.returns

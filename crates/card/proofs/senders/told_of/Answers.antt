@@ -1,6 +1,5 @@
 -- `card::senders::told_of` meets its contract. Assumes nothing.
 use Rattle.card.proofs.Asking.{heartbeatTold-laws}
-use borrow.Author.Rules.{rules}
 use Rattle.card.proofs.senders.told_of.Goals as goal
 
 pub returns-in-Information : goal.returns-in-Information

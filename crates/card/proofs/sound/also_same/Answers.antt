@@ -1,5 +1,4 @@
 -- `card::sound::also_same` meets its contract. Assumes nothing.
-use borrow.Author.Rules.{rules}
 use Rattle.card.proofs.sound.also_same.Goals as goal
 
 pub returns : goal.returns

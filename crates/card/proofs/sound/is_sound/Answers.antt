@@ -2,7 +2,6 @@
 use Rattle.inplace.specs.Lists.{selector_at}
 use Rattle.onestep.specs.Watched.{watch_at}
 use Rattle.card.proofs.Same.{sound-told}
-use borrow.Author.Rules.{rules}
 use Rattle.card.proofs.sound.is_sound.Goals as goal
 
 pub returns : goal.returns

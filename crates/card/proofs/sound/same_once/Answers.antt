@@ -1,7 +1,6 @@
 -- `card::sound::same_once` meets its contract. Assumes nothing.
 use Rattle.inplace.specs.Lists.{selector_at}
 use Rattle.card.proofs.Same.{once_told}
-use borrow.Author.Rules.{rules}
 use Rattle.card.proofs.sound.same_once.Goals as goal
 
 pub returns : goal.returns

@@ -1,8 +1,5 @@
 -- `card::sound::same_runs` meets its contract. Assumes nothing.
-use Prim.Native.Nat.{◌≤◌, ◌-◌}
-use mathlib.Core.Path.{◌≡◌}
 use Rattle.inplace.specs.Lists.{selector_at}
-use Rattle.card.specs.Sound.{same_among}
 use Rattle.card.proofs.Same.{same_among-none, same_among-more, same_among-all}
 use borrow.Author.Rules.{rules}
 use Rattle.card.proofs.sound.same_runs.Goals as goal

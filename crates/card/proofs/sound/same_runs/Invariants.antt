@@ -3,8 +3,6 @@ use Prim.Native.Nat.{◌≤◌, ◌-◌}
 use mathlib.Core.Path.{◌≡◌}
 use Rattle.inplace.specs.Lists.{selector_at}
 use Rattle.card.specs.Sound.{same_among}
-use Rattle.card.proofs.Same.{same_among-none, same_among-more, same_among-all}
-use borrow.Author.Rules.{rules}
 use Rattle.card.proofs.sound.same_runs.Given as goal
 
 abbrev pub invariant-loop-at : goal.invariant-loop-at

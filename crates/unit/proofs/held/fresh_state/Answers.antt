@@ -1,6 +1,5 @@
 -- `unit::held::fresh_state` meets its contract: it is that of the start in place.
 -- Assumes nothing.
-use borrow.Author.Rules.{rules}
 use Rattle.unit.proofs.held.fresh_state.Goals as goal
 
 pub returns : goal.returns

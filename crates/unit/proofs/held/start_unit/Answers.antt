@@ -1,5 +1,4 @@
 -- `unit::held::start_unit` meets its contract: each way is a law. Assumes nothing.
-use borrow.Author.Rules.{rules}
 use Rattle.unit.proofs.UnitLaws.{startedUnit-laws}
 use Rattle.unit.proofs.held.start_unit.Goals as goal
 

@@ -3,7 +3,6 @@
 use Rattle.inplace.specs.Lists.{selector_at}
 use Rattle.unit.specs.Held.{unit_in}
 use Rattle.unit.proofs.UnitLaws.{unit-stepped}
-use borrow.Author.Rules.{rules}
 use Rattle.unit.proofs.held.step_unit.Goals as goal
 
 pub returns : goal.returns
@@ -23,7 +22,7 @@ returns c =
     goes.goes_to-to_station.ensures
     one.result
     other.result
-    (selector_at one.new.0 one.new.1.0 one.new.1.1.0)
-    (selector_at other.new.0 other.new.1.0 other.new.1.1.0)
+    (selector_at one.new.times one.new.small one.new.wider)
+    (selector_at other.new.times other.new.small other.new.wider)
     one.ensures
     other.ensures
