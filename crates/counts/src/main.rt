@@ -7,13 +7,13 @@
 use replayer::Form;
 use start::{StartRead, read_start, say_start};
 
-fn main() {
-    let start = read_start();
+fn main(rt: HostRuntime) {
+    let start = read_start(&rt);
     let StartRead::Started(provplace, marks) = start else {
-        say_start(start);
+        say_start(&rt, start);
         return;
     };
-    let ended = console::replay(Form::Counts, provplace, marks);
+    let ended = console::replay(&rt, Form::Counts, provplace, marks);
     let ending = ended.ending;
-    calls::say(ending);
+    calls::say(&rt, ending);
 }

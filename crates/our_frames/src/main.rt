@@ -18,21 +18,21 @@ const LINE: usize = 121;
 // "the sixteen codes"
 const CODE_COUNT: u8 = 16;
 
-fn main() {
+fn main(rt: HostRuntime) {
     let mut sent = 0;
-    let ending = print_frames(false, &mut sent);
+    let ending = print_frames(&rt, false, &mut sent);
     if !is_whole(ending) {
-        say(ending);
+        say(&rt, ending);
         return;
     }
-    let ending = print_frames(true, &mut sent);
-    say(ending);
+    let ending = print_frames(&rt, true, &mut sent);
+    say(&rt, ending);
 }
 
 // A line for each code, 0000 to 1111, till a write fails.
-fn print_frames(event: bool, sent: &mut usize) -> Ending {
+fn print_frames(rt: &HostRuntime, event: bool, sent: &mut usize) -> Ending {
     for code in 0..CODE_COUNT {
-        let ending = print_frame(event, code, sent);
+        let ending = print_frame(rt, event, code, sent);
         if !is_whole(ending) {
             return ending;
         }
@@ -41,17 +41,17 @@ fn print_frames(event: bool, sent: &mut usize) -> Ending {
 }
 
 // One line. The buffer starts with no octet zero, so that all 60 are seen to be written.
-fn print_frame(event: bool, code: u8, sent: &mut usize) -> Ending {
+fn print_frame(rt: &HostRuntime, event: bool, code: u8, sent: &mut usize) -> Ending {
     let mut buffer = [0xff; WRITTEN_LENGTH];
     write_frame(&mut buffer, &SOURCE, event, code);
     let mut line = [b'\n'; LINE];
     put_octets(&buffer, &mut line);
-    write_line(&line, sent)
+    write_line(rt, &line, sent)
 }
 
 // An array of fixed length is lent, so that its length is known.
-fn write_line(line: &[u8; LINE], sent: &mut usize) -> Ending {
-    write_text(Stream::Output, line, sent)
+fn write_line(rt: &HostRuntime, line: &[u8; LINE], sent: &mut usize) -> Ending {
+    write_text(rt, Stream::Output, line, sent)
 }
 
 // Two digits an octet.

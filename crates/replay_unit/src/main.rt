@@ -13,36 +13,36 @@ use calls::{Ending, Stream, write_alone};
 use lineloop::serve;
 use unitstart::{UnitStart, read_unit_start};
 
-fn main() {
-    let start = read_unit_start();
+fn main(rt: HostRuntime) {
+    let start = read_unit_start(&rt);
     let UnitStart::Started(profile, minimum) = start else {
-        say_unit_start(start);
+        say_unit_start(&rt, start);
         return;
     };
     let started = answerer::of_unit(profile, minimum);
     let first = started.answerer;
-    let ended = serve(first);
+    let ended = serve(&rt, first);
     let ending = ended.ending;
-    calls::say(ending);
+    calls::say(&rt, ending);
 }
 
 // Writes a line that says a start.
-fn start_line(stream: Stream, line: &[u8], start: UnitStart) -> Ending
+fn start_line(rt: &HostRuntime, stream: Stream, line: &[u8], start: UnitStart) -> Ending
     requires { (stream ≡ unit_start_stream start) × (line.now ≡ unit_start_said start) }
     ensures { TextSaid (length (unit_start_said start)) result }
 {
-    write_alone(stream, line)
+    write_alone(rt, stream, line)
 }
 
 // Says that there is no start: of a refused one its number on standard output, and nothing else; of
 // words that are none on standard error, in one line, what they are. Of a start nothing is said.
-fn say_unit_start(start: UnitStart) -> Ending
+fn say_unit_start(rt: &HostRuntime, start: UnitStart) -> Ending
     ensures { TextSaid (length (unit_start_said start)) result }
 {
     match start {
-        UnitStart::Started(_, _) => start_line(Stream::Error, b"", start),
-        UnitStart::Refused => start_line(Stream::Output, b"06\n", start),
-        UnitStart::NoStart => start_line(
+        UnitStart::Started(_, _) => start_line(rt, Stream::Error, b"", start),
+        UnitStart::Refused => start_line(rt, Stream::Output, b"06\n", start),
+        UnitStart::NoStart => start_line(rt,
             Stream::Error,
             b"replay_unit OPTION PLACE MARKS MINIMUM: 1 or 2, decimal, four hexadecimal digits, decimal\n",
             start,

@@ -79,6 +79,7 @@ pub fn fresh_bench(view: View, provplace: ProvPlace, marks: u16) -> BenchHeld
 
 // The lanes once it is known what is right to beyond the end.
 pub fn whole_lanes(
+    rt: &HostRuntime,
     question: Question,
     bench: BenchHeld,
     room: &mut [u64; ROOM],
@@ -98,6 +99,7 @@ pub fn whole_lanes(
     let behind = capped(capped(tolerance.end, tolerance.early), 1);
     let until = later(behind, time_at(&times));
     advance_all(
+        rt,
         question,
         lanes,
         room,

@@ -28,7 +28,7 @@ fn mark_of(ending: Ending) -> u8
 }
 
 // Writes the front of a text to standard output; nothing after a write that failed.
-pub fn send(out: &[u8], end: usize, stopped: &mut u8)
+pub fn send(rt: &HostRuntime, out: &[u8], end: usize, stopped: &mut u8)
     ensures { StaysStopped stopped.old stopped.new }
 {
     if *stopped != GOING {
@@ -38,7 +38,7 @@ pub fn send(out: &[u8], end: usize, stopped: &mut u8)
         *stopped = UNWRITTEN;
         return;
     }
-    let ending = write_alone(Stream::Output, &out[..end]);
+    let ending = write_alone(rt, Stream::Output, &out[..end]);
     *stopped = mark_of(ending);
 }
 
@@ -82,7 +82,13 @@ fn put_at(out: &mut [u8], place: usize, text: &[u8]) {
 }
 
 // Writes the line of a stretch, where there is one: LANE FROM TO VALUE.
-pub fn write_stretch(view: View, number: usize, stretch: Stretch, stopped: &mut u8)
+pub fn write_stretch(
+    rt: &HostRuntime,
+    view: View,
+    number: usize,
+    stretch: Stretch,
+    stopped: &mut u8,
+)
     ensures { StaysStopped stopped.old stopped.new }
 {
     if stretch.until <= stretch.from {
@@ -100,10 +106,10 @@ pub fn write_stretch(view: View, number: usize, stretch: Stretch, stopped: &mut 
         out[end + 1] = digits[8];
         out[end + 2] = digits[9];
         out[end + 3] = LINE_FEED;
-        send(&out, end + 4, stopped);
+        send(rt, &out, end + 4, stopped);
         return;
     }
     put_at(&mut out, end + 1, &digits);
     out[end + 11] = LINE_FEED;
-    send(&out, end + 12, stopped);
+    send(rt, &out, end + 12, stopped);
 }

@@ -58,6 +58,7 @@ fn new_from(tolerance: Tolerance, lane: Lane, from: u64) -> u64
 
 // A lane after a value is right from one millisecond to another, as far as that is new to it.
 pub fn push(
+    rt: &HostRuntime,
     question: Question,
     number: usize,
     lane: Lane,
@@ -86,12 +87,13 @@ pub fn push(
         room[index] = over;
     }
     let ended = judged.ended;
-    write_stretch(view, number, ended, stopped);
+    write_stretch(rt, view, number, ended, stopped);
     judged.lane
 }
 
 // A lane after a value was shown in it, where it is known what is right up to `early` behind that.
 pub fn show(
+    rt: &HostRuntime,
     question: Question,
     number: usize,
     known: Lane,
@@ -109,13 +111,14 @@ pub fn show(
     let last = last_at(room, index);
     let judged = shown(tolerance, known, last, time, value);
     let ended = judged.ended;
-    write_stretch(view, number, ended, stopped);
+    write_stretch(rt, view, number, ended, stopped);
     judged.lane
 }
 
 // A lane after a value was shown in it: first it is told what is right up to a border, of what the
 // state has shown since a time; while nothing is due, that is one thing.
 pub fn tell_shown(
+    rt: &HostRuntime,
     question: Question,
     number: usize,
     lane: Lane,
@@ -140,18 +143,21 @@ pub fn tell_shown(
         (StaysStopped stopped.old stopped.new) }
 {
     if border < due {
-        let known = push(question, number, lane, room, since, border, right, stopped);
-        return show(question, number, known, room, time, value, stopped);
+        let known = push(
+            rt, question, number, lane, room, since, border, right, stopped,
+        );
+        return show(rt, question, number, known, room, time, value, stopped);
     }
     let known = advance(
-        question, number, lane, room, times, small, wider, since, border, stopped,
+        rt, question, number, lane, room, times, small, wider, since, border, stopped,
     );
-    show(question, number, known, room, time, value, stopped)
+    show(rt, question, number, known, room, time, value, stopped)
 }
 
 // A lane after all that is right up to `until`, where no event comes, of a state that has shown the
 // same since a time: a copy of it is brought on from span to span.
 pub fn advance(
+    rt: &HostRuntime,
     question: Question,
     number: usize,
     before: Lane,
@@ -180,7 +186,7 @@ pub fn advance(
     let mut left: u64 = SPANS;
     while 0 < left {
         let value = value_of(view, &later, &after, wider, number);
-        lane = push(question, number, lane, room, from, to, value, stopped);
+        lane = push(rt, question, number, lane, room, from, to, value, stopped);
         if until <= to {
             return lane;
         }
@@ -193,6 +199,7 @@ pub fn advance(
 
 // The lanes of the ports after their codes are right from one millisecond to another.
 fn push_codes(
+    rt: &HostRuntime,
     question: Question,
     before: [Lane; 16],
     room: &mut [u64; ROOM],
@@ -210,7 +217,7 @@ fn push_codes(
     while number < 16 {
         let lane = lanes[number];
         let value = codes[number] as u64;
-        let next = push(question, number, lane, room, from, to, value, stopped);
+        let next = push(rt, question, number, lane, room, from, to, value, stopped);
         lanes[number] = next;
         number += 1;
     }
@@ -219,6 +226,7 @@ fn push_codes(
 
 // The lanes after what a state shows is right from one millisecond to another.
 fn push_all(
+    rt: &HostRuntime,
     question: Question,
     before: [Lane; 16],
     room: &mut [u64; ROOM],
@@ -238,12 +246,12 @@ fn push_all(
     let view = question.view;
     if view.codes {
         let codes = codes_at(times, small, wider);
-        return push_codes(question, before, room, from, to, codes, stopped);
+        return push_codes(rt, question, before, room, from, to, codes, stopped);
     }
     let mut lanes = before;
     let lane = lanes[0];
     let value = value_of(view, times, small, wider, 0);
-    let next = push(question, 0, lane, room, from, to, value, stopped);
+    let next = push(rt, question, 0, lane, room, from, to, value, stopped);
     lanes[0] = next;
     lanes
 }
@@ -251,6 +259,7 @@ fn push_all(
 // All lanes after all that is right up to `until`, where no event comes, of a state that has shown
 // the same since a time: a copy of it is brought on from span to span.
 pub fn advance_all(
+    rt: &HostRuntime,
     question: Question,
     before: [Lane; 16],
     room: &mut [u64; ROOM],
@@ -277,7 +286,7 @@ pub fn advance_all(
     let mut left: u64 = SPANS;
     while 0 < left {
         let next = push_all(
-            question, lanes, room, &later, &after, wider, from, to, stopped,
+            rt, question, lanes, room, &later, &after, wider, from, to, stopped,
         );
         lanes = next;
         if until <= to {

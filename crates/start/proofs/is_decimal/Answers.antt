@@ -1,11 +1,7 @@
 -- `start::is_decimal` meets its contract: what is left of the word decides at each turn.
 -- Assumes nothing.
-use Prim.Native.Nat.{◌-◌}
-use mathlib.Core.Path.{◌≡◌, sym, ◌∙◌}
+use mathlib.Core.Path.{sym, ◌∙◌}
 use native.Mathlib.Omega.{arith}
-use lib.ListN.{length, drop}
-use Rattle.digits.specs.Digits.{all_numerals}
-use Rattle.start.specs.Start.{is_decimal}
 use Rattle.start.proofs.StartLaws.{is_decimal-none, is_decimal-some, numerals_low, numerals_high, numerals_next, numerals_end}
 use Rattle.start.proofs.is_decimal.Goals as goal
 

@@ -1,12 +1,10 @@
 -- `start::is_decimal` meets its contract: what is left of the word decides at each turn.
 -- Assumes nothing.
 use Prim.Native.Nat.{◌-◌}
-use mathlib.Core.Path.{◌≡◌, sym, ◌∙◌}
-use native.Mathlib.Omega.{arith}
+use mathlib.Core.Path.{◌≡◌}
 use lib.ListN.{length, drop}
 use Rattle.digits.specs.Digits.{all_numerals}
 use Rattle.start.specs.Start.{is_decimal}
-use Rattle.start.proofs.StartLaws.{is_decimal-none, is_decimal-some, numerals_low, numerals_high, numerals_next, numerals_end}
 use Rattle.start.proofs.is_decimal.Given as goal
 
 abbrev pub invariant-loop-passed : goal.invariant-loop-passed

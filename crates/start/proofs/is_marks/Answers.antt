@@ -1,7 +1,6 @@
 -- `start::is_marks` meets its contract: each way is a law.
 -- Assumes nothing.
 use Rattle.start.proofs.StartLaws.{isMarks-laws}
-use borrow.Author.Rules.{rules}
 use Rattle.start.proofs.is_marks.Goals as goal
 
 pub returns-then-word-ne-MARKS : goal.returns-then-word-ne-MARKS

@@ -1,7 +1,6 @@
 -- `start::is_option_word` meets its contract: each way is a law.
 -- Assumes nothing.
 use Rattle.start.proofs.StartLaws.{isOptionWord-laws}
-use borrow.Author.Rules.{rules}
 use Rattle.start.proofs.is_option_word.Goals as goal
 
 pub returns-then-word-ne1 : goal.returns-then-word-ne1

@@ -1,7 +1,6 @@
 -- `start::start_by` meets its contract: each way is a law.
 -- Assumes nothing.
 use Rattle.start.proofs.StartLaws.{startBy-laws}
-use borrow.Author.Rules.{rules}
 use Rattle.start.proofs.start_by.Goals as goal
 
 pub returns-then-count-eq0 : goal.returns-then-count-eq0

@@ -1,7 +1,6 @@
 -- `start::start_in` meets its contract: each way is a law.
 -- Assumes nothing.
 use Rattle.start.proofs.StartLaws.{startIn-laws, decimal-holds, marks_hold}
-use borrow.Author.Rules.{rules}
 use Rattle.start.proofs.start_in.Goals as goal
 
 pub returns-then-not-is_option_word : goal.returns-then-not-is_option_word
