@@ -42,7 +42,8 @@ fn say_unit_start(rt: &HostRuntime, start: UnitStart) -> Ending
     match start {
         UnitStart::Started(_, _) => start_line(rt, Stream::Error, b"", start),
         UnitStart::Refused => start_line(rt, Stream::Output, b"06\n", start),
-        UnitStart::NoStart => start_line(rt,
+        UnitStart::NoStart => start_line(
+            rt,
             Stream::Error,
             b"replay_unit OPTION PLACE MARKS MINIMUM: 1 or 2, decimal, four hexadecimal digits, decimal\n",
             start,

@@ -19,7 +19,7 @@ use Rattle.unit.proofs.Halves.{half-after, minimum-after}
 use Rattle.quickstep.specs.Watch.{Watch}
 use Rattle.card.specs.Calls.{lent_after, latest_number}
 use Rattle.card.proofs.Calls.{lent-right}
-use Rattle.unitcard.specs.Lent.{LentUnit, watch_in, sent_by}
+use Rattle.unitcard.specs.Lent.{watch_in, sent_by}
 use Rattle.unitcard.specs.Calls.{unit_lent_after, half_latest_number}
 use Rattle.unitcard.proofs.Calls.{half-held, half-lent-right, sent-of}
 use Rattle.undertest.specs.UnderTest.{EqualButFor, begun, equal, paired, OffThroughout, NothingShows}

@@ -31,7 +31,7 @@ const STATION: u8 = 1;
 
 // How many octets the station output has: the worst quality that it still carries, 1 where it
 // squelches, its source.
-const SENT: usize = 3;
+pub const SENT: usize = 3;
 
 // The half of a number.
 fn half_in(half: u8) -> Half

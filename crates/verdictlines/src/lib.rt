@@ -98,7 +98,8 @@ pub fn whole_lanes(
     let lanes = bench.lanes;
     let behind = capped(capped(tolerance.end, tolerance.early), 1);
     let until = later(behind, time_at(&times));
-    advance_all(rt,
+    advance_all(
+        rt,
         question,
         lanes,
         room,

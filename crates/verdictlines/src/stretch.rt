@@ -82,7 +82,13 @@ fn put_at(out: &mut [u8], place: usize, text: &[u8]) {
 }
 
 // Writes the line of a stretch, where there is one: LANE FROM TO VALUE.
-pub fn write_stretch(rt: &HostRuntime, view: View, number: usize, stretch: Stretch, stopped: &mut u8)
+pub fn write_stretch(
+    rt: &HostRuntime,
+    view: View,
+    number: usize,
+    stretch: Stretch,
+    stopped: &mut u8,
+)
     ensures { StaysStopped stopped.old stopped.new }
 {
     if stretch.until <= stretch.from {

@@ -143,11 +143,13 @@ pub fn tell_shown(
         (StaysStopped stopped.old stopped.new) }
 {
     if border < due {
-        let known = push(rt, question, number, lane, room, since, border, right, stopped);
+        let known = push(
+            rt, question, number, lane, room, since, border, right, stopped,
+        );
         return show(rt, question, number, known, room, time, value, stopped);
     }
-    let known = advance(rt,
-        question, number, lane, room, times, small, wider, since, border, stopped,
+    let known = advance(
+        rt, question, number, lane, room, times, small, wider, since, border, stopped,
     );
     show(rt, question, number, known, room, time, value, stopped)
 }
@@ -283,8 +285,8 @@ pub fn advance_all(
     let mut to = span_end(times, small, wider, until);
     let mut left: u64 = SPANS;
     while 0 < left {
-        let next = push_all(rt,
-            question, lanes, room, &later, &after, wider, from, to, stopped,
+        let next = push_all(
+            rt, question, lanes, room, &later, &after, wider, from, to, stopped,
         );
         lanes = next;
         if until <= to {

@@ -1,7 +1,6 @@
 -- `our_frames::print_frames` is safe and ends.
 -- Assumes nothing.
 use Prim.Native.Nat.{◌≤◌, ◌-◌}
-use borrow.Author.Rules.{rules}
 use Rattle.our_frames.proofs.print_frames.Given as goal
 
 abbrev pub invariant-loop-code : goal.invariant-loop-code

@@ -1,7 +1,6 @@
 -- `our_frames::put_octets` is safe and ends.
 -- Assumes nothing.
 use Prim.Native.Nat.{◌≤◌, ◌-◌}
-use borrow.Author.Rules.{rules}
 use Rattle.our_frames.proofs.put_octets.Given as goal
 
 abbrev pub invariant-loop-put : goal.invariant-loop-put

@@ -5,7 +5,6 @@ use mathlib.Core.Path.{◌≡◌, sym, ◌∙◌}
 use borrow.Author.Tests.{not-true, not-false, eq-eqb, ne_eqb}
 use Rattle.digits.specs.Digits.{is_digit}
 use Rattle.read_frames.specs.Frames.{longest_frame_line, held_long_after}
-use borrow.Author.Rules.{rules}
 use Rattle.read_frames.proofs.hold_long.Goals as goal
 
 pub returns-then-not-is_digit : goal.returns-then-not-is_digit
@@ -17,7 +16,7 @@ unfolding held_long_after
 returns-then-all_digits c =
     let digit : is_digit c.args.character ≡ true =
     sym c.is_digit.ensures ∙ not-false _ c.if-not-is_digit.false-raw in
-        let full = c in
+    let full = c in
     rw (
       digit,
       eq-eqb _ longest_frame_line full.if-buffered-eq-LONGEST_LINE.true,
@@ -29,7 +28,7 @@ unfolding held_long_after
 returns-then-buffered-eq-LONGEST_LINE c =
     let digit : is_digit c.args.character ≡ true =
     sym c.is_digit.ensures ∙ not-false _ c.if-not-is_digit.false-raw in
-        let full = c in
+    let full = c in
     rw (
       digit,
       eq-eqb _ longest_frame_line full.if-buffered-eq-LONGEST_LINE.true,
@@ -41,7 +40,7 @@ unfolding held_long_after
 returns-then-buffered-eq-LONG_ODD c =
     let digit : is_digit c.args.character ≡ true =
     sym c.is_digit.ensures ∙ not-false _ c.if-not-is_digit.false-raw in
-        let over = c in
+    let over = c in
     rw (digit, ne_eqb _ longest_frame_line over.if-buffered-eq-LONGEST_LINE.false, eq-eqb _ 3029 c.if-buffered-eq-LONG_ODD.true)
 
 pub returns-then-buffered-eq-LONG_EVEN : goal.returns-then-buffered-eq-LONG_EVEN
@@ -49,7 +48,7 @@ unfolding held_long_after
 returns-then-buffered-eq-LONG_EVEN c =
     let digit : is_digit c.args.character ≡ true =
     sym c.is_digit.ensures ∙ not-false _ c.if-not-is_digit.false-raw in
-        let even = c in
+    let even = c in
     let over = even in
     rw (
       digit,
@@ -63,7 +62,7 @@ unfolding held_long_after
 returns c =
     let digit : is_digit c.args.character ≡ true =
     sym c.is_digit.ensures ∙ not-false _ c.if-not-is_digit.false-raw in
-        let even = c in
+    let even = c in
     let over = even in
     rw (
       digit,

@@ -34,8 +34,8 @@ loop-passed-preserved c =
     let test = one in
     let l = test in
     let start = l in (
-      one.take_one-told.auto.0 ∙ l.loop-passed.invariant.0,
-      one.take_one-told.auto.1.0 ∙ l.loop-passed.invariant.1,
+      one.take_one-told.auto.line ∙ l.loop-passed.invariant.0,
+      one.take_one-told.auto.out ∙ l.loop-passed.invariant.1,
       omega (arith, test.loop-passed-test.true),
       omega (arith, l.loop-passed.invariant.3, one.take_one-told.ensures.0),
       λ come holds.

@@ -17,7 +17,7 @@ invariant-loop-passed l =
     × (l.passed ≤ length l.chunk)
     × (l.written ≤ longest_told * l.passed)
     × ((come : List ℕ) → HoldsLine l.initial.line l.buffered come
-    → ToldChunk come (take l.passed l.chunk) l.line l.out (record { l.written = l.written; l.buffered = l.count }))
+    → ToldChunk come (take l.passed l.chunk) l.line l.out (record { written = l.written; buffered = l.count }))
 
 abbrev pub decreases-loop-passed : goal.decreases-loop-passed
 decreases-loop-passed l = length l.chunk - l.passed

@@ -1,7 +1,6 @@
 -- `unitcard::send` meets its contract: it is the definition, call by call. Assumes nothing.
 use Rattle.inplace.specs.Lists.{selector_at}
 use Rattle.unitcard.proofs.UnitcardLaws.{sent-told}
-use borrow.Author.Rules.{rules}
 use Rattle.unitcard.proofs.send.Goals as goal
 
 pub returns : goal.returns

@@ -2,7 +2,6 @@
 use mathlib.Core.Path.{◌∙◌, ap}
 use Rattle.numbers.specs.Refusal.{accepted}
 use Rattle.unitcard.specs.Lent.{half_held}
-use borrow.Author.Rules.{rules}
 use Rattle.unitcard.proofs.start_half.Goals as goal
 
 pub returns : goal.returns

@@ -3,7 +3,6 @@ use Rattle.inplace.specs.Lists.{selector_at}
 use Rattle.onestep.specs.Watched.{watch_at}
 use Rattle.unit.specs.Kept.{half_step}
 use Rattle.unitcard.proofs.UnitcardLaws.{half-stepped}
-use borrow.Author.Rules.{rules}
 use Rattle.unitcard.proofs.step_half.Goals as goal
 
 pub returns : goal.returns

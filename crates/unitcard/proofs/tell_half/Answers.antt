@@ -2,7 +2,6 @@
 use Rattle.inplace.specs.Lists.{selector_at}
 use Rattle.onestep.specs.Watched.{watch_held, watch_at}
 use Rattle.unitcard.proofs.UnitcardLaws.{half-told}
-use borrow.Author.Rules.{rules}
 use Rattle.unitcard.proofs.tell_half.Goals as goal
 
 pub returns : goal.returns

@@ -1,9 +1,5 @@
 -- `unitstart::read_unit_start` meets its contract: the words are those that it lends `unit_start_by`.
 -- Assumes nothing.
-use Prim.Native.Nat.{ℕ}
-use mathlib.Core.Path.{sym}
-use lib.ListN.{length-replicate}
-use borrow.Author.Rules.{rules}
 use Rattle.unitstart.proofs.read_unit_start.Goals as goal
 
 pub returns : goal.returns

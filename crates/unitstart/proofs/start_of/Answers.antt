@@ -1,7 +1,6 @@
 -- `unitstart::start_of` meets its contract: each way is a law.
 -- Assumes nothing.
 use Rattle.unitstart.proofs.UnitStartLaws.{unitStartOf-laws}
-use borrow.Author.Rules.{rules}
 use Rattle.unitstart.proofs.start_of.Goals as goal
 
 pub returns-then-is_minimum : goal.returns-then-is_minimum

@@ -1,7 +1,6 @@
 -- `unitstart::start_two` meets its contract: each way is a law.
 -- Assumes nothing.
 use Rattle.unitstart.proofs.UnitStartLaws.{unitStartTwo-laws}
-use borrow.Author.Rules.{rules}
 use Rattle.unitstart.proofs.start_two.Goals as goal
 
 pub returns-in-Started : goal.returns-in-Started

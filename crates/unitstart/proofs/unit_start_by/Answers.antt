@@ -1,7 +1,6 @@
 -- `unitstart::unit_start_by` meets its contract: each way is a law.
 -- Assumes nothing.
 use Rattle.unitstart.proofs.UnitStartLaws.{unitStartBy-laws}
-use borrow.Author.Rules.{rules}
 use Rattle.unitstart.proofs.unit_start_by.Goals as goal
 
 pub returns-then-count-ne-ARGUMENTS : goal.returns-then-count-ne-ARGUMENTS

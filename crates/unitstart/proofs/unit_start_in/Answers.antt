@@ -1,7 +1,6 @@
 -- `unitstart::unit_start_in` meets its contract: each way is a law.
 -- Assumes nothing.
 use Rattle.unitstart.proofs.UnitStartLaws.{unitStartIn-laws, minimum-holds}
-use borrow.Author.Rules.{rules}
 use Rattle.unitstart.proofs.unit_start_in.Goals as goal
 
 pub returns-then-not-is_decimal : goal.returns-then-not-is_decimal

@@ -1,11 +1,8 @@
 -- `unitcard::exports::nurrispane_unit_fresh_in` meets its contract: each way is a law. Assumes nothing.
-use mathlib.Core.Path.{refl}
-use borrow.Author.Tests.{not-true, not-false}
 use Rattle.inplace.specs.Lists.{selector_at}
 use Rattle.onestep.specs.Watched.{watch_at}
 use Rattle.unitcard.specs.Lent.{lent_at}
 use Rattle.unitcard.proofs.UnitcardLaws.{start_neither, start_refused, start_fresh}
-use borrow.Author.Rules.{rules}
 use Rattle.unitcard.proofs.exports.nurrispane_unit_fresh_in.Goals as goal
 
 pub returns-then-not-names_option : goal.returns-then-not-names_option

@@ -1,11 +1,9 @@
 -- `unitcard::exports::nurrispane_unit_step_in` meets its contract: each way is a law. Assumes nothing.
 use mathlib.Core.Path.{refl}
-use Rattle.inplace.specs.Lists.{selector_at}
 use Rattle.onestep.specs.Watched.{watch_at}
 use Rattle.unitcard.specs.Lent.{lent_at}
 use Rattle.card.specs.Lent.{event_of}
 use Rattle.unitcard.proofs.UnitcardLaws.{step-neither, step-taken}
-use borrow.Author.Rules.{rules}
 use Rattle.unitcard.proofs.exports.nurrispane_unit_step_in.Goals as goal
 
 pub returns-then-half-gt-STATION : goal.returns-then-half-gt-STATION
