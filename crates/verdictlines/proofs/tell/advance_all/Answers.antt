@@ -23,7 +23,7 @@ loop-left-preserved c =
     let start = turn in (
       going-on-all _ _ _ _ _ _ _ turn.loop-left.invariant.0 turn.loop-left-test.true _ _
           pushed.push_all-next.ensures.0 pushed.push_all-next.ensures.1 _
-          (next-made _ _ turn.loop-left.from _ _ _ _ ticked.next_span-to.ensures.0 ticked.next_span-to.ensures.1 (c.time_at-from.ensures ticked.next_span-to.new.1.0 start.args.wider.now))
+          (next-made _ _ turn.loop-left.from _ _ _ _ ticked.next_span-to.ensures.0 ticked.next_span-to.ensures.1 (c.time_at-from.ensures ticked.next_span-to.new.small start.args.wider.now))
           short.if-until-to.false,
       stays_then _ _ _ turn.loop-left.invariant.1 pushed.push_all-next.ensures.2,
     )
