@@ -1,11 +1,7 @@
 -- `verdictlines::tell::advance` meets its contract: what is left of the spans leads to what all of them lead to.
 -- Assumes nothing.
-use Rattle.inplace.specs.Lists.{selector_at}
-use Rattle.verdictlines.specs.Stopped.{StaysStopped}
-use Rattle.verdictlines.specs.Told.{span_from, spans_since, spans_told}
 use Rattle.verdictlines.proofs.StoppedLaws.{stays_same, stays_then}
-use Rattle.verdictlines.proofs.ToldLaws.{Going, going_start, going-end-lane, going-end-room, going_on, next-made, going-laws}
-use borrow.Author.Rules.{rules}
+use Rattle.verdictlines.proofs.ToldLaws.{going_start, going-end-lane, going-end-room, going_on, next-made, going-laws}
 use Rattle.verdictlines.proofs.tell.advance.Goals as goal
 
 pub loop-left-init : goal.loop-left-init

@@ -1,11 +1,7 @@
 -- `verdictlines::tell::advance_all` meets its contract: what is left of the spans leads to what all of them lead to.
 -- Assumes nothing.
-use Rattle.inplace.specs.Lists.{selector_at}
-use Rattle.verdictlines.specs.Stopped.{StaysStopped}
-use Rattle.verdictlines.specs.Told.{span_from, spans_since, spans_told_all}
 use Rattle.verdictlines.proofs.StoppedLaws.{stays_same, stays_then, stopped-laws}
-use Rattle.verdictlines.proofs.ToldLaws.{GoingAll, going_start_all, going-on-all, next-made, going-all-laws}
-use borrow.Author.Rules.{rules}
+use Rattle.verdictlines.proofs.ToldLaws.{going_start_all, going-on-all, next-made, going-all-laws}
 use Rattle.verdictlines.proofs.tell.advance_all.Goals as goal
 
 pub loop-left-init : goal.loop-left-init
