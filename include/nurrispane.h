@@ -6,7 +6,7 @@
  * question whether a frame is to be sent. The functions with the usual names are below, `static inline`:
  * each hands the arrays to one of the library's, whose name has _in behind it. What each of these does with
  * any arrays, event, frame and buffer is proved of its code (crates/card, crates/sender); the library
- * itself is what `rt staticlib card` writes, libcard.a, and for Arm what `tools/card-for-arm`
+ * itself is what `tools/static-library card` writes, libcard.a, and for Arm what `tools/card-for-arm`
  * does. Words and numbers are those of documents 01 and 02. docs/FIRMWARE.md says what to do at a reboot,
  * when the time jumps, in an interrupt and with two cards. The station clock unit of document 02, L13, two
  * cards with one time, is in a library of its own: "The unit", below.
@@ -736,7 +736,7 @@ static inline void nurrispane_ask(struct nurrispane_senders *senders,
  *
  * The station clock unit: two selectors of one profile, one for the equipment clock and one for the
  * 2 Mbit/s station output, which squelches; crates/unit and crates/unitcard. Its four functions are
- * in libunitcard.a, what `rt staticlib unitcard` writes, and for Arm `tools/card-for-arm unitcard`; all
+ * in libunitcard.a, what `tools/static-library unitcard` writes, and for Arm `tools/card-for-arm unitcard`; all
  * others are in libcard.a: firmware with a unit links both, and neither has a name that the other has.
  * It needs no other functions than the card's.
  *

@@ -3,7 +3,6 @@
 use mathlib.Core.Path.{sym, ◌∙◌}
 use borrow.Author.Tests.{not-true}
 use Rattle.read_frames.proofs.Turns.{end-unread}
-use borrow.Author.Rules.{rules}
 use Rattle.read_frames.proofs.end_frames.Goals as goal
 
 pub returns-then-not-is_whole : goal.returns-then-not-is_whole

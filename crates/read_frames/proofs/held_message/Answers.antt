@@ -4,7 +4,6 @@ use mathlib.Core.Path.{sym, ◌∙◌}
 use native.Mathlib.Omega.{arith}
 use lib.Seq.{length-take-le}
 use Rattle.read_frames.proofs.Lines.{told-short, told_even, told-other, told-within, told-inside}
-use borrow.Author.Rules.{rules}
 use Rattle.read_frames.proofs.held_message.Goals as goal
 
 pub slice_bounds-message_line-end : goal.slice_bounds-message_line-end

@@ -5,7 +5,6 @@ use mathlib.Core.Path.{◌≡◌, sym, ◌∙◌}
 use borrow.Author.Tests.{not-true, not-false, eq-eqb, ne_eqb}
 use Rattle.digits.specs.Digits.{is_digit}
 use Rattle.read_frames.specs.Frames.{longest_frame_line, held_long_after}
-use borrow.Author.Rules.{rules}
 use Rattle.read_frames.proofs.hold_long.Goals as goal
 
 pub returns-then-not-is_digit : goal.returns-then-not-is_digit

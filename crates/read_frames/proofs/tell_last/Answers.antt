@@ -3,7 +3,6 @@
 use mathlib.Core.Path.{sym}
 use lib.Seq.{length-take-le}
 use Rattle.read_frames.proofs.Turns.{end_none, last-handed, last-turned}
-use borrow.Author.Rules.{rules}
 use Rattle.read_frames.proofs.tell_last.Goals as goal
 
 pub returns-then-buffered-eq0 : goal.returns-then-buffered-eq0
