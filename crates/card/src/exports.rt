@@ -1,6 +1,6 @@
 // What C calls, but for the senders: include/nurrispane.h. Pointers to arrays of numbers and numbers
 // alone, so that a call is the same to every C compiler; what is only read is lent by a pointer to
-// const.
+// const. C gets them by `card_c`: a library exports nothing by itself.
 ghost use Rattle.std.specs.Prelude.{◌≡◌};
 ghost use Rattle.selector.specs.Answer.{outgoing_codes, outgoing_words};
 ghost use Rattle.due.specs.Next.{next_due};

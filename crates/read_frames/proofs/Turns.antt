@@ -1,5 +1,5 @@
 -- One turn after another: what a chunk says stands behind what was taken before. Assumes nothing.
-use Prim.Native.Nat.{ℕ, ◌+◌, ◌*◌, ◌≤◌, ◌<◌}
+use Prim.Native.Nat.{ℕ, ◌≤◌}
 use mathlib.Core.Bool.{Bool, false}
 use mathlib.Core.List.{List, [], ◌++◌, append-nil, append_assoc}
 use mathlib.Core.Path.{◌≡◌, refl, sym, ap, subst, ◌∙◌}
@@ -16,11 +16,11 @@ use Rattle.calls.specs.declared.Ending.TheVariants.{Whole}
 use Rattle.calls.specs.declared.Ended.{Ended}
 use Rattle.calls.specs.declared.Outcome.{Outcome}
 use Rattle.calls.specs.Calls.{is_whole, read_ending, octets_moved, Delivered, TextTaken}
-use Rattle.calls.specs.Answered.{Begins, GoesOn, Answered}
+use Rattle.calls.specs.Answered.{Begins, Answered}
 use Rattle.calls.proofs.CallsLaws.{text-all}
 use Rattle.calls.proofs.Answered.{piece-within, piece-count, piece-none, turn-unread, turn-taken, turn_last, ended-right}
 use Rattle.read_frames.specs.declared.Told.{Told}
-use Rattle.read_frames.specs.Frames.{told_of, told_so_far, frames_told, longest_told, HoldsLine, ToldChunk}
+use Rattle.read_frames.specs.Frames.{told_of, told_so_far, frames_told, HoldsLine, ToldChunk}
 use Rattle.read_frames.specs.Turns.{FramesGoOn, FramesRoom, PieceRead, NextTold, LastTold, FramesTurned, FramesRight}
 use Rattle.read_frames.proofs.Lines.{holds-none, told_of-append, told_of-last, told_of-nothing, told_text_lem, held-empty, held-some}
 

@@ -1,6 +1,6 @@
 // What C calls for the unit: include/nurrispane.h. Pointers to arrays of numbers and numbers alone,
 // so that a call is the same to every C compiler. The first five arrays are the equipment's, the
-// next five the station's.
+// next five the station's. C gets them by `unitcard_c`: a library exports nothing by itself.
 ghost use Rattle.std.specs.Prelude.{◌≡◌};
 ghost use Rattle.card.specs.Lent.{header_version};
 ghost use Rattle.unitcard.specs.Lent.{unit_octets, lent_at, start_lent_unit, step_lent_unit};

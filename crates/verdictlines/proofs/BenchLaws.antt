@@ -23,7 +23,7 @@ use Rattle.lanes.specs.declared.View.{View}
 use Rattle.lanes.specs.Value.{answer_value, code_value}
 use Rattle.verdictlines.specs.declared.Question.{Question}
 use Rattle.verdictlines.specs.declared.Shows.{Shows}
-use Rattle.verdictlines.specs.Told.{AllTold, spans_since, spans_told_all}
+use Rattle.verdictlines.specs.Told.{spans_since, spans_told_all}
 use Rattle.verdictlines.specs.Carried.{fresh_bench}
 use Rattle.verdictlines.specs.Bench.{Bench, whole_told, shown_by, right_at, may_show, is_sound, closed_after, is_early, sets_sending, may_change_by, shows_after, happened_after, is_late, is_told}
 

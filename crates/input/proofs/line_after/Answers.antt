@@ -1,4 +1,4 @@
--- `input::line_after_lem` meets its contract: each way is a law.
+-- `input::line_after` meets its contract: each way is a law.
 -- Assumes nothing.
 use Rattle.input.proofs.RecordLaws.{lineAfter-laws}
 use Rattle.input.proofs.line_after.Goals as goal

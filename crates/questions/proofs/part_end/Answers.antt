@@ -1,4 +1,4 @@
--- `questions::part_end_lem` meets its contract. The invariant: from the place reached the part has the same end.
+-- `questions::part_end` meets its contract. The invariant: from the place reached the part has the same end.
 -- Assumes nothing.
 use mathlib.Core.Path.{refl, ◌∙◌}
 use native.Mathlib.Omega.{arith}

@@ -4,7 +4,6 @@ use mathlib.Core.Path.{refl}
 use native.Mathlib.Omega.{arith}
 use Rattle.replayer.proofs.Written.{put_same}
 use Rattle.read_frames.proofs.Lines.{told_text_lem, one-within}
-use borrow.Author.Rules.{rules}
 use Rattle.read_frames.proofs.take_one.Goals as goal
 
 pub put_message-requires : goal.put_message-requires

@@ -1,13 +1,8 @@
 -- `read_frames::tell_chunk` meets its contract: what was taken of the chunk is told.
 -- Assumes nothing.
-use Prim.Native.Nat.{ℕ, ◌*◌, ◌-◌, ◌≤◌}
-use mathlib.Core.List.{List}
-use mathlib.Core.Path.{◌≡◌, refl, sym, ◌∙◌}
+use mathlib.Core.Path.{refl, sym, ◌∙◌}
 use native.Mathlib.Omega.{arith}
-use lib.ListN.{length, take}
-use Rattle.read_frames.specs.Frames.{longest_told, longest_frame_line, HoldsLine, ToldChunk}
 use Rattle.read_frames.proofs.Lines.{told_start, told-next, told-all}
-use borrow.Author.Rules.{rules}
 use Rattle.read_frames.proofs.tell_chunk.Goals as goal
 
 pub loop-passed-init : goal.loop-passed-init

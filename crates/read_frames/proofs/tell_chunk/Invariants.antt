@@ -2,12 +2,9 @@
 -- Assumes nothing.
 use Prim.Native.Nat.{ℕ, ◌*◌, ◌-◌, ◌≤◌}
 use mathlib.Core.List.{List}
-use mathlib.Core.Path.{◌≡◌, refl, sym, ◌∙◌}
-use native.Mathlib.Omega.{arith}
+use mathlib.Core.Path.{◌≡◌}
 use lib.ListN.{length, take}
 use Rattle.read_frames.specs.Frames.{longest_told, longest_frame_line, HoldsLine, ToldChunk}
-use Rattle.read_frames.proofs.Lines.{told_start, told-next, told-all}
-use borrow.Author.Rules.{rules}
 use Rattle.read_frames.proofs.tell_chunk.Given as goal
 
 abbrev pub invariant-loop-passed : goal.invariant-loop-passed

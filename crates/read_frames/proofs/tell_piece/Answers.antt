@@ -3,7 +3,6 @@
 use mathlib.Core.Path.{sym}
 use lib.Seq.{length-take-le}
 use Rattle.read_frames.proofs.Turns.{chunk-handed, chunk-turned}
-use borrow.Author.Rules.{rules}
 use Rattle.read_frames.proofs.tell_piece.Goals as goal
 
 pub tell_chunk-told-requires : goal.tell_chunk-told-requires

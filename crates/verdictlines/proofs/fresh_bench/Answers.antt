@@ -2,7 +2,6 @@
 -- Assumes nothing.
 use Rattle.onestep.specs.Watched.{watch_at}
 use Rattle.verdictlines.proofs.BenchLaws.{fresh-made}
-use borrow.Author.Rules.{rules}
 use Rattle.verdictlines.proofs.fresh_bench.Goals as goal
 
 pub returns : goal.returns

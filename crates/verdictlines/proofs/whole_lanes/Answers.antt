@@ -4,7 +4,6 @@ use mathlib.Core.Path.{◌∙◌, ap}
 use Rattle.onestep.specs.Watched.{watch_at}
 use Rattle.verdictlines.specs.Told.{lanes_of, places_of}
 use Rattle.verdictlines.proofs.BenchLaws.{whole-made}
-use borrow.Author.Rules.{rules}
 use Rattle.verdictlines.proofs.whole_lanes.Goals as goal
 
 pub returns : goal.returns

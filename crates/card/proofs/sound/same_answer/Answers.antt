@@ -1,4 +1,4 @@
--- `card::sound::same_answer_lem` meets its contract. Assumes nothing.
+-- `card::sound::same_answer` meets its contract. Assumes nothing.
 use Rattle.card.specs.Sound.{same_answer}
 use borrow.Author.Rules.{rules}
 use Rattle.card.proofs.sound.same_answer.Goals as goal

@@ -1,6 +1,5 @@
 -- `verdictlines::bench::border_of` meets its contract: it is the sum.
 -- Assumes nothing.
-use borrow.Author.Rules.{rules}
 use Rattle.verdictlines.proofs.bench.border_of.Goals as goal
 
 pub returns : goal.returns

@@ -1,7 +1,6 @@
 -- `verdictlines::bench::is_late` meets its contract: each way is a law.
 -- Assumes nothing.
 use Rattle.verdictlines.proofs.BenchLaws.{bench-laws}
-use borrow.Author.Rules.{rules}
 use Rattle.verdictlines.proofs.bench.is_late.Goals as goal
 
 pub returns-then-is_early : goal.returns-then-is_early

@@ -1,7 +1,6 @@
 -- `verdictlines::bench::is_sound` meets its contract: each way is a law.
 -- Assumes nothing.
 use Rattle.verdictlines.proofs.BenchLaws.{bench-laws}
-use borrow.Author.Rules.{rules}
 use Rattle.verdictlines.proofs.bench.is_sound.Goals as goal
 
 pub returns-then-option-eq-NO_OPTION : goal.returns-then-option-eq-NO_OPTION

@@ -1,7 +1,6 @@
 -- `verdictlines::bench::may_show` meets its contract: each way is a law.
 -- Assumes nothing.
 use Rattle.verdictlines.proofs.BenchLaws.{bench-laws}
-use borrow.Author.Rules.{rules}
 use Rattle.verdictlines.proofs.bench.may_show.Goals as goal
 
 pub returns-then-lane-time : goal.returns-then-lane-time

@@ -1,7 +1,6 @@
 -- `verdictlines::bench::right_at` meets its contract: each way is a law.
 -- Assumes nothing.
 use Rattle.verdictlines.proofs.BenchLaws.{bench-laws}
-use borrow.Author.Rules.{rules}
 use Rattle.verdictlines.proofs.bench.right_at.Goals as goal
 
 pub returns-then-number-lt16 : goal.returns-then-number-lt16

@@ -1,7 +1,6 @@
 -- `verdictlines::bench::sets_sending` meets its contract: each way is a law.
 -- Assumes nothing.
 use Rattle.verdictlines.proofs.BenchLaws.{bench-laws}
-use borrow.Author.Rules.{rules}
 use Rattle.verdictlines.proofs.bench.sets_sending.Goals as goal
 
 pub returns-in_default : goal.returns-in_default

@@ -1,7 +1,6 @@
 -- `verdictlines::bench::shown_by` meets its contract: each way is a law.
 -- Assumes nothing.
 use Rattle.verdictlines.proofs.BenchLaws.{bench-laws}
-use borrow.Author.Rules.{rules}
 use Rattle.verdictlines.proofs.bench.shown_by.Goals as goal
 
 pub returns : goal.returns

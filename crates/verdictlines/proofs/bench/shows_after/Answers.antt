@@ -1,7 +1,6 @@
 -- `verdictlines::bench::shows_after` meets its contract: each way is a law.
 -- Assumes nothing.
 use Rattle.verdictlines.proofs.BenchLaws.{bench-laws}
-use borrow.Author.Rules.{rules}
 use Rattle.verdictlines.proofs.bench.shows_after.Goals as goal
 
 pub returns-then-changes : goal.returns-then-changes

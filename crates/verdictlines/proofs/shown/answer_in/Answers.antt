@@ -1,7 +1,6 @@
 -- `verdictlines::shown::answer_in` meets its contract: five octets behind the time.
 -- Assumes nothing.
 use Rattle.verdictlines.proofs.ShownLaws.{shown-laws}
-use borrow.Author.Rules.{rules}
 use Rattle.verdictlines.proofs.shown.answer_in.Goals as goal
 
 pub returns : goal.returns

@@ -1,7 +1,6 @@
 -- `verdictlines::shown::read_shown` meets its contract: each way is a law.
 -- Assumes nothing.
 use Rattle.verdictlines.proofs.ShownLaws.{shown-laws}
-use borrow.Author.Rules.{rules}
 use Rattle.verdictlines.proofs.shown.read_shown.Goals as goal
 
 pub returns-then-view : goal.returns-then-view

@@ -1,7 +1,6 @@
 -- `verdictlines::shown::time_in` meets its contract: six octets, high first.
 -- Assumes nothing.
 use Rattle.verdictlines.proofs.ShownLaws.{shown-laws}
-use borrow.Author.Rules.{rules}
 use Rattle.verdictlines.proofs.shown.time_in.Goals as goal
 
 pub returns : goal.returns

@@ -4,7 +4,6 @@ use mathlib.Core.Path.{sym}
 use native.Mathlib.Omega.{arith}
 use lib.Seq.{length-take-le}
 use Rattle.verdictlines.proofs.StoppedLaws.{stays_same, stays-marked}
-use borrow.Author.Rules.{rules}
 use Rattle.verdictlines.proofs.stretch.send.Goals as goal
 
 pub returns-then-stopped-ne-GOING : goal.returns-then-stopped-ne-GOING

@@ -1,11 +1,7 @@
 -- `verdictlines::tell::advance` meets its contract: what is left of the spans leads to what all of them lead to.
 -- Assumes nothing.
-use Rattle.inplace.specs.Lists.{selector_at}
-use Rattle.verdictlines.specs.Stopped.{StaysStopped}
-use Rattle.verdictlines.specs.Told.{span_from, spans_since, spans_told}
 use Rattle.verdictlines.proofs.StoppedLaws.{stays_same, stays_then}
-use Rattle.verdictlines.proofs.ToldLaws.{Going, going_start, going-end-lane, going-end-room, going_on, next-made, going-laws}
-use borrow.Author.Rules.{rules}
+use Rattle.verdictlines.proofs.ToldLaws.{going_start, going-end-lane, going-end-room, going_on, next-made, going-laws}
 use Rattle.verdictlines.proofs.tell.advance.Goals as goal
 
 pub loop-left-init : goal.loop-left-init
@@ -16,9 +12,9 @@ returns-then-until-to c =
     let pushed = c in
     let value = pushed in
     let turn = value in (
-      going-end-lane _ _ _ _ _ _ _ _ turn.loop-left.invariant.0 _ value.value_of_lem.ensures turn.loop-left-test.true _ _
+      going-end-lane _ _ _ _ _ _ _ _ turn.loop-left.invariant.0 _ value.value_of-value.ensures turn.loop-left-test.true _ _
           pushed.push-lane.ensures.0 pushed.push-lane.ensures.1 c.if-until-to.true,
-      going-end-room _ _ _ _ _ _ _ _ turn.loop-left.invariant.0 _ value.value_of_lem.ensures turn.loop-left-test.true _ _
+      going-end-room _ _ _ _ _ _ _ _ turn.loop-left.invariant.0 _ value.value_of-value.ensures turn.loop-left-test.true _ _
           pushed.push-lane.ensures.0 pushed.push-lane.ensures.1 c.if-until-to.true,
       stays_then _ _ _ turn.loop-left.invariant.1 pushed.push-lane.ensures.2,
     )
@@ -31,9 +27,9 @@ loop-left-preserved c =
     let value = pushed in
     let turn = value in
     let start = turn in (
-      going_on _ _ _ _ _ _ _ _ turn.loop-left.invariant.0 _ value.value_of_lem.ensures turn.loop-left-test.true _ _
+      going_on _ _ _ _ _ _ _ _ turn.loop-left.invariant.0 _ value.value_of-value.ensures turn.loop-left-test.true _ _
           pushed.push-lane.ensures.0 pushed.push-lane.ensures.1 _
-          (next-made _ _ turn.loop-left.from _ _ _ _ ticked.next_span-to.ensures.0 ticked.next_span-to.ensures.1 (c.time_at-from.ensures ticked.next_span-to.new.1.0 start.args.wider.now))
+          (next-made _ _ turn.loop-left.from _ _ _ _ ticked.next_span-to.ensures.0 ticked.next_span-to.ensures.1 (c.time_at-from.ensures ticked.next_span-to.new.small start.args.wider.now))
           short.if-until-to.false,
       stays_then _ _ _ turn.loop-left.invariant.1 pushed.push-lane.ensures.2,
     )

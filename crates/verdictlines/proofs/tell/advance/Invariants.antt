@@ -3,9 +3,7 @@
 use Rattle.inplace.specs.Lists.{selector_at}
 use Rattle.verdictlines.specs.Stopped.{StaysStopped}
 use Rattle.verdictlines.specs.Told.{span_from, spans_since, spans_told}
-use Rattle.verdictlines.proofs.StoppedLaws.{stays_same, stays_then}
-use Rattle.verdictlines.proofs.ToldLaws.{Going, going_start, going-end-lane, going-end-room, going_on, next-made, going-laws}
-use borrow.Author.Rules.{rules}
+use Rattle.verdictlines.proofs.ToldLaws.{Going}
 use Rattle.verdictlines.proofs.tell.advance.Given as goal
 
 abbrev pub invariant-loop-left : goal.invariant-loop-left

@@ -1,11 +1,7 @@
 -- `verdictlines::tell::advance_all` meets its contract: what is left of the spans leads to what all of them lead to.
 -- Assumes nothing.
-use Rattle.inplace.specs.Lists.{selector_at}
-use Rattle.verdictlines.specs.Stopped.{StaysStopped}
-use Rattle.verdictlines.specs.Told.{span_from, spans_since, spans_told_all}
 use Rattle.verdictlines.proofs.StoppedLaws.{stays_same, stays_then, stopped-laws}
-use Rattle.verdictlines.proofs.ToldLaws.{GoingAll, going_start_all, going-on-all, next-made, going-all-laws}
-use borrow.Author.Rules.{rules}
+use Rattle.verdictlines.proofs.ToldLaws.{going_start_all, going-on-all, next-made, going-all-laws}
 use Rattle.verdictlines.proofs.tell.advance_all.Goals as goal
 
 pub loop-left-init : goal.loop-left-init
@@ -23,7 +19,7 @@ loop-left-preserved c =
     let start = turn in (
       going-on-all _ _ _ _ _ _ _ turn.loop-left.invariant.0 turn.loop-left-test.true _ _
           pushed.push_all-next.ensures.0 pushed.push_all-next.ensures.1 _
-          (next-made _ _ turn.loop-left.from _ _ _ _ ticked.next_span-to.ensures.0 ticked.next_span-to.ensures.1 (c.time_at-from.ensures ticked.next_span-to.new.1.0 start.args.wider.now))
+          (next-made _ _ turn.loop-left.from _ _ _ _ ticked.next_span-to.ensures.0 ticked.next_span-to.ensures.1 (c.time_at-from.ensures ticked.next_span-to.new.small start.args.wider.now))
           short.if-until-to.false,
       stays_then _ _ _ turn.loop-left.invariant.1 pushed.push_all-next.ensures.2,
     )

@@ -3,9 +3,7 @@
 use Rattle.inplace.specs.Lists.{selector_at}
 use Rattle.verdictlines.specs.Stopped.{StaysStopped}
 use Rattle.verdictlines.specs.Told.{span_from, spans_since, spans_told_all}
-use Rattle.verdictlines.proofs.StoppedLaws.{stays_same, stays_then, stopped-laws}
-use Rattle.verdictlines.proofs.ToldLaws.{GoingAll, going_start_all, going-on-all, next-made, going-all-laws}
-use borrow.Author.Rules.{rules}
+use Rattle.verdictlines.proofs.ToldLaws.{GoingAll}
 use Rattle.verdictlines.proofs.tell.advance_all.Given as goal
 
 abbrev pub invariant-loop-left : goal.invariant-loop-left

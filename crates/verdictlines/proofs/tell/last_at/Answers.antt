@@ -1,7 +1,6 @@
 -- `verdictlines::tell::last_at` meets its contract: each way is a law.
 -- Assumes nothing.
 use Rattle.verdictlines.proofs.ToldLaws.{told-laws}
-use borrow.Author.Rules.{rules}
 use Rattle.verdictlines.proofs.tell.last_at.Goals as goal
 
 pub returns-then-index-lt-ROOM : goal.returns-then-index-lt-ROOM

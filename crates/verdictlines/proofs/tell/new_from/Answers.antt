@@ -1,7 +1,6 @@
 -- `verdictlines::tell::new_from` meets its contract: each way is a law.
 -- Assumes nothing.
 use Rattle.verdictlines.proofs.ToldLaws.{told-laws}
-use borrow.Author.Rules.{rules}
 use Rattle.verdictlines.proofs.tell.new_from.Goals as goal
 
 pub returns-then-lane-eq0 : goal.returns-then-lane-eq0

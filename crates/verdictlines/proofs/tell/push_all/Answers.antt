@@ -1,7 +1,6 @@
 -- `verdictlines::tell::push_all` meets its contract: each way is a law.
 -- Assumes nothing.
 use Rattle.verdictlines.proofs.ToldLaws.{span-laws}
-use borrow.Author.Rules.{rules}
 use Rattle.verdictlines.proofs.tell.push_all.Goals as goal
 
 pub returns-then-view : goal.returns-then-view

@@ -1,12 +1,9 @@
 -- `verdictlines::tell::push_codes` meets its contract: what is left of the ports leads to what all of them lead to.
 -- Assumes nothing.
 use Prim.Native.Nat.{◌-◌, ◌≤◌}
-use mathlib.Core.Path.{refl}
 use Rattle.verdictlines.specs.Stopped.{StaysStopped}
 use Rattle.verdictlines.specs.Told.{ports_told}
-use Rattle.verdictlines.proofs.StoppedLaws.{stays_same, stopped-laws}
-use Rattle.verdictlines.proofs.ToldLaws.{Ports, ports-laws}
-use borrow.Author.Rules.{rules}
+use Rattle.verdictlines.proofs.ToldLaws.{Ports}
 use Rattle.verdictlines.proofs.tell.push_codes.Given as goal
 
 abbrev pub invariant-loop-number : goal.invariant-loop-number

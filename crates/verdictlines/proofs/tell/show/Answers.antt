@@ -1,7 +1,6 @@
 -- `verdictlines::tell::show` meets its contract: each way is a law.
 -- Assumes nothing.
 use Rattle.verdictlines.proofs.ToldLaws.{told-laws}
-use borrow.Author.Rules.{rules}
 use Rattle.verdictlines.proofs.tell.show.Goals as goal
 
 pub returns : goal.returns

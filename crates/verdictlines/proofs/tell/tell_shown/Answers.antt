@@ -2,7 +2,6 @@
 -- Assumes nothing.
 use Rattle.verdictlines.proofs.StoppedLaws.{stopped-laws}
 use Rattle.verdictlines.proofs.ToldLaws.{shown-told-laws}
-use borrow.Author.Rules.{rules}
 use Rattle.verdictlines.proofs.tell.tell_shown.Goals as goal
 
 pub returns-then-border-due : goal.returns-then-border-due
