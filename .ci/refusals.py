@@ -1,4 +1,4 @@
-"""Why the prover refuses an edit, by its first error: a fact that no longer holds, or the edit's own shape, which shows nothing of the
+"""Why the prover refuses an edit, by its first error that tells: a fact that no longer holds, or the edit's own shape, which shows nothing of the
 sentence that it is to break. The one home of these patterns: the gate's (.ci/more/refusals), which has the beginning of that error as `rt ci`
 prints it, and those of tests/edits/try-wrong-answers and tests/edits/try-further-edits, which have all that a check says."""
 import glob
@@ -55,12 +55,25 @@ def kind_told(edit, crate, words):
     return kind_of(edit, crate, words.removeprefix(f"{REFUSED}: "))
 
 
-def first_error(said):
-    """The place of a log's first error, from its crate's folder on, and what it says; nothing where there is none."""
-    error = re.search(r"^(?:note: )?(\S+?:\d+:\d+): (?:error: |(?=it is not proved))(.*)$", said, re.M)
-    if not error:
-        return None
-    return re.sub(r"^\S*?(?=(?:src|specs|proofs)/)", "", error.group(1)), error.group(2)
+def errors_of(said):
+    """The place of each error of a log, from its crate's folder on, and what it says."""
+    found = re.findall(r"^(?:note: )?(\S+?:\d+:\d+): (?:error: |(?=it is not proved))(.*)$", said, re.M)
+    return [(re.sub(r"^\S*?(?=(?:src|specs|proofs)/)", "", place), words) for place, words in found]
+
+
+def is_lost_name(place, words):
+    """Whether a proof file names what an edit took away, as a goal of a branch that is no more: of itself that says nothing, and rt too looks on."""
+    return place.startswith("proofs/") and bool(re.search(SHAPES[0][1], without_name(words)))
+
+
+def telling(errors):
+    """The first of some errors that is not of a lost name, or the first of all; nothing where there is none."""
+    return next((error for error in errors if not is_lost_name(*error)), errors[0] if errors else None)
+
+
+def without_name(words):
+    """What an error says, without the declaration that it is of."""
+    return re.sub(r"^(?:`[^`]*`: )", "", words)
 
 
 def rest_of_error(said, words):
@@ -71,7 +84,7 @@ def rest_of_error(said, words):
 
 def is_shape(said):
     """Whether an error is of an edit's shape."""
-    return any(re.search(pattern, said) for _, pattern in SHAPES)
+    return any(re.search(pattern, without_name(said)) for _, pattern in SHAPES)
 
 
 def touches(edit, crate, place):
@@ -88,13 +101,12 @@ def touches(edit, crate, place):
 
 def kind_of(edit, crate, said):
     """The kind of the refusal in a log, whether it is a fact, and where it stands."""
-    error = first_error(said)
+    error = telling(errors_of(said))
     if error is None:
         return "no error", False, "?"
     place, words = error
-    bare = re.sub(r"^(?:`[^`]*`: )", "", words)
     for kind, pattern in SHAPES:
-        if re.search(pattern, bare):
+        if re.search(pattern, without_name(words)):
             return kind, False, place
     if re.match(BOUNDS, words) and not touches(edit, crate, place):
         return BOUND, False, place

@@ -1,7 +1,7 @@
-"""Edits tried: a crate copied into a room of its own, beside links to all that it rests on, the edits made there, and the crate checked by
-`rt dev`, over what is proved of it as it stands: the checked modules that `rt check` left in its rlib, or, of a program, which has none,
-what the room's first check left. So an edit costs what it changes, and not its whole crate; the prover says the same of it, whatever was
-tried before it. Nothing is written to the repository's crates, nor to what is proved of them.
+"""Edits tried: a crate copied into a room of its own, beside copies of all that it rests on, the edits made there, and the crate checked by
+`rt check`, over what is proved of it as it stands: what the room's first check left, which begins with what checks in this checkout kept. So an
+edit costs what it changes, and not its whole crate; the prover says the same of it, whatever was tried before it. Nothing is written to the
+repository's crates, nor to what is proved of them.
 
 A function is judged against its own contract, and by no more than the contracts of those that it calls. So edits of the bodies of different
 functions are tried in one check, each told by what is said of its own function. An edit of anything else, a promise, a definition or a
@@ -13,12 +13,12 @@ import shutil
 import subprocess
 import tempfile
 
-from documents import CRATES, changes, read
+from documents import changes, read
 
 PARTS = ("src", "specs", "proofs")
 ERROR = re.compile(r"^(?:note: )?(\S+?:\d+:\d+): (?:error: |(?=it is not proved))")
 # what is said of a declaration that rests on one that was refused: of itself it shows nothing
-LEFT_OPEN = re.compile(r"was not admitted")
+LEFT_OPEN = re.compile(r"was not admitted|was rejected")
 
 
 def write(path, text):
@@ -32,7 +32,8 @@ class Function:
     def __init__(self, at, text, owner, head):
         indent, name = head.group("indent"), head.group("name")
         self.at, self.text = at, text
-        self.start, self.body = head.start(), head.start() + re.search(r"\{$", text[head.start():], re.M).end()
+        # (a clause begins behind its brace, on the same line)
+        self.start, self.body = head.start(), head.start() + re.search(r"^[^\n]*\{$", text[head.start():], re.M).end()
         self.end = text.index(f"\n{indent}}}", self.body)
         module = [part for part in at.removesuffix(".rt").split("/")[1:] if part not in ("lib", "main", "mod")]
         self.path = [*module, *owner, name]
@@ -43,16 +44,16 @@ class Function:
 
     def is_own(self, place):
         """Whether a place stands in the function or in its proof."""
-        path, line, _ = place.rsplit(":", 2)
+        path, line, _ = place.removeprefix("./").rsplit(":", 2)
         first, last = (self.text[:end].count("\n") + 1 for end in (self.start, self.end))
-        return path == "/".join(["proofs", *self.path, "Proof.antt"]) or (path == self.at and first <= int(line) <= last + 1)
+        return os.path.dirname(path) == "/".join(["proofs", *self.path]) or (path == self.at and first <= int(line) <= last + 1)
 
 
 def functions_of(crate):
     """The functions of a crate, methods too."""
     for path in sorted(glob.glob(f"crates/{crate}/src/**/*.rt", recursive=True)):
         text, owner = read(path), []
-        for found in re.finditer(r'^(?:impl (?P<type>\w+)|\}|(?P<indent> *)(?:pub )?(?:extern "C" )?fn (?P<name>\w+))', text, re.M):
+        for found in re.finditer(r'^(?:impl(?:<[^>]*>)? (?:\w+ for )?(?P<type>\w+)|\}|(?P<indent> *)(?:pub(?:\(\w+\))? )?(?:extern "C" )?fn (?P<name>\w+))', text, re.M):
             if found.group("name"):
                 yield Function(os.path.relpath(path, f"crates/{crate}"), text, owner, found)
             else:
@@ -87,29 +88,43 @@ def of_function(said, function):
     return "\n".join(kept) + "\n" if shown else None
 
 
+def below(crate):
+    """The crates of the repository that a crate rests on, by crates.txt, and the crate itself."""
+    lists = {name: words.split() for name, words in re.findall(r"^(\w+)(?: staticlib)?:([^#\n]*)", read("crates.txt"), re.M)}
+    found, todo = [], [crate]
+    while todo:
+        name = todo.pop()
+        if name in lists and name not in found:
+            found.append(name)
+            todo += lists[name]
+    return found
+
+
+def prove(crates):
+    """Proves crates as they stand here, so that what is proved of them and below them is there for the rooms. What was said where that fails."""
+    for crate in crates:
+        done = subprocess.run(["rt", "check"], cwd=f"crates/{crate}", stdin=subprocess.DEVNULL, capture_output=True, text=True, errors="replace")
+        if not is_proved(done.stdout + done.stderr, done.returncode):
+            return f"{crate} is not proved:\n{(done.stdout + done.stderr)[-2000:]}"
+    return None
+
+
 class Room:
-    """A repository of its own with a copy of one crate, and with links to the others and to what is proved of them."""
+    """A repository of its own with copies of one crate and of those that it rests on."""
 
     def __init__(self, crate):
         self.crate, self.root = crate, tempfile.mkdtemp()
         self.folder = f"{self.root}/crates/{crate}"
-        os.makedirs(self.folder)
-        # What it rests on is proved: rt is to look at none of it again, at each edit.
-        write(f"{self.root}/crates.txt", re.search(rf"^{crate}:.*\n", read("crates.txt"), re.M).group())
-        for part in PARTS:
-            if os.path.isdir(f"crates/{crate}/{part}"):
-                shutil.copytree(f"crates/{crate}/{part}", f"{self.folder}/{part}")
-        for other in CRATES:
-            if other != crate:
-                os.symlink(os.path.abspath(f"crates/{other}"), f"{self.root}/crates/{other}")
-        os.mkdir(f"{self.root}/target")
-        os.symlink(os.path.abspath("target/rlib"), f"{self.root}/target/rlib")
-        self.kept, self.proved, rlib = f"{self.root}/target/inc/{crate}", None, f"target/rlib/{crate}.rlib"
-        if os.path.isdir(f"{rlib}/toolchain/checked"):
-            # The prover's own name for the folder: the build that wrote it. Under another name it takes nothing from there.
-            build = re.search(r"^rattle-build (.*)$", read(f"{rlib}/format"), re.M).group(1).replace("/", "_")
-            self.proved = f"{self.root}/proved"
-            shutil.copytree(f"{rlib}/toolchain/checked", f"{self.proved}/{build}")
+        for name in below(crate):
+            for part in PARTS:
+                if os.path.isdir(f"crates/{name}/{part}"):
+                    shutil.copytree(f"crates/{name}/{part}", f"{self.root}/crates/{name}/{part}")
+        write(f"{self.root}/crates.txt", "".join(re.search(rf"^{name}(?: staticlib)?:.*\n", read("crates.txt"), re.M).group() for name in below(crate)))
+        if os.path.exists("HANDLES"):
+            shutil.copy("HANDLES", self.root)
+        # (it is the top of a repository)
+        os.mkdir(f"{self.root}/.git")
+        self.kept, self.proved = f"{self.folder}/out/incremental", None
 
     def __enter__(self):
         return self
@@ -119,14 +134,15 @@ class Room:
 
     def check(self):
         """Checks the crate as it stands; what is said, with places from the crate's folder on, and the exit status."""
-        shutil.rmtree(self.kept, ignore_errors=True)
         if self.proved:
-            shutil.copytree(self.proved, self.kept)
-        done = subprocess.run(["rt", "dev", self.crate], cwd=self.root, capture_output=True, text=True, errors="replace")
-        if not self.proved and done.returncode == 0:
+            shutil.rmtree(self.kept, ignore_errors=True)
+            shutil.copytree(self.proved, self.kept, symlinks=True)
+        done = subprocess.run(["rt", "check", "--jobs", "1"], cwd=self.folder, stdin=subprocess.DEVNULL, capture_output=True, text=True, errors="replace")
+        if not self.proved and done.returncode == 0 and os.path.isdir(self.kept):
             self.proved = f"{self.root}/proved"
             os.rename(self.kept, self.proved)
-        return (done.stdout + done.stderr).replace(f"{self.folder}/", ""), done.returncode
+        said = done.stdout + done.stderr
+        return re.sub(r"^((?:note: )?)\./", r"\1", said.replace(f"{self.folder}/", ""), flags=re.M), done.returncode
 
     def tried(self, pairs):
         """Checks the crate with some changes made, and takes them back; or says which of them can't be made."""
@@ -172,10 +188,9 @@ def try_together(room, paths):
 
 
 def try_edits(crate, paths):
-    """Tries edits of a crate. Of each its path, what was said and the exit status; of a program first the crate as it stands, with no path."""
+    """Tries edits of a crate. First of the crate as it stands, with no path, then of each its path, what was said and the exit status."""
     with Room(crate) as room:
-        if not room.proved:
-            yield None, *room.check()
+        yield None, *room.check()
         shown = set()
         for path, said, status in try_together(room, paths):
             shown.add(path)

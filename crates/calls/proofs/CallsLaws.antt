@@ -199,6 +199,11 @@ text-part {before = before} {after = after} {ending = ending} from less taken en
     let none : after ≡ before = part_none taken ends in
     part ending after (omega arith) (omega arith) (part-unsent taken ends)
 
+pub text-within : {size before after : ℕ} {ending : Ending} → TextTaken size before ending after
+    → (before ≤ after) × (after ≤ before + size)
+text-within all = (omega arith, omega arith)
+text-within (part ending after from less unsent) = (from, omega arith)
+
 -- all of it was taken where the ending says so
 pub text-whole : {size before after : ℕ} {ending : Ending} → TextTaken size before ending after
     → is_whole ending ≡ true

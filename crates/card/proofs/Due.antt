@@ -7,7 +7,7 @@ use native.Mathlib.Omega.{arith}
 use lib.Dec.{leb}
 use lib.ListN.{length, set}
 use lib.Seq.{get_or-set_same}
-use borrow.Author.Tests.{lt-ltb, leb-false}
+use borrow.Author.Tests.{le-leb, lt-ltb, leb-false}
 use Rattle.numbers.specs.declared.Event.{Event}
 use Rattle.numbers.specs.Refusal.{accepted}
 use Rattle.numbers.proofs.Truth.{by_bool, or_first, or_second}
@@ -29,6 +29,11 @@ use Rattle.quickstep.proofs.SameAsPlain.{Kept, own-here, own-early, put_back, ta
 -- such a time of a state at an event: made anew once it has come
 abbrev pub anew : Selector → ℕ → ℕ → ℕ
 anew state due time = due_anew state.inputs state.mode state.time due time
+
+-- one before which nothing is due stays
+pub due_after-kept : (due time : ℕ) (state : Selector) → time < due → due ≤ next_due state → due_after due time state ≡ due
+unfolding due_after lesser
+due_after-kept due time state before kept = rw (lt-ltb _ _ before, le-leb _ _ kept)
 
 -- what is next due of a state is due of an input that was put into it no earlier
 put-least : (state : Selector) (index time : ℕ) (input : Input) → index < length state.inputs → index < 16

@@ -294,3 +294,37 @@ module _ (eligible : ℕ → Bool) (better : ℕ → ℕ → Bool) where
   pub choose-inside : (before : Selection) → Inside (choose eligible better before)
   unfolding choose
   choose-inside before = scanned-inside input_count (seeded eligible before) (omega arith) (seeded-inside before)
+
+module _ (eligible eligible' : ℕ → Bool) (better better' : ℕ → ℕ → Bool)
+    (same_eligible : (number : ℕ) → number < input_count → eligible number ≡ eligible' number)
+    (same_better : (number other : ℕ) → number < input_count → other < input_count
+    → better number other ≡ better' number other) where
+  offered-alike : (number : ℕ) (leader : Selection) → number < input_count → Inside leader
+      → offered eligible better number leader ≡ offered eligible' better' number leader
+  unfolding offered
+  offered-alike n Nothing h i = rw (same_eligible n h)
+  offered-alike n (At leading) h i = rw (same_eligible n h, same_better n leading.0 h i)
+
+  scanned-alike : (count : ℕ) (leader : Selection) → count ≤ input_count → Inside leader
+      → scanned eligible better count leader ≡ scanned eligible' better' count leader
+  unfolding scanned
+  scanned-alike zero leader h i = refl
+  scanned-alike (suc n) leader h i =
+      offered-alike n (scanned eligible better n leader) (omega arith)
+      (scanned-inside eligible better n leader (omega arith) i)
+      ∙ ap (offered eligible' better' n) (scanned-alike n leader (omega arith) i)
+
+  seeded-alike : (before : Selection) → seeded eligible before ≡ seeded eligible' before
+  unfolding seeded
+  seeded-alike Nothing = refl
+  seeded-alike (At earlier) =
+      by_bool (ltb earlier.0 input_count)
+      (λ x. rw (same_eligible earlier.0 (ltb-true earlier.0 input_count x)))
+      (λ x. rw x)
+
+  -- the choice looks only at inputs 0 to 15
+  pub choose-alike : (before : Selection) → choose eligible better before ≡ choose eligible' better' before
+  unfolding choose
+  choose-alike before =
+      scanned-alike input_count (seeded eligible before) (omega arith) (seeded-inside eligible better before)
+      ∙ ap (scanned eligible' better' input_count) (seeded-alike before)

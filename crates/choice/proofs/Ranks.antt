@@ -285,3 +285,8 @@ module _ (candidates : List Candidate) (rank : Rank) where
     where
       at : Candidate
       at = get_or candidates number nobody
+
+  -- "an eligible input has lower passed quality (mode on)"
+  pub lower-exact :
+      (any_lower candidates rank ≡ true) ↔ ((number : ℕ) × (number < input_count) × Lower candidates rank number)
+  lower-exact = (lower-found, λ n. lower-some n.0 n.1 n.2)

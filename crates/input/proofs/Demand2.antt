@@ -122,6 +122,10 @@ passed-now input history ordered =
 
 -- ---- an event that the input does not hear
 
+forecast_with_run : (input : Input) (run : Run) (mode : Bool) → forecast (with_run input run) mode ≡ forecast input mode
+unfolding forecast
+forecast_with_run input run mode = refl
+
 -- the record brought to a time, and then one moment more there
 input_at_moment-input_brought_to : (input : ℕ) (history : History) (time : ℕ) → Ordered history → time_of history ≤ time
     → input_at_moment (input_brought_to (record_after input history) time (mode_on history)) time (mode_on history) false ≡

@@ -8,7 +8,7 @@ use Rattle.numbers.specs.declared.kind.InputKind.{InputKind}
 use Rattle.numbers.specs.declared.kind.InputKind.TheVariants as N
 use Rattle.numbers.specs.Quality.{not_told, failed}
 use Rattle.numbers.specs.Inputs.{reports_needed}
-use Rattle.numbers.specs.Kind.{flag, kind_argument, input_kind_of, takes_frames, kind_signal, kind_frame, kind_line_code, kind_lockout, kind_sending, kind_input_kind}
+use Rattle.numbers.specs.Kind.{flag, kind_argument, input_kind_of, takes_frames, kind_signal, kind_frame, kind_line_code, kind_lockout, kind_sending, kind_input_kind, kind_word}
 use Rattle.numbers.proofs.Truth.{by_bool}
 use Rattle.input.specs.declared.Heard.{Heard}
 use Rattle.input.specs.declared.Settings.{Settings}
@@ -152,6 +152,12 @@ module _ (heard : Heard) (number : ℕ) (said : Quality) where
   pub heard_after-counted_unheard : heard.signal ≡ false → heard ≡ heard_after heard kind_line_code number said 0
   unfolding heard_after
   heard_after-counted_unheard g = rw g
+
+  -- a word counts as a code does
+  pub heard_after-word : (time : ℕ)
+      → heard_after heard kind_word number said time ≡ heard_after heard kind_line_code number said time
+  unfolding heard_after
+  heard_after-word time = refl
 
 pub ruleset heardAfter-counted-laws = (heard_after-counted, heard_after-counted_unheard)
 

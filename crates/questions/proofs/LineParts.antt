@@ -142,6 +142,9 @@ module _ (line : List ℕ) (start : ℕ) (inside : start ≤ length line) where
     pub part-within : end ≤ length line
     part-within = omega (arith, part_end_le line start inside)
 
+    pub part-after : start ≤ end
+    part-after = omega arith
+
     pub next_fits : end + 1 ≤ length line
     next_fits = omega (arith, part_end_le line start inside)
 

@@ -7,7 +7,7 @@ use native.Mathlib.Nat.{le-div_iff_mul-le, div-mul-le_self}
 use native.Mathlib.Numerals.{add-one}
 use native.Mathlib.Omega.{arith}
 use lib.Dec.{eqb, leb, ltb}
-use lib.ListN.{length, get_or, set, take, drop, replicate, length-append}
+use lib.ListN.{length, get_or, set, take, drop, replicate, length-append, length-replicate}
 use lib.Seq.{set_at, take-suc, length-take-le, take_all, take-length, append_snoc}
 use borrow.Author.Tests.{lt-ltb, le-ltb, ltb-true, leb-true, eqb-true}
 use Rattle.digits.specs.Digits.{all_digits, digit_value, octets_of, upper_digit, lower_digit, digits_of}
@@ -21,6 +21,11 @@ use Rattle.questions.specs.Answer.{frame_text, lent_room}
 use Rattle.questions.specs.Asked.{padded, text_octets, held_line}
 
 -- ---- padded
+
+pub padded-length : (total : ℕ) (octets : List ℕ) → length octets ≤ total → length (padded total octets) ≡ total
+padded-length total octets fits =
+    length-append octets (replicate (total - length octets) 0)
+    ∙ (rw (length-replicate {A = ℕ} (total - length octets) 0) (omega arith))
 
 -- one more behind them
 pub padded-next : (total : ℕ) (octets : List ℕ) (place octet : ℕ) → place ≡ length octets → place < total

@@ -490,6 +490,12 @@ pub ruleset ownStep-laws = (own_step-refused, own_step-served, own_step-taken)
 
 -- ---- own_put, watch_step
 
+-- the promise admits one index
+pub own_index_unique : (inputs : List Input) (number one other : ℕ) → OwnIndex inputs number one
+    → OwnIndex inputs number other
+    → one ≡ other
+own_index_unique inputs number one other first second = first.own ∙ sym second.own
+
 -- the event's own input is read from an array, whose element past its end is not told
 module _ (watch : Watch) (event : Event) (read : FrameRead) (zeroed : Input) (index : ℕ)
     (at : OwnIndex watch.state.inputs event.input index) where

@@ -13,7 +13,7 @@ ghost use Rattle.digits.specs.Decimal.{decimal_value};
 ghost use Rattle.start.specs.Start.{is_option_word, is_decimal, is_marks, digits_value, start_of, start_in, start_by, StartReadRight};
 ghost use Rattle.start.specs.Said.{start_stream, start_said};
 
-use calls::{Ending, Stream, argument, argument_count, write_alone};
+use calls::{Ending, Stream, argument, write_alone};
 use numbers::profile::{OPTION_TWO, ProvPlace, prov_place_in, start_number};
 use numbers::refusal::ACCEPTED;
 use text::NumberRead;
@@ -148,8 +148,8 @@ pub fn start_by(count: usize, option: &[u8], provplace: &[u8], marks: &[u8]) -> 
 }
 
 // How many words the arguments have behind the program's name.
-fn word_count(rt: &HostRuntime) -> usize {
-    let count = argument_count(rt);
+fn argument_count(rt: &HostRuntime) -> usize {
+    let count = calls::argument_count(rt);
     if count == 0 {
         return 0;
     }
@@ -168,7 +168,7 @@ pub fn read_start(rt: &HostRuntime) -> StartRead
     let second = argument(rt, 2, &mut provplace);
     let third = argument(rt, 3, &mut marks);
     start_by(
-        word_count(rt),
+        argument_count(rt),
         &option[..first],
         &provplace[..second],
         &marks[..third],

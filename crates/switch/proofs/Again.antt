@@ -1,8 +1,11 @@
 -- Deciding again, by the same candidates and with no command, changes nothing.
 -- Assumes nothing.
 use mathlib.Core.Bool.{Bool, true, false, cond}
-use mathlib.Core.List.{List}
+use mathlib.Core.List.{List, ◌∷◌}
 use mathlib.Core.Path.{◌≡◌, refl, ◌∙◌}
+use mathlib.Core.Logic.{⊎_elim}
+use native.Mathlib.Omega.{arith}
+use Rattle.numbers.specs.Kind.{kind_tick}
 use Rattle.choice.specs.declared.Candidate.{Candidate}
 use Rattle.choice.specs.declared.Selection.{Selection}
 use Rattle.choice.specs.Candidate.{eligible_among, better_among}
@@ -11,7 +14,8 @@ use Rattle.choice.proofs.Ranks.{is_better_ranking}
 use Rattle.switch.specs.declared.Switch.{Switch}
 use Rattle.switch.specs.declared.Switch.TheVariants as W
 use Rattle.switch.specs.OneChoice.{judged, selected_by, is_clock_locked, was_locked, decide}
-use Rattle.switch.proofs.Standing.{stands, judged-stands}
+use Rattle.switch.specs.Choices.{ChoiceMoment, Choices, commanded, decided_over}
+use Rattle.switch.proofs.Standing.{Commands, stands, judged-stands, commanded-other}
 
 -- a switch that stands by these candidates stands by them again
 pub judged-again : (candidates : List Candidate) (switch : Switch)
@@ -53,3 +57,19 @@ module _ (candidates : List Candidate) (switch : Switch) (before : Selection) (w
         selected_by-again candidates (judged candidates switch) before,
         was_locked-again waslocked (is_clock_locked candidates (selected_by candidates (judged candidates switch) before)),
       )
+
+module _ (again choice : ChoiceMoment) (earlier : Choices) where
+  -- nor does a choice that follows no command, where every input is as it was at the choice before
+  pub decided_over-again : again.candidates ≡ choice.candidates → (Commands (again ∷ (choice ∷ earlier)) → ⊥)
+      → decided_over (again ∷ (choice ∷ earlier)) ≡ decided_over (choice ∷ earlier)
+  unfolding decided_over
+  decided_over-again same none =
+      rw (same, commanded-other again.kind again.on (decided_over (choice ∷ earlier)).switch none)
+      (decided-again choice.candidates (commanded choice.kind choice.on (decided_over earlier).switch)
+      (decided_over earlier).selection (decided_over earlier).waslocked)
+
+  -- such as a tick's
+  pub decided_over_tick : again.candidates ≡ choice.candidates → again.kind ≡ kind_tick
+      → decided_over (again ∷ (choice ∷ earlier)) ≡ decided_over (choice ∷ earlier)
+  decided_over_tick same tick =
+      decided_over-again same (⊎_elim (λ x. omega arith) (⊎_elim (λ x. omega arith) (λ x. omega arith)))

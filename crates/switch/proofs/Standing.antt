@@ -254,7 +254,17 @@ switch-right choices =
     }
 
 module _ (choices : Choices) (on other : ℕ) where
-  -- a forced and a manual switch never both stand
+  -- a forced switch stands on one input only
+  pub forced_among_unique : ForcedAmong on choices → ForcedAmong other choices → on ≡ other
+  forced_among_unique s t =
+      forced-injective on other (sym ((switch-right choices).forced_only on s) ∙ (switch-right choices).forced_only other t)
+
+  -- a manual switch too
+  pub manual_among_unique : ManualAmong on choices → ManualAmong other choices → on ≡ other
+  manual_among_unique s t =
+      manual-injective on other (sym ((switch-right choices).manual_only on s) ∙ (switch-right choices).manual_only other t)
+
+  -- and never both stand
   pub forced_among_alone : ForcedAmong on choices → ManualAmong other choices → ⊥
   forced_among_alone s t =
       forced-manual on other (sym ((switch-right choices).forced_only on s) ∙ (switch-right choices).manual_only other t)

@@ -27,6 +27,13 @@ pub with_text-none : (place : ℕ) (out : List ℕ) → with_text place [] out �
 with_text-none place out = rw (append-nil, add-zero place) (take-append-drop place out)
 
 module _ (place : ℕ) (out : List ℕ) where
+  -- the output keeps its length
+  pub with_text-length : (text : List ℕ) → place + length text ≤ length out → length (with_text place text out) ≡ length
+      out
+  with_text-length text fits =
+      rw (length-append, length-append)
+      (omega (arith, length-take-le place out (omega arith), length-drop (place + length text) out))
+
   -- text behind text
   pub with_text-more : (one other : List ℕ) → place ≤ length out
       → with_text (place + length one) other (with_text place one out) ≡ with_text place (one ++ other) out

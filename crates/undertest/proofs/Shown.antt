@@ -109,6 +109,12 @@ module _ (input : ℕ) (line : Input) (state : Selector) (shown : shown_of line.
 
 module _ (input : ℕ) (one other : Selector) (alike : AlikeButAt input one other) (off : Off input one.inputs)
     (calm : Calm one) where
+  -- what a choice sees of the selected input
+  pub selected-alike : selected_of one ≡ selected_of other
+  selected-alike =
+      sym (ap selected_of alike.same ∙
+      candidate-with input alike.line one alike.shown off calm)
+
   pub answer-alike : (number : ℕ) → answer_of number one ≡ answer_of number other
   answer-alike number =
       sym (ap (answer_of number) alike.same ∙ answer-with input alike.line one alike.shown off calm number)

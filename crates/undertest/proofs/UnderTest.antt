@@ -38,7 +38,7 @@ use Rattle.events.proofs.Calm.{accepted_or_not, at_its_moment_tick, step_read-re
 use Rattle.undertest.specs.UnderTest.{OnLine, Pair, EqualButFor, begun, equal, paired, OffThroughout, NothingShows, NothingEverShows}
 use Rattle.undertest.proofs.Candidates.{late_refusal-same}
 use Rattle.undertest.proofs.Alike.{Shown, set-shown, Off, off_as, AlikeButAt, alike_itself, alike-back, alike-on, alike-off, candidates-same, alike-decided, alike-served, ticked-shown}
-use Rattle.undertest.proofs.Shown.{answer-alike, switch-alike, codes-alike, words-alike}
+use Rattle.undertest.proofs.Shown.{selected_of, selected-alike, answer-alike, switch-alike, codes-alike, words-alike}
 use Rattle.undertest.proofs.Taken.{Quiet, report_quiet, hidden_quiet, taken-with, line_taken_lem}
 
 -- ---- a step on both
@@ -353,6 +353,10 @@ module _ (input : ℕ) (one other : Sequence) (equal : EqualButFor input one oth
 
   pub words-equal : outgoing_words (state_after one) ≡ outgoing_words (state_after other)
   words-equal = words-alike input (state_after one) (state_after other) states is_off (sequence-calm one)
+
+  -- what a choice sees of the selected input
+  pub candidates-equal : selected_of (state_after one) ≡ selected_of (state_after other)
+  candidates-equal = selected-alike input (state_after one) (state_after other) states is_off (sequence-calm one)
 
   -- the number of any event that comes now
   pub number-equal : (given : Given) → number_after given one ≡ number_after given other

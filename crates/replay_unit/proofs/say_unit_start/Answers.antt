@@ -1,11 +1,9 @@
 -- `replay_unit::say_unit_start` meets its contract: each line is what is said of its start.
 -- Assumes nothing.
 use Rattle.digits.specs.Digits.{digits_of, upper_digit, lower_digit, digit_of}
-use mathlib.Core.Path.{◌≡◌, refl, sym, ap}
 use Rattle.calls.specs.Said.{octets_of_text}
 use Rattle.start.specs.Said.{start_said}
 use Rattle.replay_unit.specs.Said.{unit_start_said}
-use borrow.Author.Rules.{rules}
 use Rattle.replay_unit.proofs.say_unit_start.Goals as goal
 
 pub start_line-requires : goal.start_line-requires

@@ -3,7 +3,6 @@
 use mathlib.Core.Path.{sym}
 use native.Mathlib.Omega.{arith}
 use lib.Seq.{length-take-le}
-use borrow.Author.Rules.{rules}
 use Rattle.verdict.proofs.take_piece.Goals as goal
 
 pub slice_bounds-take_lines-end-2 : goal.slice_bounds-take_lines-end-2

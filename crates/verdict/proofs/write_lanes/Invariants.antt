@@ -1,7 +1,6 @@
 -- `verdict::write_lanes` meets its contract: it ends, and no sum wraps.
 -- Assumes nothing.
 use Prim.Native.Nat.{◌≤◌, ◌-◌}
-use borrow.Author.Rules.{rules}
 use Rattle.verdict.proofs.write_lanes.Given as goal
 
 abbrev pub invariant-loop-number : goal.invariant-loop-number

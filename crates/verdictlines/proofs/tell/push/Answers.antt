@@ -13,7 +13,7 @@ pub returns : goal.returns
 returns c = (
   search told-laws,
   elim c.if-index-lt-ROOM.branch [
-    then-index-lt-ROOM w ↦ w.room-is ∙ search told-laws
+    | then-index-lt-ROOM w ↦ w.room-is ∙ search told-laws
     | else-index-lt-ROOM w ↦ w.room-is ∙ search told-laws
   ],
   c.write_stretch.ensures,
