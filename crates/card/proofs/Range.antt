@@ -7,6 +7,8 @@ use mathlib.Core.Path.{◌≡◌, refl, sym, subst}
 use native.Mathlib.Omega.{arith}
 use lib.Dec.{eqb, leb}
 use borrow.Author.Tests.{ne_eqb, leb-true, le-leb, eqb-true}
+use Rattle.std.specs.Prelude.{Option, Some, None}
+use Rattle.numbers.specs.declared.InputNumber.{InputNumber}
 use Rattle.numbers.specs.declared.Answer.{Answer}
 use Rattle.numbers.specs.declared.Event.{Event}
 use Rattle.numbers.specs.Recorded.{Recorded}
@@ -18,8 +20,6 @@ use Rattle.numbers.specs.Refusal.{accepted}
 use Rattle.numbers.proofs.Truth.{by_bool}
 use Rattle.frame.specs.declared.FrameRead.{FrameRead}
 use Rattle.frame.specs.Read.{read_code}
-use Rattle.choice.specs.declared.Selection.{Selection}
-use Rattle.choice.specs.declared.Selection.TheVariants as S
 use Rattle.choice.proofs.Choosing.{Inside}
 use Rattle.switch.specs.declared.Switch.{Switch}
 use Rattle.switch.specs.declared.Switch.TheVariants as W
@@ -135,10 +135,10 @@ sequence_named (given following earlier) =
 
 -- ---- what C reads
 
-selected-input : (selection : Selection) → Inside selection → IsInput (selected_number selection)
+selected-input : (selection : Option InputNumber) → Inside selection → IsInput (selected_number selection)
 unfolding selected_number
-selected-input S.Nothing inside = inr refl
-selected-input (S.At number) inside = inl (omega arith)
+selected-input None inside = inr refl
+selected-input (Some number) inside = inl (omega arith)
 
 switch-input : (switch : Switch) → On switch → IsInput (switch_input switch)
 unfolding switch_input

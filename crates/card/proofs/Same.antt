@@ -8,13 +8,14 @@ use native.Mathlib.Numerals.{add-one}
 use lib.Dec.{eqb, leb, ltb}
 use lib.ListN.{get_or}
 use mir.Val.{bool_byte}
+use Rattle.std.specs.Prelude.{Option}
+use Rattle.numbers.specs.declared.InputNumber.{InputNumber}
 use Rattle.numbers.specs.declared.Answer.{Answer}
 use Rattle.numbers.specs.Inputs.{time_limit}
 use Rattle.numbers.specs.Kind.{flag}
 use Rattle.numbers.specs.Refusal.{accepted}
 use Rattle.input.specs.declared.Input.{Input}
 use Rattle.input.specs.Record.{fresh_input}
-use Rattle.choice.specs.declared.Selection.{Selection}
 use Rattle.switch.specs.declared.Switch.{Switch}
 use Rattle.selector.specs.declared.Selector.{Selector}
 use Rattle.selector.specs.Clock.{selected_number, switch_number, switch_input}
@@ -47,7 +48,7 @@ pub same_among-all : (ones others : List Input) (count : ℕ) (same : Bool) → 
 same_among-all ones others count same s h k = let z : count ≡ 16 = omega arith in s ∙ (rw z)
 
 -- switch, selection and whether the clock was ever locked, call by call
-pub once_told : (one other : Selector) (ours theirs : Switch) (mine its : Selection) (waslocked was : Bool)
+pub once_told : (one other : Selector) (ours theirs : Switch) (mine its : Option InputNumber) (waslocked was : Bool)
     (kind sort on at number place : ℕ)
     → ours ≡ one.switch → theirs ≡ other.switch → mine ≡ one.selection → its ≡ other.selection
     → waslocked ≡ one.waslocked → was ≡ other.waslocked

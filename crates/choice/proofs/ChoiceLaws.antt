@@ -5,6 +5,7 @@ use mathlib.Core.Path.{◌≡◌, ◌∙◌}
 use native.Mathlib.Omega.{arith}
 use lib.Dec.{eqb, leb, ltb}
 use borrow.Author.Tests.{lt-ltb, le-ltb, le-leb, lt-leb, eq-eqb, ne_eqb}
+use Rattle.std.specs.Prelude.{Option, Some, None}
 use Rattle.numbers.specs.declared.InputNumber.{InputNumber}
 use Rattle.numbers.specs.declared.Priority.{Priority}
 use Rattle.numbers.specs.declared.quality.Quality.{Quality}
@@ -14,8 +15,6 @@ use Rattle.numbers.specs.Truth.{alike}
 use Rattle.choice.specs.declared.Candidate.{Candidate}
 use Rattle.choice.specs.declared.Leader.{Leader}
 use Rattle.choice.specs.declared.Seen.{Seen}
-use Rattle.choice.specs.declared.Selection.{Selection}
-use Rattle.choice.specs.declared.Selection.TheVariants.{Nothing, At}
 use Rattle.choice.specs.declared.Rank.{Rank}
 use Rattle.choice.specs.Rank.{is_placed, rank_of, floor_rank}
 use Rattle.choice.specs.Candidate.{is_usable, is_admitted, ranked_quality, candidate_of, is_eligible, is_better, is_like}
@@ -174,22 +173,22 @@ pub ruleset isLike-laws = (is_like-locked, is_like_floor, is_like-priority, is_l
 
 -- ---- seed
 
-pub seed-nothing : (before : Selection) (candidate : Candidate) (answer : Leader) → before ≡ Nothing
+pub seed-nothing : (before : Option InputNumber) (candidate : Candidate) (answer : Leader) → before ≡ None
     → answer ≡ no_leader → answer ≡ seed before candidate
 unfolding seed
 seed-nothing before candidate answer b a = rw b a
 
-module _ (before : Selection) (candidate : Candidate) (earlier : InputNumber) (answer : Leader) where
-  pub seed-outside : before ≡ At earlier → input_count ≤ earlier.0 → answer ≡ no_leader → answer ≡ seed before candidate
+module _ (before : Option InputNumber) (candidate : Candidate) (earlier : InputNumber) (answer : Leader) where
+  pub seed-outside : before ≡ Some earlier → input_count ≤ earlier.0 → answer ≡ no_leader → answer ≡ seed before candidate
   unfolding seed
   seed-outside b h a = rw (b, le-ltb earlier.0 input_count h) a
 
-  pub seed-kept : (test : Bool) → before ≡ At earlier → earlier.0 < input_count → test ≡ is_eligible candidate
+  pub seed-kept : (test : Bool) → before ≡ Some earlier → earlier.0 < input_count → test ≡ is_eligible candidate
       → test ≡ true → answer ≡ lead earlier candidate → answer ≡ seed before candidate
   unfolding seed
   seed-kept test b h q t a = rw (b, lt-ltb earlier.0 input_count h, ← q, t) a
 
-  pub seed-dropped : (test : Bool) → before ≡ At earlier → earlier.0 < input_count → test ≡ is_eligible candidate
+  pub seed-dropped : (test : Bool) → before ≡ Some earlier → earlier.0 < input_count → test ≡ is_eligible candidate
       → test ≡ false → answer ≡ no_leader → answer ≡ seed before candidate
   unfolding seed
   seed-dropped test b h q t a = rw (b, lt-ltb earlier.0 input_count h, ← q, t) a
@@ -198,12 +197,12 @@ pub ruleset seed-laws = (seed-nothing, seed-outside, seed-kept, seed-dropped)
 
 -- ---- is_passed, offer
 
-module _ (selection : Selection) (candidate best : Candidate) where
-  pub is_passed-first : selection ≡ Nothing → true ≡ is_passed selection candidate best
+module _ (selection : Option InputNumber) (candidate best : Candidate) where
+  pub is_passed-first : selection ≡ None → true ≡ is_passed selection candidate best
   unfolding is_passed
   is_passed-first s = rw s
 
-  pub is_passed-better : (leading : InputNumber) (other : Candidate) (wins : Bool) → selection ≡ At leading
+  pub is_passed-better : (leading : InputNumber) (other : Candidate) (wins : Bool) → selection ≡ Some leading
       → other ≡ best → wins ≡ is_better candidate other → wins ≡ is_passed selection candidate best
   unfolding is_passed
   is_passed-better leading other wins s o w = w ∙ rw (s, o)

@@ -9,11 +9,10 @@ use native.Mathlib.Omega.{arith}
 use native.Mathlib.Decide.{ℕ_discrete}
 use lib.Dec.{ltb}
 use borrow.Author.Tests.{ltb-true, lt-ltb}
+use Rattle.std.specs.Prelude.{Option, Some, None}
 use Rattle.numbers.proofs.Truth.{by_bool, is_false, both_first, both-second, contra}
 use Rattle.numbers.specs.declared.InputNumber.{InputNumber}
 use Rattle.numbers.specs.Inputs.{input_count}
-use Rattle.choice.specs.declared.Selection.{Selection}
-use Rattle.choice.specs.declared.Selection.TheVariants.{Nothing, At}
 use Rattle.choice.specs.Choice.{selected, Ranking, Best, Chosen, seeded, offered, scanned, choose}
 
 -- ---- selections
@@ -23,20 +22,20 @@ selected-injective a b x =
     let z : ◌≡◌ {A = InputNumber} (record { 0 = a }) (record { 0 = b }) = cc in
     ap (λ (number : InputNumber). number.0) z
 
-pub nothing-selected : (number : ℕ) → Nothing ≡ selected number → ⊥
+pub nothing-selected : (number : ℕ) → None ≡ selected number → ⊥
 nothing-selected a x = let z : ◌≡◌ {A = ℕ} 0 1 = cc in omega arith
 
-selected-decided : (before : Selection) (number : ℕ) → Dec (before ≡ selected number)
-selected-decided Nothing number = no (nothing-selected number)
-selected-decided (At earlier) number = go (ℕ_discrete earlier.0 number)
+selected-decided : (before : Option InputNumber) (number : ℕ) → Dec (before ≡ selected number)
+selected-decided None number = no (nothing-selected number)
+selected-decided (Some earlier) number = go (ℕ_discrete earlier.0 number)
   where
-    go : Dec (earlier.0 ≡ number) → Dec (At earlier ≡ selected number)
+    go : Dec (earlier.0 ≡ number) → Dec (Some earlier ≡ selected number)
     go (yes x) = yes (ap selected x)
     go (no x) = no (λ y. x (selected-injective earlier.0 number y))
 
 -- ---- the one that leads once the first `count` inputs have been offered
 
-module _ (eligible : ℕ → Bool) (better : ℕ → ℕ → Bool) (before : Selection) where
+module _ (eligible : ℕ → Bool) (better : ℕ → ℕ → Bool) (before : Option InputNumber) where
   -- it took over: from the one selected just before, if that is eligible, and from none with a higher number
   record Arrived (count leading : ℕ) : Type 0 where
     offered_before : leading < count
@@ -52,11 +51,11 @@ module _ (eligible : ℕ → Bool) (better : ℕ → ℕ → Bool) (before : Sel
         → better earlier leading ≡ false
     keeps : (before ≡ selected leading) ⊎ Arrived count leading
 
-  abbrev Leader : ℕ → Selection → Type 0
-  Leader count Nothing =
+  abbrev Leader : ℕ → Option InputNumber → Type 0
+  Leader count None =
       ((other : ℕ) → other < count → eligible other ≡ false)
       × ((earlier : ℕ) → before ≡ selected earlier → earlier < input_count → eligible earlier ≡ false)
-  Leader count (At leading) = Leads count leading.0
+  Leader count (Some leading) = Leads count leading.0
 
 -- what holds below a number and at it holds below the next
 up_to : (count : ℕ) (P : ℕ → Type 0) → ((number : ℕ) → number < count → P number) → P count
@@ -67,10 +66,10 @@ up_to n P f g j i = go (ℕ_discrete j n)
     go (yes x) = subst P (sym x) g
     go (no x) = f j (omega arith)
 
-module _ (eligible : ℕ → Bool) (better : ℕ → ℕ → Bool) (before : Selection) (ranking : Ranking better) where
-  offered-nothing : (count : ℕ) → count < input_count → Leader eligible better before count Nothing
+module _ (eligible : ℕ → Bool) (better : ℕ → ℕ → Bool) (before : Option InputNumber) (ranking : Ranking better) where
+  offered-nothing : (count : ℕ) → count < input_count → Leader eligible better before count None
       → (test : Bool) → eligible count ≡ test
-      → Leader eligible better before (suc count) (cond test (selected count) Nothing)
+      → Leader eligible better before (suc count) (cond test (selected count) None)
   offered-nothing n h v true x =
       record {
         inside = h;
@@ -135,13 +134,13 @@ module _ (eligible : ℕ → Bool) (better : ℕ → ℕ → Bool) (before : Sel
                 y.lowest (λ a b. omega (arith, y.offered_before));
           }
 
-  offered_leads : (count : ℕ) (leader : Selection) → count < input_count → Leader eligible better before count leader
+  offered_leads : (count : ℕ) (leader : Option InputNumber) → count < input_count → Leader eligible better before count leader
       → Leader eligible better before (suc count) (offered eligible better count leader)
   unfolding offered
-  offered_leads n Nothing h v = offered-nothing n h v (eligible n) refl
-  offered_leads n (At leading) h v = offered-at n leading.0 h v (eligible n && better n leading.0) refl
+  offered_leads n None h v = offered-nothing n h v (eligible n) refl
+  offered_leads n (Some leading) h v = offered-at n leading.0 h v (eligible n && better n leading.0) refl
 
-  scanned_leads : (count : ℕ) (leader : Selection) → count ≤ input_count → Leader eligible better before 0 leader
+  scanned_leads : (count : ℕ) (leader : Option InputNumber) → count ≤ input_count → Leader eligible better before 0 leader
       → Leader eligible better before count (scanned eligible better count leader)
   unfolding scanned
   scanned_leads zero leader h v = v
@@ -150,7 +149,7 @@ module _ (eligible : ℕ → Bool) (better : ℕ → ℕ → Bool) (before : Sel
 
 seeded-at : (eligible : ℕ → Bool) (better : ℕ → ℕ → Bool) → Ranking better → (earlier : ℕ)
     → (test : Bool) → (ltb earlier input_count && eligible earlier) ≡ test
-    → Leader eligible better (selected earlier) 0 (cond test (selected earlier) Nothing)
+    → Leader eligible better (selected earlier) 0 (cond test (selected earlier) None)
 seeded-at eligible better ranking p true x =
     record {
       inside = ltb-true p input_count (both_first (ltb p input_count) (eligible p) x);
@@ -167,17 +166,17 @@ seeded-at eligible better ranking p false x = (
     taken : (k : ℕ) → p ≡ k → k < input_count → eligible k ≡ true → (ltb p input_count && eligible p) ≡ true
     taken k z h w = rw (z, lt-ltb k input_count h) w
 
-seeded_leads : (eligible : ℕ → Bool) (better : ℕ → ℕ → Bool) → Ranking better → (before : Selection)
+seeded_leads : (eligible : ℕ → Bool) (better : ℕ → ℕ → Bool) → Ranking better → (before : Option InputNumber)
     → Leader eligible better before 0 (seeded eligible before)
 unfolding seeded
-seeded_leads eligible better ranking Nothing = (λ j i. absurd (omega arith), λ k y h. absurd (nothing-selected k y))
-seeded_leads eligible better ranking (At earlier) =
+seeded_leads eligible better ranking None = (λ j i. absurd (omega arith), λ k y h. absurd (nothing-selected k y))
+seeded_leads eligible better ranking (Some earlier) =
     seeded-at eligible better ranking earlier.0 (ltb earlier.0 input_count && eligible earlier.0) refl
 
-leads_chosen : (eligible : ℕ → Bool) (better : ℕ → ℕ → Bool) (before leader : Selection)
+leads_chosen : (eligible : ℕ → Bool) (better : ℕ → ℕ → Bool) (before leader : Option InputNumber)
     → Leader eligible better before input_count leader → Chosen eligible better before leader
-leads_chosen eligible better before Nothing v = v.0
-leads_chosen eligible better before (At leading) v =
+leads_chosen eligible better before None v = v.0
+leads_chosen eligible better before (Some leading) v =
     record {
       inside = v.inside;
       is_eligible = v.is_eligible;
@@ -189,7 +188,7 @@ leads_chosen eligible better before (At leading) v =
 
 -- ---- the theorems
 
-module _ (eligible : ℕ → Bool) (better : ℕ → ℕ → Bool) (before : Selection) where
+module _ (eligible : ℕ → Bool) (better : ℕ → ℕ → Bool) (before : Option InputNumber) where
   -- the choice is what document 01 asks for
   pub choose-chosen : Ranking better → Chosen eligible better before (choose eligible better before)
   unfolding choose
@@ -216,26 +215,26 @@ module _ (eligible : ℕ → Bool) (better : ℕ → ℕ → Bool) (before : Sel
           omega arith
 
   -- one answer only is right
-  pub chosen_unique : (answer other : Selection)
+  pub chosen_unique : (answer other : Option InputNumber)
       → Chosen eligible better before answer → Chosen eligible better before other → answer ≡ other
-  chosen_unique Nothing Nothing v w = refl
-  chosen_unique Nothing (At t) v w = contra w.is_eligible (v t.0 w.inside)
-  chosen_unique (At s) Nothing v w = contra v.is_eligible (w s.0 v.inside)
-  chosen_unique (At s) (At t) v w = ap selected (best_unique s.0 t.0 v w)
+  chosen_unique None None v w = refl
+  chosen_unique None (Some t) v w = contra w.is_eligible (v t.0 w.inside)
+  chosen_unique (Some s) None v w = contra v.is_eligible (w s.0 v.inside)
+  chosen_unique (Some s) (Some t) v w = ap selected (best_unique s.0 t.0 v w)
 
   -- nothing is selected exactly when no input is eligible
-  pub chosen_none : (answer : Selection) → Chosen eligible better before answer
-      → (answer ≡ Nothing) ↔ ((number : ℕ) → number < input_count → eligible number ≡ false)
-  chosen_none Nothing v = (λ x. v, λ f. refl)
-  chosen_none (At s) v = (
+  pub chosen_none : (answer : Option InputNumber) → Chosen eligible better before answer
+      → (answer ≡ None) ↔ ((number : ℕ) → number < input_count → eligible number ≡ false)
+  chosen_none None v = (λ x. v, λ f. refl)
+  chosen_none (Some s) v = (
     λ x. absurd (nothing-selected s.0 (sym x)),
     λ f. contra v.is_eligible (f s.0 v.inside),
   )
 
   -- a right answer is right again when it is the one selected just before
-  pub chosen-again : (answer : Selection) → Chosen eligible better before answer → Chosen eligible better answer answer
-  chosen-again Nothing v = v
-  chosen-again (At s) v =
+  pub chosen-again : (answer : Option InputNumber) → Chosen eligible better before answer → Chosen eligible better answer answer
+  chosen-again None v = v
+  chosen-again (Some s) v =
       record {
         inside = v.inside;
         is_eligible = v.is_eligible;
@@ -245,10 +244,10 @@ module _ (eligible : ℕ → Bool) (better : ℕ → ℕ → Bool) (before : Sel
       }
 
 -- choosing again changes nothing
-pub choose-again : (eligible : ℕ → Bool) (better : ℕ → ℕ → Bool) (before : Selection) → Ranking better
+pub choose-again : (eligible : ℕ → Bool) (better : ℕ → ℕ → Bool) (before : Option InputNumber) → Ranking better
     → choose eligible better (choose eligible better before) ≡ choose eligible better before
 choose-again eligible better before ranking =
-    let answer : Selection = choose eligible better before in
+    let answer : Option InputNumber = choose eligible better before in
     chosen_unique eligible better answer (choose eligible better answer) answer
     (choose-chosen eligible better answer ranking)
     (chosen-again eligible better before answer (choose-chosen eligible better before ranking))
@@ -256,23 +255,23 @@ choose-again eligible better before ranking =
 -- ---- the choice looks only at inputs 0 to 15
 
 -- one of the inputs, or nothing
-abbrev pub Inside : Selection → Type 0
-Inside Nothing = Unit {0}
-Inside (At number) = number.0 < input_count
+abbrev pub Inside : Option InputNumber → Type 0
+Inside None = Unit {0}
+Inside (Some number) = number.0 < input_count
 
 module _ (eligible : ℕ → Bool) (better : ℕ → ℕ → Bool) where
-  taken-inside : (number : ℕ) (leader : Selection) (test : Bool) → number < input_count → Inside leader
+  taken-inside : (number : ℕ) (leader : Option InputNumber) (test : Bool) → number < input_count → Inside leader
       → Inside (cond test (selected number) leader)
   taken-inside n leader true h i = h
   taken-inside n leader false h i = i
 
-  offered-inside : (number : ℕ) (leader : Selection) → number < input_count → Inside leader
+  offered-inside : (number : ℕ) (leader : Option InputNumber) → number < input_count → Inside leader
       → Inside (offered eligible better number leader)
   unfolding offered
-  offered-inside n Nothing h i = taken-inside n Nothing (eligible n) h i
-  offered-inside n (At leading) h i = taken-inside n (At leading) (eligible n && better n leading.0) h i
+  offered-inside n None h i = taken-inside n None (eligible n) h i
+  offered-inside n (Some leading) h i = taken-inside n (Some leading) (eligible n && better n leading.0) h i
 
-  scanned-inside : (count : ℕ) (leader : Selection) → count ≤ input_count → Inside leader
+  scanned-inside : (count : ℕ) (leader : Option InputNumber) → count ≤ input_count → Inside leader
       → Inside (scanned eligible better count leader)
   unfolding scanned
   scanned-inside zero leader h i = i
@@ -280,18 +279,18 @@ module _ (eligible : ℕ → Bool) (better : ℕ → ℕ → Bool) where
       offered-inside n (scanned eligible better n leader) (omega arith) (scanned-inside n leader (omega arith) i)
 
   kept-inside : (earlier : InputNumber) (test : Bool) → (ltb earlier.0 input_count && eligible earlier.0) ≡ test
-      → Inside (cond test (At earlier) Nothing)
+      → Inside (cond test (Some earlier) None)
   kept-inside earlier true x =
       ltb-true earlier.0 input_count (both_first (ltb earlier.0 input_count) (eligible earlier.0) x)
   kept-inside earlier false x = tt
 
-  seeded-inside : (before : Selection) → Inside (seeded eligible before)
+  seeded-inside : (before : Option InputNumber) → Inside (seeded eligible before)
   unfolding seeded
-  seeded-inside Nothing = tt
-  seeded-inside (At earlier) = kept-inside earlier (ltb earlier.0 input_count && eligible earlier.0) refl
+  seeded-inside None = tt
+  seeded-inside (Some earlier) = kept-inside earlier (ltb earlier.0 input_count && eligible earlier.0) refl
 
   -- what is chosen is one of the inputs
-  pub choose-inside : (before : Selection) → Inside (choose eligible better before)
+  pub choose-inside : (before : Option InputNumber) → Inside (choose eligible better before)
   unfolding choose
   choose-inside before = scanned-inside input_count (seeded eligible before) (omega arith) (seeded-inside before)
 
@@ -299,13 +298,13 @@ module _ (eligible eligible' : ℕ → Bool) (better better' : ℕ → ℕ → B
     (same_eligible : (number : ℕ) → number < input_count → eligible number ≡ eligible' number)
     (same_better : (number other : ℕ) → number < input_count → other < input_count
     → better number other ≡ better' number other) where
-  offered-alike : (number : ℕ) (leader : Selection) → number < input_count → Inside leader
+  offered-alike : (number : ℕ) (leader : Option InputNumber) → number < input_count → Inside leader
       → offered eligible better number leader ≡ offered eligible' better' number leader
   unfolding offered
-  offered-alike n Nothing h i = rw (same_eligible n h)
-  offered-alike n (At leading) h i = rw (same_eligible n h, same_better n leading.0 h i)
+  offered-alike n None h i = rw (same_eligible n h)
+  offered-alike n (Some leading) h i = rw (same_eligible n h, same_better n leading.0 h i)
 
-  scanned-alike : (count : ℕ) (leader : Selection) → count ≤ input_count → Inside leader
+  scanned-alike : (count : ℕ) (leader : Option InputNumber) → count ≤ input_count → Inside leader
       → scanned eligible better count leader ≡ scanned eligible' better' count leader
   unfolding scanned
   scanned-alike zero leader h i = refl
@@ -314,16 +313,16 @@ module _ (eligible eligible' : ℕ → Bool) (better better' : ℕ → ℕ → B
       (scanned-inside eligible better n leader (omega arith) i)
       ∙ ap (offered eligible' better' n) (scanned-alike n leader (omega arith) i)
 
-  seeded-alike : (before : Selection) → seeded eligible before ≡ seeded eligible' before
+  seeded-alike : (before : Option InputNumber) → seeded eligible before ≡ seeded eligible' before
   unfolding seeded
-  seeded-alike Nothing = refl
-  seeded-alike (At earlier) =
+  seeded-alike None = refl
+  seeded-alike (Some earlier) =
       by_bool (ltb earlier.0 input_count)
       (λ x. rw (same_eligible earlier.0 (ltb-true earlier.0 input_count x)))
       (λ x. rw x)
 
   -- the choice looks only at inputs 0 to 15
-  pub choose-alike : (before : Selection) → choose eligible better before ≡ choose eligible' better' before
+  pub choose-alike : (before : Option InputNumber) → choose eligible better before ≡ choose eligible' better' before
   unfolding choose
   choose-alike before =
       scanned-alike input_count (seeded eligible before) (omega arith) (seeded-inside eligible better before)

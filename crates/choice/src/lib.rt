@@ -50,18 +50,11 @@ pub const NOBODY: Candidate = Candidate {
     usable: false,
 };
 
-// What is selected.
-#[derive(Clone, Copy)]
-pub enum Selection {
-    Nothing,
-    At(InputNumber),
-}
-
-// The one that leads while the inputs are offered, one by one, with its rank and its priority,
-// which later ones are compared with; 0 both where nothing leads.
+// The one that leads while the inputs are offered, one by one, if any does, with its rank and its
+// priority, which later ones are compared with; 0 both where nothing leads.
 #[derive(Clone, Copy)]
 pub struct Leader {
-    pub selection: Selection,
+    pub selection: Option<InputNumber>,
     pub rank: Rank,
     pub priority: Priority,
 }
@@ -212,7 +205,7 @@ fn are_alike(one: bool, other: bool) -> bool
 fn lead(number: InputNumber, candidate: Candidate) -> Leader
     ensures { result ≡ lead number candidate }
 {
-    let selection = Selection::At(number);
+    let selection = Some(number);
     let rank = candidate.rank;
     let priority = candidate.priority;
     Leader {
@@ -226,7 +219,7 @@ fn lead(number: InputNumber, candidate: Candidate) -> Leader
 fn no_leader() -> Leader
     ensures { result ≡ no_leader }
 {
-    let selection = Selection::Nothing;
+    let selection = None;
     Leader {
         selection,
         rank: Rank(0),
@@ -236,12 +229,12 @@ fn no_leader() -> Leader
 
 // The input selected at the choice just before leads at first, if it is eligible; `candidate` is
 // what the choice sees of it.
-pub fn seed(before: Selection, candidate: Candidate) -> Leader
+pub fn seed(before: Option<InputNumber>, candidate: Candidate) -> Leader
     ensures { result ≡ seed before candidate }
 {
     match before {
-        Selection::Nothing => no_leader(),
-        Selection::At(number) => {
+        None => no_leader(),
+        Some(number) => {
             if number.0 < INPUT_COUNT {
                 if candidate.is_eligible() {
                     return lead(number, candidate);
@@ -275,8 +268,8 @@ impl Leader {
     {
         let selection = self.selection;
         match selection {
-            Selection::Nothing => true,
-            Selection::At(_) => {
+            None => true,
+            Some(_) => {
                 let best = self.best();
                 candidate.is_better(best)
             }

@@ -5,6 +5,7 @@ use mathlib.Core.List.{List, map}
 use mathlib.Core.Path.{◌≡◌, refl, sym, ◌∙◌, ap}
 use lib.Dec.{eqb}
 use lib.ListN.{get_or}
+use Rattle.std.specs.Prelude.{Option, Some, None}
 use Rattle.numbers.specs.declared.InputNumber.{InputNumber}
 use Rattle.numbers.specs.Inputs.{input_count}
 use Rattle.numbers.specs.declared.profile.Profile.{Profile}
@@ -17,8 +18,6 @@ use Rattle.input.specs.Recorded.{History, mode_on, time_of, is_sending}
 use Rattle.input.specs.Record.{fresh_input, record_after}
 use Rattle.input.proofs.Recalled.{settings_by, settings_recalled}
 use Rattle.input.proofs.Demand2.{passed-now}
-use Rattle.choice.specs.declared.Selection.{Selection}
-use Rattle.choice.specs.declared.Selection.TheVariants as S
 use Rattle.switch.specs.OneChoice.{forced_may_stand}
 use Rattle.switch.proofs.Selecting.{selected-admitted}
 use Rattle.selector.specs.declared.Selector.{Selector}
@@ -47,7 +46,7 @@ module _ (state : Selector) (history : History) (made : List Made) (agrees : Agr
       ap (λ (time : ℕ). candidate_by history time number) (sym agrees.time)
 
   -- the selected input is one of the sixteen
-  selected-inside : (number : InputNumber) → state.selection ≡ S.At number → number.0 < input_count
+  selected-inside : (number : InputNumber) → state.selection ≡ Some number → number.0 < input_count
   selected-inside number x =
       admitted-inside history (time_of history) number.0
       (passes-made forced_may_stand number.0 (time_of history) history made agrees.made_at
@@ -62,11 +61,11 @@ module _ (sequence : Sequence) where
   agreed : Agrees after (recorded sequence) (made_in sequence)
   agreed = sequence-agrees sequence
 
-  selected-shown : (selection : Selection) → after.selection ≡ selection
+  selected-shown : (selection : Option InputNumber) → after.selection ≡ selection
       → selected_candidate after.profile after.inputs after.mode selection ≡ shown (past_of sequence) selection
   unfolding selected_candidate
-  selected-shown S.Nothing x = refl
-  selected-shown (S.At number) x =
+  selected-shown None x = refl
+  selected-shown (Some number) x =
       candidate-at after (recorded sequence) (made_in sequence) agreed number.0
       (selected-inside after (recorded sequence) (made_in sequence) agreed number x) ∙
       ap (λ (time : ℕ). candidate_by (recorded sequence) time number.0) agreed.time

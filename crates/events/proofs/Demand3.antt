@@ -7,6 +7,8 @@ use mathlib.Core.Logic.Iff
 use mathlib.Core.Logic.{◌↔◌}
 use mathlib.Core.Path.{◌≡◌, refl, sym, ◌∙◌, ap, subst}
 use native.Mathlib.Omega.{arith}
+use Rattle.std.specs.Prelude.{Option, Some, None}
+use Rattle.numbers.specs.declared.InputNumber.{InputNumber}
 use Rattle.numbers.proofs.Truth.{by_bool, contra}
 use Rattle.numbers.specs.declared.profile.Profile.{Profile}
 use Rattle.numbers.specs.From.{started, profile_of}
@@ -14,8 +16,6 @@ use Rattle.numbers.specs.Inputs.{input_count}
 use Rattle.numbers.specs.Kind.{kind_forced, kind_manual}
 use Rattle.input.specs.Recorded.{History, last_argument}
 use Rattle.choice.specs.declared.Candidate.{Candidate}
-use Rattle.choice.specs.declared.Selection.{Selection}
-use Rattle.choice.specs.declared.Selection.TheVariants as S
 use Rattle.choice.specs.Candidate.{eligible_among, better_among}
 use Rattle.choice.specs.Choice.{selected, Best, Chosen}
 use Rattle.choice.proofs.Choosing.{selected-injective, nothing-selected}
@@ -50,7 +50,7 @@ module _ (history : History) (time : ℕ) where
       (λ x. x)
 
   -- the best is rightly chosen
-  best-right : (before : Selection) (chosen : ℕ) → Best eligible better before chosen
+  best-right : (before : Option InputNumber) (chosen : ℕ) → Best eligible better before chosen
       → RightlyChosen history time before (selected chosen)
   best-right before chosen best =
       record {
@@ -82,8 +82,8 @@ module _ (history : History) (time : ℕ) where
       is number x = selected-injective chosen number x
 
   -- nothing is rightly chosen where no input is eligible
-  nothing_right : (before : Selection) → ((number : ℕ) → Eligible history time number → ⊥)
-      → RightlyChosen history time before S.Nothing
+  nothing_right : (before : Option InputNumber) → ((number : ℕ) → Eligible history time number → ⊥)
+      → RightlyChosen history time before None
   nothing_right before none =
       record {
         nothing = (λ x. none, λ x. refl);
@@ -93,16 +93,16 @@ module _ (history : History) (time : ℕ) where
         lowest = λ number other x. absurd (nothing-selected number x);
       }
 
-  pub chosen-right : (before selection : Selection) → Chosen eligible better before selection
+  pub chosen-right : (before selection : Option InputNumber) → Chosen eligible better before selection
       → RightlyChosen history time before selection
-  chosen-right before S.Nothing none =
+  chosen-right before None none =
       nothing_right before
       (λ number e. contra ((eligible-stated history time number).1 e) (none number e.admitted.is_input))
-  chosen-right before (S.At chosen) best = best-right before chosen.0 best
+  chosen-right before (Some chosen) best = best-right before chosen.0 best
 
 -- a fresh selector has no eligible input
-fresh-right : (profile : Profile) (time : ℕ) (before : Selection)
-    → RightlyChosen (started profile) time before S.Nothing
+fresh-right : (profile : Profile) (time : ℕ) (before : Option InputNumber)
+    → RightlyChosen (started profile) time before None
 unfolding last_argument
 fresh-right profile time before = nothing_right (started profile) time before (λ number e. e.admitted.not_off refl)
 
@@ -166,8 +166,8 @@ decided-chosen : (history : History) (time : ℕ) (made : List Made) → MadeAt 
     → RightlyChosen history time (selected_before made) (decided_by made).selection
 unfolding decided_over choices_ago
 decided-chosen history time [] here free =
-    subst (λ (past : History). RightlyChosen past time S.Nothing S.Nothing) (sym here)
-    (fresh-right (profile_of history) time S.Nothing)
+    subst (λ (past : History). RightlyChosen past time None None) (sym here)
+    (fresh-right (profile_of history) time None)
 decided-chosen history time (choice ∷ earlier) here free =
     chosen-right history time (decided_by earlier).selection (decided_by (choice ∷ earlier)).selection
     (subst
@@ -225,7 +225,7 @@ demand_3 sequence =
           (selected_before (made_in sequence)) (state_after sequence).selection)
           (sym is.switch)
           (subst
-          (λ (selection : Selection). RightlyDecided (recorded sequence) (state_after sequence).time (made_in sequence)
+          (λ (selection : Option InputNumber). RightlyDecided (recorded sequence) (state_after sequence).time (made_in sequence)
           (decided_by (made_in sequence)).switch (selected_before (made_in sequence)) selection)
           (sym is.selection)
           (decided-right (recorded sequence) (state_after sequence).time (made_in sequence) is.made_at));

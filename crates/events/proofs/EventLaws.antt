@@ -7,6 +7,7 @@ use native.Mathlib.Omega.{arith}
 use lib.Dec.{eqb, ltb}
 use lib.ListN.{length, get_or, set, get_or-eq_default}
 use borrow.Author.Tests.{eq-eqb, ne_eqb, eqb-false, lt-ltb, le-ltb, le-leb, lt-leb, ltb-true, ltb-false, not-true, not-false}
+use Rattle.std.specs.Prelude.{Option}
 use Rattle.numbers.specs.declared.Event.{Event}
 use Rattle.numbers.specs.declared.kind.InputKind.{InputKind}
 use Rattle.numbers.specs.declared.InputNumber.{InputNumber}
@@ -29,7 +30,6 @@ use Rattle.input.specs.Record.{fresh_input, input_at_moment, after_event, heard_
 use Rattle.choice.specs.declared.Candidate.{Candidate}
 use Rattle.choice.specs.declared.Leader.{Leader}
 use Rattle.choice.specs.declared.Rank.{Rank}
-use Rattle.choice.specs.declared.Selection.{Selection}
 use Rattle.choice.specs.Candidate.{nobody, is_eligible, any_lower}
 use Rattle.choice.specs.Leader.{chosen_among}
 use Rattle.choice.proofs.Leading.{choice-lowest}
@@ -259,7 +259,7 @@ unfolding is_eligible
 nobody_not = refl
 
 -- what a scan finds: the choice has the lowest rank of the eligible ones
-pub scanned-on : (candidates : List Candidate) (before : Selection) (on : ℕ) (own : Candidate) (leader : Leader)
+pub scanned-on : (candidates : List Candidate) (before : Option InputNumber) (on : ℕ) (own : Candidate) (leader : Leader)
     → own ≡ get_or candidates on nobody → leader ≡ chosen_among candidates before → length candidates ≡ 16
     → ScannedOn candidates on own leader.rank
 scanned-on candidates before on own leader seen l sixteen =
@@ -294,7 +294,7 @@ scanned-on candidates before on own leader seen l sixteen =
 -- ---- late_number
 
 module _ (state : Selector) (event : Event) where
-  pub late-judged : (switch : Switch) (own : Candidate) (leader : Leader) (late : ℕ) (before : Selection)
+  pub late-judged : (switch : Switch) (own : Candidate) (leader : Leader) (late : ℕ) (before : Option InputNumber)
       → switch ≡ state.switch
       → own ≡ get_or (seen_all state) event.input nobody
       → leader ≡ chosen_among (seen_all state) before

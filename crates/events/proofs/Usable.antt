@@ -8,6 +8,8 @@ use mathlib.Core.Path.{◌≡◌, refl, sym, ◌∙◌, ap, subst}
 use native.Mathlib.Omega.{arith}
 use lib.Dec.{eqb}
 use borrow.Author.Tests.{eqb-true, ne_eqb, not-false}
+use Rattle.std.specs.Prelude.{Option, Some, None}
+use Rattle.numbers.specs.declared.InputNumber.{InputNumber}
 use Rattle.numbers.specs.declared.quality.Quality.{Quality}
 use Rattle.numbers.specs.declared.profile.Profile.{Profile}
 use Rattle.numbers.specs.declared.profile.Profile.TheVariants as P
@@ -21,8 +23,6 @@ use Rattle.numbers.proofs.Truth.{by_bool, both-second}
 use Rattle.frame.specs.Read.{read_code}
 use Rattle.input.specs.Recorded.{History, tick_event, is_on, last_argument, input_kind, mode_on, floor_of, fixed_of, time_of, priority_of, is_locked_out, PassedAt, passed_at}
 use Rattle.choice.specs.declared.Candidate.{Candidate}
-use Rattle.choice.specs.declared.Selection.{Selection}
-use Rattle.choice.specs.declared.Selection.TheVariants as S
 use Rattle.choice.specs.Candidate as Seen
 use Rattle.choice.specs.Candidate.{is_admitted, ranked_quality, candidate_of, is_eligible}
 use Rattle.choice.specs.Choice.{selected}
@@ -101,10 +101,10 @@ module _ (past : Past) where
       → (number : ℕ) × SelectedPasses past number (passed_at number history (time_of history))
   some-selected usable = go (decided_by past.made).selection refl usable
     where
-      go : (selection : Selection) → (decided_by past.made).selection ≡ selection → (shown past selection).usable ≡ true
+      go : (selection : Option InputNumber) → (decided_by past.made).selection ≡ selection → (shown past selection).usable ≡ true
           → (number : ℕ) × SelectedPasses past number (passed_at number history (time_of history))
-      go S.Nothing e none = absurd (true≢false (sym none))
-      go (S.At number) e here = (
+      go None e none = absurd (true≢false (sym none))
+      go (Some number) e here = (
         number.0,
         record { is_selected = e; passes = passed_at_passes history (time_of history) number.0 },
       )

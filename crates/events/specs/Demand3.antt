@@ -3,7 +3,8 @@
 -- Beside this page: `PassedAt`, the passed quality by recorded events alone, and the settings are in
 -- `input/specs/Recorded`; `recorded` and `made_in`, the events recorded and the choices made in a sequence, in `Past`.
 -- Assumes nothing.
-use Rattle.std.specs.Prelude.{ℕ, ◌≤◌, ◌<◌, true, false, List, [], ◌∷◌, ◌⊎◌, ◌↔◌, ◌≢◌, ◌≡◌}
+use Rattle.std.specs.Prelude.{ℕ, ◌≤◌, ◌<◌, true, false, List, [], ◌∷◌, ◌⊎◌, ◌↔◌, ◌≢◌, ◌≡◌, Option, None}
+use Rattle.numbers.specs.declared.InputNumber.{InputNumber}
 use Rattle.numbers.specs.declared.quality.Quality.{Quality}
 use Rattle.numbers.specs.Inputs.{input_count}
 use Rattle.numbers.specs.Kind.{kind_forced, kind_manual}
@@ -11,8 +12,6 @@ use Rattle.numbers.specs.From.{profile_of}
 use Rattle.numbers.specs.Profile.{prov_place_of}
 use Rattle.numbers.specs.Quality.{failed}
 use Rattle.input.specs.Recorded.{History, mode_on, priority_of, is_locked_out, floor_of, PassedAt}
-use Rattle.choice.specs.declared.Selection.{Selection}
-use Rattle.choice.specs.declared.Selection.TheVariants as S
 use Rattle.choice.specs.Rank.{rank_of, Within}
 use Rattle.choice.specs.Choice.{selected}
 use Rattle.switch.specs.declared.Switch.{Switch}
@@ -63,9 +62,9 @@ Better history time number other =
 
 -- ---- what is selected with no switch standing, where `before` was selected at the choice just before
 
-pub record RightlyChosen (history : History) (time : ℕ) (before selection : Selection) : Type 0 where
+pub record RightlyChosen (history : History) (time : ℕ) (before selection : Option InputNumber) : Type 0 where
   -- nothing exactly if no input is eligible
-  pub nothing : (selection ≡ S.Nothing) ↔ ((number : ℕ) → Eligible history time number → ⊥)
+  pub nothing : (selection ≡ None) ↔ ((number : ℕ) → Eligible history time number → ⊥)
   -- the selected input is eligible
   pub eligible : (number : ℕ) → selection ≡ selected number → Eligible history time number
   -- and no eligible one is better
@@ -116,7 +115,7 @@ StandsManual = Stands kind_manual Unsurpassed
 
 -- the switch that stands and what is selected are right, by recorded events at a time, after the choices made
 pub record RightlyDecided
-    (history : History) (time : ℕ) (made : List Made) (switch : Switch) (before selection : Selection) : Type 0 where
+    (history : History) (time : ℕ) (made : List Made) (switch : Switch) (before selection : Option InputNumber) : Type 0 where
   -- a switch stands exactly as said
   pub forced : (on : ℕ) → (switch ≡ forced_on on) ↔ StandsForced on made
   pub manual : (on : ℕ) → (switch ≡ manual_on on) ↔ StandsManual on made
@@ -127,12 +126,12 @@ pub record RightlyDecided
   pub chosen : switch ≡ W.Nothing → RightlyChosen history time before selection
 
 -- what was selected at the choice just before the latest
-abbrev pub selected_before : List Made → Selection
+abbrev pub selected_before : List Made → Option InputNumber
 selected_before made = (decided_by (choices_ago 1 made)).selection
 
 -- right at the latest of some choices, by what had been recorded then; before any, no switch and nothing selected
 abbrev pub RightAt : List Made → Type 0
-RightAt [] = ((decided_by []).switch ≡ W.Nothing) × ((decided_by []).selection ≡ S.Nothing)
+RightAt [] = ((decided_by []).switch ≡ W.Nothing) × ((decided_by []).selection ≡ None)
 RightAt (choice ∷ earlier) =
     RightlyDecided choice.history choice.time (choice ∷ earlier) (decided_by (choice ∷ earlier)).switch
     (selected_before (choice ∷ earlier)) (decided_by (choice ∷ earlier)).selection

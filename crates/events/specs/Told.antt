@@ -1,7 +1,8 @@
 -- Document 01, "Choosing" and the answer line, by what has happened alone: what is answered to an event, and the
 -- sixteen codes and words that go out after it.
 -- Assumes nothing.
-use Rattle.std.specs.Prelude.{ℕ, Bool, List, map, eqb}
+use Rattle.std.specs.Prelude.{ℕ, Bool, List, map, eqb, Option, Some, None}
+use Rattle.numbers.specs.declared.InputNumber.{InputNumber}
 use Rattle.numbers.specs.declared.Answer.{Answer}
 use Rattle.numbers.specs.declared.quality.Quality.{Quality}
 use Rattle.numbers.specs.From.{profile_of}
@@ -9,16 +10,14 @@ use Rattle.numbers.specs.Profile.{limits_of, marks_of, is_marked, told_by}
 use Rattle.numbers.specs.Codes.{code_of_quality, word_of_quality}
 use Rattle.input.specs.Recorded.{mode_on, is_sending, time_of}
 use Rattle.choice.specs.declared.Candidate.{Candidate}
-use Rattle.choice.specs.declared.Selection.{Selection}
-use Rattle.choice.specs.declared.Selection.TheVariants as S
 use Rattle.choice.specs.Candidate.{nobody}
 use Rattle.selector.specs.Clock.{clock_state, clock_quality, outgoing_code, outgoing_word, selected_number, switch_number, switch_input, ports}
 use Rattle.events.specs.Past.{Past, candidate_by, decided_by}
 
 -- an input as the recorded events show it at the time of the last of them; none where nothing is selected
-abbrev pub shown : Past → Selection → Candidate
-shown past S.Nothing = nobody
-shown past (S.At number) = candidate_by past.history (time_of past.history) number.0
+abbrev pub shown : Past → Option InputNumber → Candidate
+shown past None = nobody
+shown past (Some number) = candidate_by past.history (time_of past.history) number.0
 
 -- the selected input
 abbrev pub candidate_selected : Past → Candidate

@@ -5,13 +5,13 @@ use mathlib.Core.Bool.{Bool, true, false}
 use mathlib.Core.List.{List, map}
 use mathlib.Core.Path.{◌≡◌, ap, ◌∙◌}
 use lib.ListN.{length, get_or, replicate}
+use Rattle.std.specs.Prelude.{Option, None}
+use Rattle.numbers.specs.declared.InputNumber.{InputNumber}
 use Rattle.input.specs.declared.Input.{Input}
 use Rattle.numbers.specs.declared.profile.Profile.{Profile}
 use Rattle.input.specs.Record.{fresh_input, input_brought_to}
 use Rattle.choice.specs.declared.Candidate.{Candidate}
 use Rattle.choice.specs.declared.Leader.{Leader}
-use Rattle.choice.specs.declared.Selection.{Selection}
-use Rattle.choice.specs.declared.Selection.TheVariants as S
 use Rattle.choice.specs.Candidate.{nobody}
 use Rattle.choice.specs.Leader.{chosen_among}
 use Rattle.switch.specs.declared.AfterChoice.{AfterChoice}
@@ -40,7 +40,7 @@ switch-seen candidates (W.Forced on) own o = λ inside. o
 switch-seen candidates (W.Manual on) own o = λ inside. o
 
 -- a choice made of what a state on an input has, and held
-pub chosen : (state after : Selector) (choice : AfterChoice) (switch : Switch) (selection : Selection) (waslocked : Bool)
+pub chosen : (state after : Selector) (choice : AfterChoice) (switch : Switch) (selection : Option InputNumber) (waslocked : Bool)
     (number : ℕ) (own : Candidate) (leader : Leader)
     → On state.switch
     → length state.inputs ≡ 16
@@ -90,7 +90,7 @@ pub fresh-stored : (state inputs timed commanded chosen after : Selector) (profi
     → timed ≡ with_time inputs 0
     → commanded ≡ with_command timed true (held_switch W.Nothing)
     → chosen
-    ≡ with_choice commanded (held_choice (record { switch = W.Nothing; selection = S.Nothing; waslocked = false }))
+    ≡ with_choice commanded (held_choice (record { switch = W.Nothing; selection = None; waslocked = false }))
     → after ≡ with_profile chosen profile
     → after ≡ fresh_selector profile
 unfolding switch_of selection_of is_selected switch_number switch_input selected_number
@@ -100,7 +100,7 @@ fresh-stored state inputs timed commanded chosen after profile i t d c p =
     (c ∙
     ap
     (λ (one : Selector). with_choice one
-    (held_choice (record { switch = W.Nothing; selection = S.Nothing; waslocked = false })))
+    (held_choice (record { switch = W.Nothing; selection = None; waslocked = false })))
     (d ∙
     ap (λ (one : Selector). with_command one true (held_switch W.Nothing))
     (t ∙ ap (λ (one : Selector). with_time one 0) i)))

@@ -7,13 +7,12 @@ use mathlib.Core.Path.{◌≡◌, refl}
 use native.Mathlib.Omega.{arith}
 use lib.Dec.{eqb, ltb}
 use borrow.Author.Tests.{ltb-false, lt-ltb, le-ltb, eq-eqb, ne_eqb}
+use Rattle.std.specs.Prelude.{Option, Some, None}
 use Rattle.numbers.specs.declared.InputNumber.{InputNumber}
 use Rattle.numbers.specs.Inputs.{last_input, input_count}
 use Rattle.numbers.specs.Kind.{kind_forced, kind_manual, kind_clear_switch}
 use Rattle.numbers.proofs.Truth.{by_bool}
 use Rattle.choice.specs.declared.Candidate.{Candidate}
-use Rattle.choice.specs.declared.Selection.{Selection}
-use Rattle.choice.specs.declared.Selection.TheVariants as S
 use Rattle.choice.specs.Candidate.{eligible_among, better_among}
 use Rattle.choice.proofs.Choosing.{Inside, choose-inside}
 use Rattle.switch.specs.declared.Switch.{Switch}
@@ -51,26 +50,26 @@ pub ruleset switchOf-laws = (switch_of_nowhere, switch_of-forced, switch_of-manu
 -- ---- selection_of, is_selected
 
 module _ (selection : ℕ) (number : InputNumber) where
-  pub selection_of_nowhere : last_input < number.0 → S.Nothing ≡ selection_of selection number
+  pub selection_of_nowhere : last_input < number.0 → None ≡ selection_of selection number
   unfolding selection_of
   selection_of_nowhere p = rw (lt-ltb _ _ p)
 
-  pub selection_of-nothing : number.0 ≤ last_input → selection ≡ 0 → S.Nothing ≡ selection_of selection number
+  pub selection_of-nothing : number.0 ≤ last_input → selection ≡ 0 → None ≡ selection_of selection number
   unfolding selection_of
   selection_of-nothing p e = rw (le-ltb _ _ p, eq-eqb _ _ e)
 
-  pub selection_of-at : number.0 ≤ last_input → (selection ≡ 0 → ⊥) → S.At number ≡ selection_of selection number
+  pub selection_of-at : number.0 ≤ last_input → (selection ≡ 0 → ⊥) → Some number ≡ selection_of selection number
   unfolding selection_of
   selection_of-at p n = rw (le-ltb _ _ p, ne_eqb _ _ n)
 
 pub ruleset selectionOf-laws = (selection_of_nowhere, selection_of-nothing, selection_of-at)
 
-module _ (selection : Selection) where
-  pub is_selected-nothing : selection ≡ S.Nothing → 0 ≡ is_selected selection
+module _ (selection : Option InputNumber) where
+  pub is_selected-nothing : selection ≡ None → 0 ≡ is_selected selection
   unfolding is_selected
   is_selected-nothing e = rw e
 
-  pub is_selected-at : (number : InputNumber) → selection ≡ S.At number → 1 ≡ is_selected selection
+  pub is_selected-at : (number : InputNumber) → selection ≡ Some number → 1 ≡ is_selected selection
   unfolding is_selected
   is_selected-at number e = rw e
 
@@ -106,7 +105,7 @@ selection_of-inside selection number =
     by_bool (ltb last_input number.0) (λ past. rw past tt)
     (λ there. rw there (go (eqb selection 0) (omega (arith, ltb-false last_input number.0 there))))
   where
-    go : (none : Bool) → number.0 < input_count → Inside (cond none S.Nothing (S.At number))
+    go : (none : Bool) → number.0 < input_count → Inside (cond none None (Some number))
     go true few = tt
     go false few = few
 
@@ -118,7 +117,7 @@ judged-on candidates W.Nothing on = tt
 judged-on candidates (W.Forced number) on = kept_on (forced_may_stand candidates number.0) (W.Forced number) on
 judged-on candidates (W.Manual number) on = kept_on (manual_may_stand candidates number.0) (W.Manual number) on
 
-pub selected_by-inside : (candidates : List Candidate) (switch : Switch) (before : Selection) → On switch
+pub selected_by-inside : (candidates : List Candidate) (switch : Switch) (before : Option InputNumber) → On switch
     → Inside (selected_by candidates switch before)
 unfolding selected_by
 selected_by-inside candidates W.Nothing before on =
@@ -149,14 +148,14 @@ switch_of-back W.Nothing on = refl
 switch_of-back (W.Forced number) on = rw (le-ltb last_input number.0 (omega arith))
 switch_of-back (W.Manual number) on = rw (le-ltb last_input number.0 (omega arith))
 
-pub selection_of-back : (selection : Selection) → Inside selection
+pub selection_of-back : (selection : Option InputNumber) → Inside selection
     → selection_of (is_selected selection) (record { 0 = selected_number selection }) ≡ selection
 unfolding selection_of is_selected selected_number
-selection_of-back S.Nothing inside = refl
-selection_of-back (S.At number) inside = rw (le-ltb last_input number.0 (omega arith))
+selection_of-back None inside = refl
+selection_of-back (Some number) inside = rw (le-ltb last_input number.0 (omega arith))
 
 -- a choice from a switch on an input
-pub choice-again : (candidates : List Candidate) (switch : Switch) (selection : Selection) (waslocked : Bool) → On switch
+pub choice-again : (candidates : List Candidate) (switch : Switch) (selection : Option InputNumber) (waslocked : Bool) → On switch
     → held_choice (decide candidates switch selection waslocked) ≡ decide candidates switch selection waslocked
 unfolding decide
 choice-again candidates switch selection waslocked on =

@@ -7,6 +7,7 @@ use native.Mathlib.Omega.{arith}
 use native.Mathlib.Nat.{add-zero}
 use lib.Dec.{eqb}
 use lib.ListN.{get_or, set, length, replicate}
+use Rattle.std.specs.Prelude.{Option, Some}
 use Rattle.numbers.specs.declared.Answer.{Answer}
 use Rattle.numbers.specs.declared.InputNumber.{InputNumber}
 use Rattle.numbers.specs.declared.profile.Profile.{Profile}
@@ -18,8 +19,6 @@ use Rattle.input.specs.declared.Input.{Input}
 use Rattle.input.specs.Record.{fresh_input, with_run, input_brought_to, input_at_moment}
 use Rattle.choice.specs.declared.Candidate.{Candidate}
 use Rattle.choice.specs.declared.Leader.{Leader}
-use Rattle.choice.specs.declared.Selection.{Selection}
-use Rattle.choice.specs.declared.Selection.TheVariants as S
 use Rattle.choice.specs.Candidate.{nobody, eligible_among}
 use Rattle.choice.specs.Choice.{seeded}
 use Rattle.choice.specs.Leader.{seed, offer, chosen_among, SeenAt}
@@ -153,7 +152,7 @@ module _ (times small wider : List ℕ) (at : ℕ) (input : Input) (seen : input
   seen_at d = seen ∙ sym (inputs-at times small wider at d h)
 
   -- and is offered to a choice
-  pub leader-turn : (profile : Profile) (mode : Bool) (before : Selection) (leader next : Leader) (candidate : Candidate)
+  pub leader-turn : (profile : Profile) (mode : Bool) (before : Option InputNumber) (leader next : Leader) (candidate : Candidate)
       → leader ≡ leads_after (candidates_of profile (selector_at times small wider).inputs mode) at before
       → candidate ≡ candidate_for profile mode input → next ≡ offer leader (record { 0 = at }) candidate
       → next ≡ leads_after (candidates_of profile (selector_at times small wider).inputs mode) (at + 1) before
@@ -213,7 +212,7 @@ candidate-outside times small wider number h =
     (selector_at times small wider).inputs number h (inputs-length times small wider)
 
 -- the choice before its loop, and after it
-pub leader-begin : (times small wider : List ℕ) (profile : Profile) (mode : Bool) (before : Selection) (number : ℕ)
+pub leader-begin : (times small wider : List ℕ) (profile : Profile) (mode : Bool) (before : Option InputNumber) (number : ℕ)
     (seen : Candidate) (leader : Leader)
     → profile ≡ (selector_at times small wider).profile → mode ≡ (selector_at times small wider).mode
     → number ≡ selected_number before → seen ≡ get_or (seen_all (selector_at times small wider)) number nobody
@@ -227,10 +226,10 @@ leader-begin times small wider profile mode before number seen leader p m n s l 
     all : List Candidate
     all = seen_all (selector_at times small wider)
 
-    sees : (earlier : InputNumber) → before ≡ S.At earlier → SeenAt all earlier seen
+    sees : (earlier : InputNumber) → before ≡ Some earlier → SeenAt all earlier seen
     sees earlier is inside = s ∙ ap (λ x. get_or all x nobody) (n ∙ ap selected_number is)
 
-pub leader-end : (times small wider : List ℕ) (profile : Profile) (mode : Bool) (before : Selection) (leader : Leader)
+pub leader-end : (times small wider : List ℕ) (profile : Profile) (mode : Bool) (before : Option InputNumber) (leader : Leader)
     (at : ℕ)
     → leader ≡ leads_after (candidates_of profile (selector_at times small wider).inputs mode) at before
     → profile ≡ (selector_at times small wider).profile → mode ≡ (selector_at times small wider).mode → at ≤ 16 → 16 ≤ at

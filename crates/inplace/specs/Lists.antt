@@ -1,6 +1,6 @@
 -- The state as three lists of numbers, and the selector that they hold. Of each list sixteen numbers, one of each
 -- input, stand for a field; behind them what stands once. Cited by `src/lib.rt`. Assumes nothing.
-use Rattle.std.specs.Prelude.{ℕ, ◌+◌, ◌*◌, Bool, not, cond, List, map, eqb, ltb, get_or, set}
+use Rattle.std.specs.Prelude.{ℕ, ◌+◌, ◌*◌, Bool, not, cond, List, map, eqb, ltb, get_or, set, Option, Some, None}
 use Rattle.numbers.specs.declared.InputNumber.{InputNumber}
 use Rattle.numbers.specs.declared.profile.Profile.{Profile}
 use Rattle.numbers.specs.Inputs.{last_input}
@@ -12,8 +12,6 @@ use Rattle.input.specs.declared.Heard.{Heard}
 use Rattle.input.specs.declared.Settings.{Settings}
 use Rattle.input.specs.declared.Input.{Input}
 use Rattle.input.specs.Record.{fresh_input}
-use Rattle.choice.specs.declared.Selection.{Selection}
-use Rattle.choice.specs.declared.Selection.TheVariants as S
 use Rattle.switch.specs.declared.AfterChoice.{AfterChoice}
 use Rattle.switch.specs.declared.Switch.{Switch}
 use Rattle.switch.specs.declared.Switch.TheVariants as W
@@ -81,16 +79,16 @@ switch_of kind on =
     W.Nothing))
 
 -- what is selected, of whether anything is and its input; nothing where there is no such input
-unfoldable pub selection_of : ℕ → InputNumber → Selection
+unfoldable pub selection_of : ℕ → InputNumber → Option InputNumber
 selection_of selection number =
-    cond (ltb last_input number.0) S.Nothing
-    (cond (eqb selection 0) S.Nothing
-    (S.At number))
+    cond (ltb last_input number.0) None
+    (cond (eqb selection 0) None
+    (Some number))
 
 -- 1 where an input is selected
-unfoldable pub is_selected : Selection → ℕ
-is_selected S.Nothing = 0
-is_selected (S.At number) = 1
+unfoldable pub is_selected : Option InputNumber → ℕ
+is_selected None = 0
+is_selected (Some number) = 1
 
 -- a state, of its inputs and what stands once
 abbrev pub selector_in : List Input → (ℕ → ℕ) → (ℕ → ℕ) → (ℕ → ℕ) → Selector

@@ -15,7 +15,6 @@ ghost use Rattle.numbers.specs.Refusal.{accepted};
 ghost use Rattle.inplace.specs.Lists.{selector_at, with_inputs};
 ghost use Rattle.events.specs.Step.{inputs_after, at_its_moment, stepped, early_number, late_number, step_ticked, step_read, step};
 
-use choice::Selection;
 use events::{
     commanded, early_refusal, input_after, is_judged_late, late_refusal, mode_after, recorded_event,
 };
@@ -96,7 +95,7 @@ fn late_at(times: &[u64; TIMES], small: &[u8; SMALL], wider: &[u16; WIDER], even
 {
     if is_judged_late(event.kind) {
         let own = candidate_at(times, small, wider, InputNumber(event.input));
-        let leader = leader_at(times, small, wider, Selection::Nothing);
+        let leader = leader_at(times, small, wider, None);
         let best = leader.rank;
         let switch = switch_at(small);
         return late_refusal(own, best, switch, event.kind);

@@ -9,6 +9,8 @@ use lib.Dec.{eqb}
 use lib.ListN.{get_or, set, get_or-map}
 use lib.Seq.{map-set_same}
 use borrow.Author.Tests.{eqb-false}
+use Rattle.std.specs.Prelude.{Option, Some, None}
+use Rattle.numbers.specs.declared.InputNumber.{InputNumber}
 use Rattle.numbers.specs.declared.Event.{Event}
 use Rattle.numbers.specs.declared.profile.Profile.{Profile}
 use Rattle.numbers.specs.Kind.{kind_forced, kind_manual, kind_clear_switch, kind_quality_mode}
@@ -19,8 +21,6 @@ use Rattle.input.specs.declared.Input.{Input}
 use Rattle.input.specs.Record.{fresh_input}
 use Rattle.choice.specs.declared.Candidate.{Candidate}
 use Rattle.choice.specs.declared.Seen.{Seen}
-use Rattle.choice.specs.declared.Selection.{Selection}
-use Rattle.choice.specs.declared.Selection.TheVariants as S
 use Rattle.choice.specs.Candidate.{candidate_of}
 use Rattle.choice.proofs.Ranks.{is_like-same}
 use Rattle.switch.specs.Choices.{commanded}
@@ -109,12 +109,12 @@ module _ (state : Selector) (event : Event) (input : Input) where
         candidates-same
         ∙ get_or-map (candidate_for state.profile state.mode) state.inputs number fresh_input
 
-    selected-same : (selection : Selection)
+    selected-same : (selection : Option InputNumber)
         → selected_candidate state.profile (set state.inputs event.input input) state.mode selection
         ≡ selected_candidate state.profile state.inputs state.mode selection
     unfolding selected_candidate
-    selected-same S.Nothing = refl
-    selected-same (S.At number) = candidate-same number.0
+    selected-same None = refl
+    selected-same (Some number) = candidate-same number.0
 
     -- and so does what is answered
     pub answer-same : (number : ℕ) → answer_of number (own_with state event input) ≡ answer_of number state

@@ -5,11 +5,12 @@ use mathlib.Core.List.{List, [], ◌∷◌, map}
 use mathlib.Core.Path.{◌≡◌, refl, ap, sym, ◌∙◌}
 use native.Mathlib.Omega.{arith}
 use lib.ListN.{length, get_or, get_or-eq_default}
+use Rattle.std.specs.Prelude.{Option}
+use Rattle.numbers.specs.declared.InputNumber.{InputNumber}
 use Rattle.numbers.specs.declared.profile.Profile.{Profile}
 use Rattle.input.specs.declared.Input.{Input}
 use Rattle.choice.specs.declared.Candidate.{Candidate}
 use Rattle.choice.specs.declared.Leader.{Leader}
-use Rattle.choice.specs.declared.Selection.{Selection}
 use Rattle.choice.specs.Candidate.{nobody, eligible_among, better_among}
 use Rattle.choice.specs.Choice.{seeded, scanned}
 use Rattle.choice.specs.Leader.{offer, leader_among, chosen_among}
@@ -32,7 +33,7 @@ map-length f [] = refl
 map-length f (x ∷ list) = ap suc (map-length f list)
 
 -- what leads once the first `count` of candidates have been offered
-abbrev pub leads_after : List Candidate → ℕ → Selection → Leader
+abbrev pub leads_after : List Candidate → ℕ → Option InputNumber → Leader
 leads_after candidates count before =
     leader_among candidates
     (scanned (eligible_among candidates) (better_among candidates) count (seeded (eligible_among candidates) before))
@@ -49,7 +50,7 @@ module _ (profile : Profile) (mode : Bool) (inputs : List Input) (zeroed : Input
       c ∙ get_d_seen (candidate_for profile mode) inputs number zeroed nobody m
 
   -- a turn of the loop
-  pub leader-more : (before : Selection) (leader next : Leader) (count : ℕ) (candidate : Candidate)
+  pub leader-more : (before : Option InputNumber) (leader next : Leader) (count : ℕ) (candidate : Candidate)
       → leader ≡ leads_after all count before
       → candidate ≡ candidate_for profile mode (get_or inputs count zeroed) → next ≡ offer leader (record { 0 = count }) candidate
       → count < 16 → length inputs ≡ 16 → next ≡ leads_after all (count + 1) before
@@ -58,12 +59,12 @@ module _ (profile : Profile) (mode : Bool) (inputs : List Input) (zeroed : Input
       (seen_one count candidate c h k) o
 
 -- the loop's end
-pub leader-done : (candidates : List Candidate) (before : Selection) (leader : Leader) (count : ℕ)
+pub leader-done : (candidates : List Candidate) (before : Option InputNumber) (leader : Leader) (count : ℕ)
     → leader ≡ leads_after candidates count before → count ≤ 16 → 16 ≤ count → leader ≡ chosen_among candidates before
 leader-done = scan_all
 
 -- and the choice made of it
-pub decided-one : (profile : Profile) (mode : Bool) (inputs : List Input) (switch : Switch) (before : Selection)
+pub decided-one : (profile : Profile) (mode : Bool) (inputs : List Input) (switch : Switch) (before : Option InputNumber)
     (waslocked : Bool) (own : Candidate) (leader : Leader) (choice : AfterChoice)
     → SeenOn (candidates_of profile inputs mode) switch own
     → leader ≡ chosen_among (candidates_of profile inputs mode) before

@@ -7,6 +7,7 @@ use native.Mathlib.Omega.{arith}
 use native.Mathlib.Numerals.{add-one}
 use lib.Dec.{eqb}
 use lib.ListN.{length, get_or, set}
+use Rattle.std.specs.Prelude.{Option, Some, None}
 use Rattle.numbers.specs.declared.InputNumber.{InputNumber}
 use Rattle.numbers.specs.declared.profile.Profile.{Profile}
 use Rattle.numbers.specs.declared.quality.Quality.{Quality}
@@ -16,8 +17,6 @@ use Rattle.numbers.specs.Codes.{code_dnu, word_stu, word_dus}
 use Rattle.input.specs.declared.Input.{Input}
 use Rattle.input.specs.Record.{fresh_input}
 use Rattle.choice.specs.declared.Candidate.{Candidate}
-use Rattle.choice.specs.declared.Selection.{Selection}
-use Rattle.choice.specs.declared.Selection.TheVariants as S
 use Rattle.choice.specs.Candidate.{nobody}
 use Rattle.switch.specs.declared.Switch.{Switch}
 use Rattle.switch.specs.declared.Switch.TheVariants as W
@@ -53,12 +52,12 @@ module _ (inputs : List Input) (number : ℕ) where
 
 -- ---- selected_candidate
 
-module _ (profile : Profile) (inputs : List Input) (mode : Bool) (selection : Selection) where
-  pub selected_candidate-nothing : selection ≡ S.Nothing → nobody ≡ selected_candidate profile inputs mode selection
+module _ (profile : Profile) (inputs : List Input) (mode : Bool) (selection : Option InputNumber) where
+  pub selected_candidate-nothing : selection ≡ None → nobody ≡ selected_candidate profile inputs mode selection
   unfolding selected_candidate
   selected_candidate-nothing s = rw s
 
-  pub selected_candidate-at : (number : InputNumber) (input : Input) (candidate : Candidate) → selection ≡ S.At number
+  pub selected_candidate-at : (number : InputNumber) (input : Input) (candidate : Candidate) → selection ≡ Some number
       → input ≡ get_or inputs number.0 fresh_input → candidate ≡ candidate_for profile mode input
       → candidate ≡ selected_candidate profile inputs mode selection
   unfolding selected_candidate
@@ -143,11 +142,11 @@ pub ruleset outgoingWord-laws = (outgoing_word-silent, outgoing_word-off, outgoi
 
 -- ---- selected_number, switch_number, switch_input
 
-pub selected_number-nothing : (selection : Selection) → selection ≡ S.Nothing → no_input ≡ selected_number selection
+pub selected_number-nothing : (selection : Option InputNumber) → selection ≡ None → no_input ≡ selected_number selection
 unfolding selected_number
 selected_number-nothing selection s = rw s
 
-pub selected_number-at : (selection : Selection) (number : InputNumber) → selection ≡ S.At number
+pub selected_number-at : (selection : Option InputNumber) (number : InputNumber) → selection ≡ Some number
     → number.0 ≡ selected_number selection
 unfolding selected_number
 selected_number-at selection number s = rw s

@@ -1,5 +1,6 @@
 -- What is answered of a state, and its outgoing codes. Cited by `src/lib.rt`. Assumes nothing.
-use Rattle.std.specs.Prelude.{ℕ, Bool, true, cond, List, map, eqb, get_or}
+use Rattle.std.specs.Prelude.{ℕ, Bool, true, cond, List, map, eqb, get_or, Option, Some, None}
+use Rattle.numbers.specs.declared.InputNumber.{InputNumber}
 use Rattle.numbers.specs.declared.Answer.{Answer}
 use Rattle.numbers.specs.declared.quality.Quality.{Quality}
 use Rattle.numbers.specs.declared.profile.Profile.{Profile}
@@ -8,8 +9,6 @@ use Rattle.numbers.specs.Codes.{code_of_quality, word_of_quality}
 use Rattle.input.specs.declared.Input.{Input}
 use Rattle.input.specs.Record.{fresh_input}
 use Rattle.choice.specs.declared.Candidate.{Candidate}
-use Rattle.choice.specs.declared.Selection.{Selection}
-use Rattle.choice.specs.declared.Selection.TheVariants as S
 use Rattle.choice.specs.Candidate.{nobody}
 use Rattle.selector.specs.declared.Selector.{Selector}
 use Rattle.selector.specs.State.{candidate_for}
@@ -20,9 +19,9 @@ abbrev pub candidate_at : Profile → List Input → Bool → ℕ → Candidate
 candidate_at profile inputs mode number = candidate_for profile mode (get_or inputs number fresh_input)
 
 -- the selected input as a choice sees it
-unfoldable pub selected_candidate : Profile → List Input → Bool → Selection → Candidate
-selected_candidate profile inputs mode S.Nothing = nobody
-selected_candidate profile inputs mode (S.At number) = candidate_at profile inputs mode number.0
+unfoldable pub selected_candidate : Profile → List Input → Bool → Option InputNumber → Candidate
+selected_candidate profile inputs mode None = nobody
+selected_candidate profile inputs mode (Some number) = candidate_at profile inputs mode number.0
 
 -- the clock state of a selector
 abbrev pub state_of : Selector → ℕ

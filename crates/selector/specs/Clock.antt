@@ -1,12 +1,11 @@
 -- Document 01, "Choosing" on clock state, clock quality and outgoing code, and the values of the answer line. Cited by
 -- `src/lib.rt`. Assumes nothing.
-use Rattle.std.specs.Prelude.{ℕ, Bool, not, ◌||◌, cond, List, [], ◌∷◌}
+use Rattle.std.specs.Prelude.{ℕ, Bool, not, ◌||◌, cond, List, [], ◌∷◌, Option, Some, None}
+use Rattle.numbers.specs.declared.InputNumber.{InputNumber}
 use Rattle.numbers.specs.declared.quality.Quality.{Quality}
 use Rattle.numbers.specs.Quality.{not_told}
 use Rattle.numbers.specs.Codes.{code_dnu, word_stu, word_dus}
 use Rattle.choice.specs.declared.Candidate.{Candidate}
-use Rattle.choice.specs.declared.Selection.{Selection}
-use Rattle.choice.specs.declared.Selection.TheVariants as S
 use Rattle.switch.specs.declared.Switch.{Switch}
 use Rattle.switch.specs.declared.Switch.TheVariants as W
 
@@ -54,9 +53,9 @@ outgoing_word mode sending is_selected word =
     word)
 
 -- "selected input or ff"
-unfoldable pub selected_number : Selection → ℕ
-selected_number S.Nothing = no_input
-selected_number (S.At number) = number.0
+unfoldable pub selected_number : Option InputNumber → ℕ
+selected_number None = no_input
+selected_number (Some number) = number.0
 
 -- "00 none"
 abbrev pub switch_none : ℕ

@@ -1,6 +1,6 @@
 -- Document 01, "The sixteen inputs" and "Choosing": the state, and what a choice and a tick make of it. Cited by
 -- `src/lib.rt`. Assumes nothing.
-use Rattle.std.specs.Prelude.{ℕ, Bool, true, false, List, map, replicate}
+use Rattle.std.specs.Prelude.{ℕ, Bool, true, false, List, map, replicate, None}
 use Rattle.numbers.specs.Inputs.{input_count}
 use Rattle.numbers.specs.declared.profile.Profile.{Profile}
 use Rattle.numbers.specs.Profile.{limits_of, prov_place_of, floor_in}
@@ -8,7 +8,6 @@ use Rattle.input.specs.declared.Input.{Input}
 use Rattle.input.specs.Record.{fresh_input, input_brought_to, passed_of}
 use Rattle.choice.specs.declared.Candidate.{Candidate}
 use Rattle.choice.specs.declared.Seen.{Seen}
-use Rattle.choice.specs.declared.Selection.TheVariants as S
 use Rattle.choice.specs.Candidate.{candidate_of}
 use Rattle.switch.specs.declared.AfterChoice.{AfterChoice}
 use Rattle.switch.specs.declared.Switch.TheVariants as W
@@ -22,7 +21,7 @@ fresh_selector profile =
       inputs = replicate input_count fresh_input;
       time = 0;
       switch = W.Nothing;
-      selection = S.Nothing;
+      selection = None;
       profile = profile;
       mode = true;
       waslocked = false;

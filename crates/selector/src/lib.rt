@@ -9,8 +9,9 @@ ghost use Rattle.std.specs.Prelude.{◌≡◌, cond};
 ghost use Rattle.selector.specs.State.{seen_of, candidate_for};
 ghost use Rattle.selector.specs.Answer.{selected_number, switch_number, switch_input, clock_state, clock_quality, outgoing_code, outgoing_word};
 
-use choice::{Candidate, Seen, Selection, candidate_of};
+use choice::{Candidate, Seen, candidate_of};
 use input::Input;
+use numbers::InputNumber;
 use numbers::profile::{Profile, floor_in, limits_of, prov_place_of};
 use numbers::quality::{CODE_DNU, NOT_TOLD, Quality, WORD_DUS, WORD_STU};
 use switch::Switch;
@@ -39,7 +40,7 @@ pub struct Selector {
     pub inputs: [Input; 16],
     pub time: u64,
     pub switch: Switch,
-    pub selection: Selection,
+    pub selection: Option<InputNumber>,
     pub profile: Profile,
     pub mode: bool,
     pub waslocked: bool,
@@ -153,12 +154,12 @@ pub fn outgoing_code(mode: bool, sending: bool, selected: bool, code: u8) -> u8
 }
 
 // The selected input, as an answer names it.
-pub fn selected_number(selection: Selection) -> u8
+pub fn selected_number(selection: Option<InputNumber>) -> u8
     ensures { result ≡ selected_number selection }
 {
     match selection {
-        Selection::Nothing => NO_INPUT,
-        Selection::At(number) => number.0,
+        None => NO_INPUT,
+        Some(number) => number.0,
     }
 }
 

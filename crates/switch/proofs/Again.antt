@@ -5,9 +5,10 @@ use mathlib.Core.List.{List, ◌∷◌}
 use mathlib.Core.Path.{◌≡◌, refl, ◌∙◌}
 use mathlib.Core.Logic.{⊎_elim}
 use native.Mathlib.Omega.{arith}
+use Rattle.std.specs.Prelude.{Option}
+use Rattle.numbers.specs.declared.InputNumber.{InputNumber}
 use Rattle.numbers.specs.Kind.{kind_tick}
 use Rattle.choice.specs.declared.Candidate.{Candidate}
-use Rattle.choice.specs.declared.Selection.{Selection}
 use Rattle.choice.specs.Candidate.{eligible_among, better_among}
 use Rattle.choice.proofs.Choosing.{choose-again}
 use Rattle.choice.proofs.Ranks.{is_better_ranking}
@@ -29,7 +30,7 @@ judged-again candidates switch =
     go false x = judged-stands candidates W.Nothing
 
 -- what is selected is selected again
-pub selected_by-again : (candidates : List Candidate) (switch : Switch) (before : Selection)
+pub selected_by-again : (candidates : List Candidate) (switch : Switch) (before : Option InputNumber)
     → selected_by candidates switch (selected_by candidates switch before) ≡ selected_by candidates switch before
 unfolding selected_by
 selected_by-again candidates W.Nothing before =
@@ -44,7 +45,7 @@ was_locked-again waslocked false = refl
 
 -- ---- the theorems
 
-module _ (candidates : List Candidate) (switch : Switch) (before : Selection) (waslocked : Bool) where
+module _ (candidates : List Candidate) (switch : Switch) (before : Option InputNumber) (waslocked : Bool) where
   -- deciding again changes nothing
   pub decided-again :
       decide candidates (decide candidates switch before waslocked).switch (decide candidates switch before waslocked).selection

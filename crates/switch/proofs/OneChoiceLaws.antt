@@ -5,13 +5,12 @@ use mathlib.Core.List.{List}
 use mathlib.Core.Path.{◌≡◌, ◌∙◌}
 use lib.Dec.{leb}
 use borrow.Author.Tests.{lt-ltb, le-ltb}
+use Rattle.std.specs.Prelude.{Option, Some, None}
 use Rattle.numbers.specs.declared.InputNumber.{InputNumber}
 use Rattle.numbers.specs.Inputs.{input_count}
 use Rattle.choice.specs.declared.Candidate.{Candidate}
 use Rattle.choice.specs.declared.Leader.{Leader}
 use Rattle.choice.specs.declared.Rank.{Rank}
-use Rattle.choice.specs.declared.Selection.{Selection}
-use Rattle.choice.specs.declared.Selection.TheVariants as S
 use Rattle.choice.specs.Candidate.{is_eligible}
 use Rattle.switch.specs.declared.Switch.{Switch}
 use Rattle.switch.specs.declared.Switch.TheVariants as W
@@ -19,7 +18,7 @@ use Rattle.switch.specs.declared.AfterChoice.{AfterChoice}
 use Rattle.switch.specs.OneChoice.{selected_by, was_locked}
 use Rattle.switch.specs.OneScan.{may_stand, judged_by, selected_from, any_selected, is_locked_by, decide_by}
 
-abbrev pub after_of : Switch → Selection → Bool → AfterChoice
+abbrev pub after_of : Switch → Option InputNumber → Bool → AfterChoice
 after_of switch selection waslocked = record { switch = switch; selection = selection; waslocked = waslocked }
 
 -- ---- may_stand
@@ -83,16 +82,16 @@ pub ruleset judgedBy-laws = (
 
 -- ---- selected_from
 
-module _ (switch : Switch) (chosen : Selection) where
+module _ (switch : Switch) (chosen : Option InputNumber) where
   pub selected_from-choice : switch ≡ W.Nothing → chosen ≡ selected_from switch chosen
   unfolding selected_from
   selected_from-choice s = rw s
 
-  pub selected_from-forced : (on : InputNumber) → switch ≡ W.Forced on → S.At on ≡ selected_from switch chosen
+  pub selected_from-forced : (on : InputNumber) → switch ≡ W.Forced on → Some on ≡ selected_from switch chosen
   unfolding selected_from
   selected_from-forced on s = rw s
 
-  pub selected_from-manual : (on : InputNumber) → switch ≡ W.Manual on → S.At on ≡ selected_from switch chosen
+  pub selected_from-manual : (on : InputNumber) → switch ≡ W.Manual on → Some on ≡ selected_from switch chosen
   unfolding selected_from
   selected_from-manual on s = rw s
 
@@ -100,28 +99,28 @@ pub ruleset selectedFrom-laws = (selected_from-choice, selected_from-forced, sel
 
 -- ---- selected_by of `specs/OneChoice`
 
-module _ (candidates : List Candidate) (switch : Switch) (before : Selection) where
-  pub selected_by-forced : (on : InputNumber) → switch ≡ W.Forced on → S.At on ≡ selected_by candidates switch before
+module _ (candidates : List Candidate) (switch : Switch) (before : Option InputNumber) where
+  pub selected_by-forced : (on : InputNumber) → switch ≡ W.Forced on → Some on ≡ selected_by candidates switch before
   unfolding selected_by
   selected_by-forced on s = rw s
 
-  pub selected_by-manual : (on : InputNumber) → switch ≡ W.Manual on → S.At on ≡ selected_by candidates switch before
+  pub selected_by-manual : (on : InputNumber) → switch ≡ W.Manual on → Some on ≡ selected_by candidates switch before
   unfolding selected_by
   selected_by-manual on s = rw s
 
 -- ---- any_selected, is_locked_by, was_locked
 
-pub any_selected-nothing : (chosen : Selection) → chosen ≡ S.Nothing → false ≡ any_selected chosen
+pub any_selected-nothing : (chosen : Option InputNumber) → chosen ≡ None → false ≡ any_selected chosen
 unfolding any_selected
 any_selected-nothing chosen s = rw s
 
-pub any_selected-at : (chosen : Selection) (number : InputNumber) → chosen ≡ S.At number → true ≡ any_selected chosen
+pub any_selected-at : (chosen : Option InputNumber) (number : InputNumber) → chosen ≡ Some number → true ≡ any_selected chosen
 unfolding any_selected
 any_selected-at chosen number s = rw s
 
 pub ruleset anySelected-laws = (any_selected-nothing, any_selected-at)
 
-module _ (switch : Switch) (own : Candidate) (chosen : Selection) where
+module _ (switch : Switch) (own : Candidate) (chosen : Option InputNumber) where
   pub is_locked_by-choice : (any : Bool) → switch ≡ W.Nothing → any ≡ any_selected chosen
       → any ≡ is_locked_by switch own chosen
   unfolding is_locked_by
@@ -150,7 +149,7 @@ pub ruleset wasLocked-laws = (was_locked-now, was_locked-before)
 -- ---- decide_by
 
 pub decide_by-made : (switch : Switch) (own : Candidate) (leader : Leader) (waslocked : Bool) (standing : Switch)
-    (selection : Selection) (locked ever : Bool) → standing ≡ judged_by switch own leader.rank
+    (selection : Option InputNumber) (locked ever : Bool) → standing ≡ judged_by switch own leader.rank
     → selection ≡ selected_from standing leader.selection → locked ≡ is_locked_by standing own leader.selection
     → ever ≡ was_locked waslocked locked
     → after_of standing selection ever ≡ decide_by switch own leader waslocked

@@ -7,13 +7,12 @@ use native.Mathlib.Omega.{arith}
 use lib.Dec.{ltb}
 use lib.ListN.{length, get_or, get_or-eq_default}
 use borrow.Author.Tests.{ltb-true, ltb-false}
+use Rattle.std.specs.Prelude.{Option, Some, None}
 use Rattle.numbers.proofs.Truth.{by_bool, both-second}
 use Rattle.numbers.specs.declared.InputNumber.{InputNumber}
 use Rattle.numbers.specs.Inputs.{input_count}
 use Rattle.choice.specs.declared.Candidate.{Candidate}
 use Rattle.choice.specs.declared.Leader.{Leader}
-use Rattle.choice.specs.declared.Selection.{Selection}
-use Rattle.choice.specs.declared.Selection.TheVariants as S
 use Rattle.choice.specs.Candidate.{nobody, is_eligible, eligible_among, better_among}
 use Rattle.choice.specs.Choice.{choose}
 use Rattle.choice.specs.Leader.{chosen_among}
@@ -29,19 +28,19 @@ unfolding is_eligible
 eligible-usable candidate e = both-second candidate.admitted candidate.usable e
 
 -- what is selected is usable, where all that can be is eligible
-any-locked : (candidates : List Candidate) (selection : Selection)
-    → ((number : InputNumber) → selection ≡ S.At number → eligible_among candidates number.0 ≡ true)
+any-locked : (candidates : List Candidate) (selection : Option InputNumber)
+    → ((number : InputNumber) → selection ≡ Some number → eligible_among candidates number.0 ≡ true)
     → any_selected selection ≡ is_clock_locked candidates selection
 unfolding any_selected is_clock_locked
-any-locked candidates S.Nothing eligible = refl
-any-locked candidates (S.At number) eligible =
+any-locked candidates None eligible = refl
+any-locked candidates (Some number) eligible =
     sym (eligible-usable (get_or candidates number.0 nobody) (eligible number refl))
 
-module _ (candidates : List Candidate) (before : Selection) where
+module _ (candidates : List Candidate) (before : Option InputNumber) where
   abbrev leader : Leader
   leader = chosen_among candidates before
 
-  abbrev choice : Selection
+  abbrev choice : Option InputNumber
   choice = choose (eligible_among candidates) (better_among candidates) before
 
   -- where no switch stands

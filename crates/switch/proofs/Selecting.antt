@@ -8,11 +8,11 @@ use mathlib.Core.Path.{◌≡◌, refl, sym, ◌∙◌, subst}
 use native.Mathlib.Omega.{arith}
 use lib.ListN.{get_or}
 use borrow.Author.Tests.{not-true}
+use Rattle.std.specs.Prelude.{Option, Some, None}
+use Rattle.numbers.specs.declared.InputNumber.{InputNumber}
 use Rattle.numbers.specs.Inputs.{input_count}
 use Rattle.numbers.proofs.Truth.{both_first, both-second}
 use Rattle.choice.specs.declared.Candidate.{Candidate}
-use Rattle.choice.specs.declared.Selection.{Selection}
-use Rattle.choice.specs.declared.Selection.TheVariants.{Nothing, At}
 use Rattle.choice.specs.Candidate.{nobody, is_eligible, eligible_among, better_among, any_lower}
 use Rattle.choice.specs.Choice.{Chosen, selected}
 use Rattle.choice.proofs.Choosing.{choose-chosen, selected-injective, nothing-selected}
@@ -38,7 +38,7 @@ pub record SelectionRight (choice : ChoiceMoment) (earlier : Choices) : Type 0 w
 
 -- the latest choice is right; before any choice nothing is selected
 abbrev pub LatestRight : Choices → Type 0
-LatestRight [] = (decided_over []).selection ≡ Nothing
+LatestRight [] = (decided_over []).selection ≡ None
 LatestRight (choice ∷ earlier) = SelectionRight choice earlier
 
 -- ---- manual_may_stand
@@ -69,7 +69,7 @@ eligible-admitted candidates on x =
 
 -- ---- selected_by
 
-selected_by-free : (candidates : List Candidate) (switch : Switch) (before : Selection) → switch ≡ W.Nothing
+selected_by-free : (candidates : List Candidate) (switch : Switch) (before : Option InputNumber) → switch ≡ W.Nothing
     → Chosen (eligible_among candidates) (better_among candidates) before (selected_by candidates switch before)
 unfolding selected_by
 selected_by-free candidates switch before x =
@@ -91,7 +91,7 @@ module _ (choice : ChoiceMoment) (earlier : Choices) where
         );
       }
     where
-      before : Selection
+      before : Option InputNumber
       before = (decided_over earlier).selection
 
       switch : Switch
@@ -122,12 +122,12 @@ unfolding decided_over choices_ago
 selected-admitted [] number x = absurd (nothing-selected number x)
 selected-admitted (choice ∷ earlier) number x = go (decided_over (choice ∷ earlier)).switch refl
   where
-    chosen : (selection : Selection) → selection ≡ selected number
+    chosen : (selection : Option InputNumber) → selection ≡ selected number
         → Chosen (eligible_among choice.candidates) (better_among choice.candidates)
         (decided_over earlier).selection selection
         → forced_may_stand choice.candidates number ≡ true
-    chosen Nothing y best = absurd (nothing-selected number y)
-    chosen (At other) y best =
+    chosen None y best = absurd (nothing-selected number y)
+    chosen (Some other) y best =
         subst (λ (on : ℕ). forced_may_stand choice.candidates on ≡ true) (selected-injective other.0 number y)
         (eligible-admitted choice.candidates other.0 best.is_eligible)
 

@@ -1,9 +1,8 @@
 -- Document 01, "Choosing", over any sequence of choices: which switch stands and what is selected, computed; what both
 -- have to be is in `events/specs/Demand3`. Assumes nothing.
-use Rattle.std.specs.Prelude.{ℕ, zero, suc, true, false, cond, List, [], ◌∷◌, ◌≡◌, ◌⊎◌, eqb}
+use Rattle.std.specs.Prelude.{ℕ, zero, suc, true, false, cond, List, [], ◌∷◌, ◌≡◌, ◌⊎◌, eqb, None}
 use Rattle.numbers.specs.Kind.{kind_forced, kind_manual, kind_clear_switch}
 use Rattle.choice.specs.declared.Candidate.{Candidate}
-use Rattle.choice.specs.declared.Selection.TheVariants as S
 use Rattle.switch.specs.declared.Switch.{Switch}
 use Rattle.switch.specs.declared.Switch.TheVariants as W
 use Rattle.switch.specs.declared.AfterChoice.{AfterChoice}
@@ -42,7 +41,7 @@ commanded kind on switch =
 
 -- what the choices come to: each is made on what the one before it left
 unfoldable pub decided_over : Choices → AfterChoice
-decided_over [] = record { switch = W.Nothing; selection = S.Nothing; waslocked = false }
+decided_over [] = record { switch = W.Nothing; selection = None; waslocked = false }
 decided_over (choice ∷ earlier) =
     let before = decided_over earlier in
     decide choice.candidates

@@ -1,13 +1,12 @@
 -- One choice by what one scan of the inputs finds: the one that leads, and what a choice sees of the switch's input.
 -- Cited by `src/lib.rt`; `decide_by-decide`: it is the choice of `OneChoice`. Assumes nothing.
 use Prim.{Unit}
-use Rattle.std.specs.Prelude.{Bool, true, false, ◌&&◌, cond, List, leb, ltb}
+use Rattle.std.specs.Prelude.{Bool, true, false, ◌&&◌, cond, List, leb, ltb, Option, Some, None}
+use Rattle.numbers.specs.declared.InputNumber.{InputNumber}
 use Rattle.numbers.specs.Inputs.{input_count}
 use Rattle.choice.specs.declared.Candidate.{Candidate}
 use Rattle.choice.specs.declared.Leader.{Leader}
 use Rattle.choice.specs.declared.Rank.{Rank}
-use Rattle.choice.specs.declared.Selection.{Selection}
-use Rattle.choice.specs.declared.Selection.TheVariants as S
 use Rattle.choice.specs.Candidate.{is_eligible}
 use Rattle.choice.specs.Leader.{SeenAt}
 use Rattle.switch.specs.declared.Switch.{Switch}
@@ -26,18 +25,18 @@ judged_by (W.Forced on) own best = cond (ltb on.0 input_count && own.admitted) (
 judged_by (W.Manual on) own best = cond (ltb on.0 input_count && may_stand own best) (W.Manual on) W.Nothing
 
 -- the switch's input, or the choice
-unfoldable pub selected_from : Switch → Selection → Selection
+unfoldable pub selected_from : Switch → Option InputNumber → Option InputNumber
 selected_from W.Nothing chosen = chosen
-selected_from (W.Forced on) chosen = S.At on
-selected_from (W.Manual on) chosen = S.At on
+selected_from (W.Forced on) chosen = Some on
+selected_from (W.Manual on) chosen = Some on
 
 -- an input is chosen
-unfoldable pub any_selected : Selection → Bool
-any_selected S.Nothing = false
-any_selected (S.At number) = true
+unfoldable pub any_selected : Option InputNumber → Bool
+any_selected None = false
+any_selected (Some number) = true
 
 -- "locked if an input is selected and its passed quality is usable"; that of the choice is
-unfoldable pub is_locked_by : Switch → Candidate → Selection → Bool
+unfoldable pub is_locked_by : Switch → Candidate → Option InputNumber → Bool
 is_locked_by W.Nothing own chosen = any_selected chosen
 is_locked_by (W.Forced on) own chosen = own.usable
 is_locked_by (W.Manual on) own chosen = own.usable

@@ -7,14 +7,14 @@ use mathlib.Core.Path.{◌≡◌, refl, sym, ◌∙◌, ap}
 use mathlib.Core.Logic.{◌⊎◌, ⊎_elim}
 use lib.Dec.{eqb}
 use lib.ListN.{get_or}
+use Rattle.std.specs.Prelude.{Option, Some, None}
+use Rattle.numbers.specs.declared.InputNumber.{InputNumber}
 use Rattle.numbers.proofs.Truth.{by_bool, contra}
 use Rattle.numbers.specs.Inputs.{input_count}
 use Rattle.numbers.specs.Kind.{kind_forced, kind_manual}
 use Rattle.numbers.specs.Refusal.{accepted, forced_barred, manual_forced_stands, manual_not_eligible, manual_lower_quality}
 use Rattle.choice.specs.declared.Candidate.{Candidate}
 use Rattle.choice.specs.declared.Rank.{Rank}
-use Rattle.choice.specs.declared.Selection.{Selection}
-use Rattle.choice.specs.declared.Selection.TheVariants as S
 use Rattle.choice.specs.Candidate.{nobody, is_eligible, is_better, eligible_among, better_among, is_lower, lower_among, any_lower}
 use Rattle.choice.specs.Choice.{Best, Chosen, choose}
 use Rattle.choice.proofs.Choosing.{choose-chosen, chosen_unique}
@@ -40,25 +40,25 @@ SameAdmitted one other =
 -- ---- what is selected is admitted
 
 -- nothing, or an input that is admitted
-abbrev pub SelectionAdmitted : List Candidate → Selection → Type 0
-SelectionAdmitted candidates S.Nothing = Unit {0}
-SelectionAdmitted candidates (S.At number) = forced_may_stand candidates number.0 ≡ true
+abbrev pub SelectionAdmitted : List Candidate → Option InputNumber → Type 0
+SelectionAdmitted candidates None = Unit {0}
+SelectionAdmitted candidates (Some number) = forced_may_stand candidates number.0 ≡ true
 
 module _ (candidates : List Candidate) where
-  chosen-admitted : (before selection : Selection)
+  chosen-admitted : (before selection : Option InputNumber)
       → Chosen (eligible_among candidates) (better_among candidates) before selection
       → SelectionAdmitted candidates selection
-  chosen-admitted before S.Nothing chosen = tt
-  chosen-admitted before (S.At number) best = eligible-admitted candidates number.0 best.is_eligible
+  chosen-admitted before None chosen = tt
+  chosen-admitted before (Some number) best = eligible-admitted candidates number.0 best.is_eligible
 
-  choose-admitted : (before : Selection) → SelectionAdmitted candidates (selected_by candidates W.Nothing before)
+  choose-admitted : (before : Option InputNumber) → SelectionAdmitted candidates (selected_by candidates W.Nothing before)
   unfolding selected_by
   choose-admitted before =
       chosen-admitted before (choose (eligible_among candidates) (better_among candidates) before)
       (choose-chosen (eligible_among candidates) (better_among candidates) before (is_better_ranking candidates))
 
   -- what a standing switch or the choice selects
-  pub selected_by-admitted : (switch : Switch) (before : Selection)
+  pub selected_by-admitted : (switch : Switch) (before : Option InputNumber)
       → SelectionAdmitted candidates (selected_by candidates (judged candidates switch) before)
   unfolding judged selected_by
   selected_by-admitted W.Nothing before = choose-admitted before
@@ -139,7 +139,7 @@ module _ (one other : List Candidate) (same : SameAdmitted one other) where
   here : (number : ℕ) → eligible_among other number ≡ true → eligible_among one number ≡ true
   here number e = same-eligible number ∙ e
 
-  best-same : (before : Selection) (chosen : ℕ) → Best (eligible_among one) (better_among one) before chosen
+  best-same : (before : Option InputNumber) (chosen : ℕ) → Best (eligible_among one) (better_among one) before chosen
       → Best (eligible_among other) (better_among other) before chosen
   best-same before chosen best =
       let k : eligible_among one chosen ≡ true = best.is_eligible in
@@ -153,12 +153,12 @@ module _ (one other : List Candidate) (same : SameAdmitted one other) where
             best.lowest new number h (here number e) (better-same chosen number k (here number e) ∙ worse);
       }
 
-  chosen-same : (before selection : Selection) → Chosen (eligible_among one) (better_among one) before selection
+  chosen-same : (before selection : Option InputNumber) → Chosen (eligible_among one) (better_among one) before selection
       → Chosen (eligible_among other) (better_among other) before selection
-  chosen-same before S.Nothing none = λ number h. sym (same-eligible number) ∙ none number h
-  chosen-same before (S.At chosen) best = best-same before chosen.0 best
+  chosen-same before None none = λ number h. sym (same-eligible number) ∙ none number h
+  chosen-same before (Some chosen) best = best-same before chosen.0 best
 
-  choose-same : (before : Selection)
+  choose-same : (before : Option InputNumber)
       → choose (eligible_among one) (better_among one) before ≡ choose (eligible_among other) (better_among other) before
   choose-same before =
       chosen_unique (eligible_among other) (better_among other) before
@@ -168,24 +168,24 @@ module _ (one other : List Candidate) (same : SameAdmitted one other) where
       (choose-chosen (eligible_among one) (better_among one) before (is_better_ranking one)))
       (choose-chosen (eligible_among other) (better_among other) before (is_better_ranking other))
 
-  selected_by-same : (switch : Switch) (before : Selection)
+  selected_by-same : (switch : Switch) (before : Option InputNumber)
       → selected_by one switch before ≡ selected_by other switch before
   unfolding selected_by
   selected_by-same W.Nothing before = choose-same before
   selected_by-same (W.Forced on) before = refl
   selected_by-same (W.Manual on) before = refl
 
-  locked-same : (selection : Selection) → SelectionAdmitted one selection
+  locked-same : (selection : Option InputNumber) → SelectionAdmitted one selection
       → is_clock_locked one selection ≡ is_clock_locked other selection
   unfolding is_clock_locked
-  locked-same S.Nothing admitted = refl
-  locked-same (S.At number) admitted =
+  locked-same None admitted = refl
+  locked-same (Some number) admitted =
       ap (λ (candidate : Candidate). candidate.usable) (admitted-same number.0 admitted)
 
   -- ---- the theorems
 
   -- the switch judged and the choice made come to the same
-  pub decide-same : (switch : Switch) (before : Selection) (waslocked : Bool)
+  pub decide-same : (switch : Switch) (before : Option InputNumber) (waslocked : Bool)
       → decide one switch before waslocked ≡ decide other switch before waslocked
   unfolding decide
   decide-same switch before waslocked =

@@ -7,6 +7,8 @@ use mathlib.Core.Path.{◌≡◌, refl, sym, ◌∙◌, ap, subst}
 use lib.Dec.{eqb}
 use lib.ListN.{set}
 use lib.Seq.{get_or-set_other}
+use Rattle.std.specs.Prelude.{Option, Some, None}
+use Rattle.numbers.specs.declared.InputNumber.{InputNumber}
 use Rattle.numbers.specs.declared.quality.Quality.{Quality}
 use Rattle.numbers.specs.Profile.{limits_of, marks_of, is_marked, told_by}
 use Rattle.numbers.specs.Codes.{code_of_quality, word_of_quality}
@@ -14,8 +16,6 @@ use Rattle.numbers.proofs.Truth.{contra}
 use Rattle.input.specs.declared.Input.{Input}
 use Rattle.input.specs.Record.{fresh_input}
 use Rattle.choice.specs.declared.Candidate.{Candidate}
-use Rattle.choice.specs.declared.Selection.{Selection}
-use Rattle.choice.specs.declared.Selection.TheVariants as S
 use Rattle.switch.specs.OneChoice.{forced_may_stand, decide}
 use Rattle.selector.specs.declared.Selector.{Selector}
 use Rattle.selector.specs.State.{candidate_for, candidates_of, decided}
@@ -53,13 +53,13 @@ signs_of rule says state quality = map (sign_at rule says state quality) ports
 module _ (input : ℕ) (line : Input) (state : Selector) (shown : shown_of line.settings ≡ shown_at state.inputs input)
     (off : Off input state.inputs) (calm : Calm state) where
   -- so it is not the input that is off
-  selected-with : (selection : Selection)
+  selected-with : (selection : Option InputNumber)
       → SelectionAdmitted (candidates_of state.profile state.inputs state.mode) selection
       → selected_candidate state.profile (set state.inputs input line) state.mode selection ≡
       selected_candidate state.profile state.inputs state.mode selection
   unfolding selected_candidate
-  selected-with S.Nothing admitted = refl
-  selected-with (S.At number) admitted =
+  selected-with None admitted = refl
+  selected-with (Some number) admitted =
       ap (candidate_for state.profile state.mode)
       (get_or-set_other state.inputs input number.0 line fresh_input
       (λ here. contra

@@ -9,8 +9,8 @@ returns-then-is_eligible c = search seed-laws
 pub returns-then-number-lt-INPUT_COUNT : goal.returns-then-number-lt-INPUT_COUNT
 returns-then-number-lt-INPUT_COUNT c = search seed-laws
 
-pub returns-in-Nothing : goal.returns-in-Nothing
-returns-in-Nothing c = search seed-laws
+pub returns-in-None : goal.returns-in-None
+returns-in-None c = search seed-laws
 
 pub returns-else-number-lt-INPUT_COUNT : goal.returns-else-number-lt-INPUT_COUNT
 returns-else-number-lt-INPUT_COUNT c = search seed-laws

@@ -3,8 +3,8 @@
 use Rattle.inplace.proofs.Named.{isSelected-laws}
 use Rattle.inplace.proofs.is_selected.Goals as goal
 
-pub returns-in-Nothing : goal.returns-in-Nothing
-returns-in-Nothing c = search isSelected-laws
+pub returns-in-None : goal.returns-in-None
+returns-in-None c = search isSelected-laws
 
-pub returns-in-At : goal.returns-in-At
-returns-in-At c = search isSelected-laws
+pub returns-in-Some : goal.returns-in-Some
+returns-in-Some c = search isSelected-laws

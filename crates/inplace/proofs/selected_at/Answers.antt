@@ -2,8 +2,8 @@
 use Rattle.selector.proofs.SelectorLaws.{selectedCandidate-laws}
 use Rattle.inplace.proofs.selected_at.Goals as goal
 
-pub returns-in-Nothing : goal.returns-in-Nothing
-returns-in-Nothing c = search selectedCandidate-laws
+pub returns-in-None : goal.returns-in-None
+returns-in-None c = search selectedCandidate-laws
 
-pub returns-in-At : goal.returns-in-At
-returns-in-At c = search selectedCandidate-laws
+pub returns-in-Some : goal.returns-in-Some
+returns-in-Some c = search selectedCandidate-laws

@@ -1,5 +1,5 @@
 -- `onestep::late_at` meets its contract: each way is a law. Assumes nothing.
-use Rattle.choice.specs.declared.Selection.TheVariants as S
+use Rattle.std.specs.Prelude.{None}
 use Rattle.events.proofs.EventLaws.{late-judged, late-never}
 use Rattle.inplace.specs.Lists.{selector_at}
 use Rattle.inplace.proofs.Turn.{inputs-length}
@@ -11,7 +11,7 @@ returns-then-is_judged_late c =
     let own = leader in
     let args = own.args in
     late-judged (selector_at args.times.now args.small.now args.wider.now) args.event
-    c.switch_at-switch.result own.candidate_at-own.result leader.leader_at-leader.result c.late_refusal.result S.Nothing
+    c.switch_at-switch.result own.candidate_at-own.result leader.leader_at-leader.result c.late_refusal.result None
     (c.switch_at-switch.ensures args.times.now args.wider.now)
     own.candidate_at-own.ensures
     leader.leader_at-leader.ensures

@@ -3,8 +3,8 @@
 use Rattle.selector.proofs.SelectorLaws.{selectedNumber-laws}
 use Rattle.selector.proofs.selected_number.Goals as goal
 
-pub returns-in-Nothing : goal.returns-in-Nothing
-returns-in-Nothing c = search selectedNumber-laws
+pub returns-in-None : goal.returns-in-None
+returns-in-None c = search selectedNumber-laws
 
-pub returns-in-At : goal.returns-in-At
-returns-in-At c = search selectedNumber-laws
+pub returns-in-Some : goal.returns-in-Some
+returns-in-Some c = search selectedNumber-laws

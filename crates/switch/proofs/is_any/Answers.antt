@@ -3,8 +3,8 @@
 use Rattle.switch.proofs.OneChoiceLaws.{anySelected-laws}
 use Rattle.switch.proofs.is_any.Goals as goal
 
-pub returns-in-Nothing : goal.returns-in-Nothing
-returns-in-Nothing c = search anySelected-laws
+pub returns-in-None : goal.returns-in-None
+returns-in-None c = search anySelected-laws
 
-pub returns-in-At : goal.returns-in-At
-returns-in-At c = search anySelected-laws
+pub returns-in-Some : goal.returns-in-Some
+returns-in-Some c = search anySelected-laws

@@ -3,8 +3,8 @@
 use Rattle.choice.proofs.ChoiceLaws.{isPassed-laws}
 use Rattle.choice.proofs.Leader.is_passed.Goals as goal
 
-pub returns-in-Nothing : goal.returns-in-Nothing
-returns-in-Nothing c = search isPassed-laws
+pub returns-in-None : goal.returns-in-None
+returns-in-None c = search isPassed-laws
 
-pub returns-in-At : goal.returns-in-At
-returns-in-At c = search isPassed-laws
+pub returns-in-Some : goal.returns-in-Some
+returns-in-Some c = search isPassed-laws
