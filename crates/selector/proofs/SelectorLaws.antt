@@ -13,7 +13,6 @@ use Rattle.numbers.specs.declared.profile.Profile.{Profile}
 use Rattle.numbers.specs.declared.quality.Quality.{Quality}
 use Rattle.numbers.specs.Quality.{not_told}
 use Rattle.numbers.specs.Profile.{is_marked, halved}
-use Rattle.numbers.specs.Codes.{code_dnu, word_stu, word_dus}
 use Rattle.input.specs.declared.Input.{Input}
 use Rattle.input.specs.Record.{fresh_input}
 use Rattle.choice.specs.declared.Candidate.{Candidate}
@@ -23,7 +22,7 @@ use Rattle.switch.specs.declared.Switch.TheVariants as W
 use Rattle.selector.specs.State.{candidate_for}
 use Rattle.selector.proofs.Filled.{filled, filled-turn}
 use Rattle.selector.proofs.Ports.{port-number}
-use Rattle.selector.specs.Answer.{no_input, free_run, holdover, locked, selected_candidate, clock_state, clock_quality, outgoing_code, selected_number, switch_number, switch_input, outgoing_word, sign_for, ports}
+use Rattle.selector.specs.Answer.{no_input, free_run, holdover, locked, selected_candidate, clock_state, clock_quality, selected_number, switch_number, switch_input, sign_for, ports}
 
 -- ---- get_or
 
@@ -98,48 +97,6 @@ module _ (own : Quality) (mode : Bool) (candidate : Candidate) where
 
 pub ruleset clockQuality-laws = (clock_quality-off, clock_quality-locked, clock_quality-own)
 
-module _ (mode sending is_selected : Bool) (code : ℕ) where
-  pub outgoing_code-off : mode ≡ false → code_dnu ≡ outgoing_code mode sending is_selected code
-  unfolding outgoing_code
-  outgoing_code-off m = rw m
-
-  pub outgoing_code-silent : mode ≡ true → sending ≡ false → code_dnu ≡ outgoing_code mode sending is_selected code
-  unfolding outgoing_code
-  outgoing_code-silent m s = rw (m, s)
-
-  pub outgoing_code-selected : mode ≡ true → sending ≡ true → is_selected ≡ true
-      → code_dnu ≡ outgoing_code mode sending is_selected code
-  unfolding outgoing_code
-  outgoing_code-selected m s i = rw (m, s, i)
-
-  pub outgoing_code-told : mode ≡ true → sending ≡ true → is_selected ≡ false
-      → code ≡ outgoing_code mode sending is_selected code
-  unfolding outgoing_code
-  outgoing_code-told m s i = rw (m, s, i)
-
-pub ruleset outgoingCode-laws = (outgoing_code-off, outgoing_code-silent, outgoing_code-selected, outgoing_code-told)
-
-module _ (mode sending is_selected : Bool) (word : ℕ) where
-  pub outgoing_word-silent : sending ≡ false → word_stu ≡ outgoing_word mode sending is_selected word
-  unfolding outgoing_word
-  outgoing_word-silent s = rw s
-
-  pub outgoing_word-off : sending ≡ true → mode ≡ false → word_dus ≡ outgoing_word mode sending is_selected word
-  unfolding outgoing_word
-  outgoing_word-off s m = rw (s, m)
-
-  pub outgoing_word-selected : sending ≡ true → mode ≡ true → is_selected ≡ true
-      → word_dus ≡ outgoing_word mode sending is_selected word
-  unfolding outgoing_word
-  outgoing_word-selected s m i = rw (s, m, i)
-
-  pub outgoing_word-told : sending ≡ true → mode ≡ true → is_selected ≡ false
-      → word ≡ outgoing_word mode sending is_selected word
-  unfolding outgoing_word
-  outgoing_word-told s m i = rw (s, m, i)
-
-pub ruleset outgoingWord-laws = (outgoing_word-silent, outgoing_word-off, outgoing_word-selected, outgoing_word-told)
-
 -- ---- selected_number, switch_number, switch_input
 
 pub selected_number-nothing : (selection : Option InputNumber) → selection ≡ None → no_input ≡ selected_number selection
@@ -185,9 +142,9 @@ pub ruleset switchInput-laws = (switch_input-nothing, switch_input-forced, switc
 -- ---- sign_for, for codes and for words
 
 -- a turn of the loop over the ports
-pub sign_for-turn : (rule : Bool → Bool → Bool → ℕ → ℕ) (inputs : List Input) (mode : Bool)
-    (selected marks sign first port rest : ℕ) (into now : List ℕ)
-    (chosen told : ℕ) (zeroed : Input)
+pub sign_for-turn : {Sign : Type 0} (rule : Bool → Bool → Bool → Sign → Sign) (inputs : List Input) (mode : Bool)
+    (selected marks : ℕ) (sign first : Sign) (port rest : ℕ) (into now : List Sign)
+    (chosen told : Sign) (zeroed : Input)
     → now ≡ filled (sign_for rule inputs mode selected marks sign first) port ports into
     → rest ≡ halved port marks
     → chosen ≡ cond (eqb (rest % 2) 1) first sign
@@ -196,14 +153,14 @@ pub sign_for-turn : (rule : Bool → Bool → Bool → ℕ → ℕ) (inputs : Li
     → length into ≡ 16 → port < 16
     → set now port told ≡ filled (sign_for rule inputs mode selected marks sign first) (port + 1) ports into
 unfolding sign_for
-sign_for-turn rule inputs mode selected marks sign first port rest into now chosen told zeroed e r c o h k lt =
+sign_for-turn {Sign = Sign} rule inputs mode selected marks sign first port rest into now chosen told zeroed e r c o h k lt =
     let m : port < length inputs = omega arith in
     let same : chosen ≡ cond (is_marked marks port) first sign =
     c ∙ ap (λ (x : ℕ). cond (eqb (x % 2) 1) first sign) r in
     filled-turn (sign_for rule inputs mode selected marks sign first) 16 port ports into now 0 told e
     (rw (port-number port lt)
     (o ∙
-    ap (λ (x : ℕ). rule mode (get_or inputs port zeroed).settings.sending (eqb selected port) x) same ∙
+    ap (λ (x : Sign). rule mode (get_or inputs port zeroed).settings.sending (eqb selected port) x) same ∙
     ap
     (λ (x : Input).
     rule mode x.settings.sending (eqb selected port) (cond (is_marked marks port) first sign))

@@ -48,7 +48,8 @@ answer_of number state =
     }
 
 -- what goes out of a port, code or word, by a rule: `first` says the clock quality on a port marked first generation
-unfoldable pub sign_for : (Bool → Bool → Bool → ℕ → ℕ) → List Input → Bool → ℕ → ℕ → ℕ → ℕ → ℕ → ℕ
+unfoldable pub sign_for : {Sign : Type 0} → (Bool → Bool → Bool → Sign → Sign) → List Input → Bool → ℕ → ℕ → Sign
+    → Sign → ℕ → Sign
 sign_for rule inputs mode selected marks sign first port =
     rule mode (get_or inputs port fresh_input).settings.sending (eqb selected port)
     (cond (is_marked marks port) first sign)

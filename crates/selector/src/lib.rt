@@ -5,7 +5,8 @@
 // No public function has a `requires`: any numbers are answered for.
 #![tactic(auto)]
 
-ghost use Rattle.std.specs.Prelude.{◌≡◌, cond};
+ghost use Rattle.std.specs.Prelude.{◌≡◌, Bool, true, false, cond, not, ◌||◌, refl};
+ghost use Rattle.numbers.specs.Codes.{code_dnu, word_stu, word_dus};
 ghost use Rattle.selector.specs.State.{seen_of, candidate_for};
 ghost use Rattle.selector.specs.Answer.{selected_number, switch_number, switch_input, clock_state, clock_quality, outgoing_code, outgoing_word};
 
@@ -75,40 +76,75 @@ pub fn candidate_for(profile: Profile, input: Input, mode: bool) -> Candidate
     candidate_of(provplace, floor, passed, priority, seen.locked, mode)
 }
 
-// One of two codes.
-pub fn code_by(marked: bool, first: u8, code: u8) -> u8
-    ensures { result ≡ cond marked first code }
-{
-    if marked {
-        return first;
-    }
-    code
+// What a port says of a quality, a code or a word.
+pub trait Sign: Copy {
+    // What goes out of a port: by the mode, its sending, whether it is selected, and the sign of the
+    // clock quality.
+    ghost outgoing: { Bool → Bool → Bool → Self → Self };
+
+    ghost SENDING_OFF: { Self };
+
+    ghost DO_NOT_USE: { Self };
+
+    // What goes out with sending off.
+    const SENDING_OFF: Self;
+
+    // What goes out with mode off, and of the selected port.
+    const DO_NOT_USE: Self;
+
+    ghost by_rule: { (mode sending selected : Bool) (sign : Self) → outgoing mode sending selected sign ≡
+        cond (not sending) SENDING_OFF (cond (not mode || selected) DO_NOT_USE sign) };
 }
 
-// One of two words.
-pub fn word_by(marked: bool, other: u16, word: u16) -> u16
-    ensures { result ≡ cond marked other word }
-{
-    if marked {
-        return other;
-    }
-    word
+impl Sign for u8 {
+    ghost outgoing = { outgoing_code };
+
+    ghost SENDING_OFF = { code_dnu };
+
+    ghost DO_NOT_USE = { code_dnu };
+
+    const SENDING_OFF: u8 = CODE_DNU;
+
+    const DO_NOT_USE: u8 = CODE_DNU;
+
+    ghost by_rule = { unfold outgoing_code in elim [
+      | true ↦ elim [ true ↦ λ selected code. refl | false ↦ λ selected code. refl ]
+      | false ↦ elim [ true ↦ λ selected code. refl | false ↦ λ selected code. refl ]
+    ] };
 }
 
-// The word that goes out of a port.
-pub fn outgoing_word(mode: bool, sending: bool, selected: bool, word: u16) -> u16
-    ensures { result ≡ outgoing_word mode sending selected word }
+impl Sign for u16 {
+    ghost outgoing = { outgoing_word };
+
+    ghost SENDING_OFF = { word_stu };
+
+    ghost DO_NOT_USE = { word_dus };
+
+    const SENDING_OFF: u16 = WORD_STU;
+
+    const DO_NOT_USE: u16 = WORD_DUS;
+
+    ghost by_rule = { unfold outgoing_word in λ mode sending selected word. refl };
+}
+
+// One of two signs: the first where a port is marked.
+pub fn sign_by<T: Copy>(marked: bool, first: T, sign: T) -> T
+    ensures { result ≡ cond marked first sign }
 {
-    if sending {
-        if mode {
-            if selected {
-                return WORD_DUS;
-            }
-            return word;
-        }
-        return WORD_DUS;
+    if marked { first } else { sign }
+}
+
+// What goes out of a port.
+pub fn outgoing<T: Sign>(mode: bool, sending: bool, selected: bool, sign: T) -> T
+    ensures { result ≡ T.outgoing mode sending selected sign }
+{
+    if !sending {
+        return T::SENDING_OFF;
     }
-    WORD_STU
+    if !mode || selected {
+        return T::DO_NOT_USE;
+    }
+    sign
 }
 
 // The clock state: locked, or whether it ever was.
@@ -135,22 +171,6 @@ pub fn clock_quality(own: Quality, mode: bool, candidate: Candidate) -> Quality
         return own;
     }
     NOT_TOLD
-}
-
-// The code that goes out of a port.
-pub fn outgoing_code(mode: bool, sending: bool, selected: bool, code: u8) -> u8
-    ensures { result ≡ outgoing_code mode sending selected code }
-{
-    if mode {
-        if sending {
-            if selected {
-                return CODE_DNU;
-            }
-            return code;
-        }
-        return CODE_DNU;
-    }
-    CODE_DNU
 }
 
 // The selected input, as an answer names it.
