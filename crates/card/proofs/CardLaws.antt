@@ -14,9 +14,8 @@ use Rattle.numbers.specs.Profile.{option_one, option_two, start_number, profile_
 use Rattle.numbers.specs.Refusal.{accepted, input_out_of_range, argument_out_of_range}
 use Rattle.frame.specs.declared.FrameRead.{FrameRead}
 use Rattle.frame.specs.declared.FrameRead.TheVariants.{Code}
-use Rattle.frame.specs.declared.FrameWrite.{FrameWrite}
 use Rattle.frame.specs.Read.{read_code}
-use Rattle.frame.specs.Write.{WriteFrame}
+use Rattle.frame.specs.Write.{Writing, WriteFrame}
 use Rattle.selector.specs.declared.Selector.{Selector}
 use Rattle.selector.specs.Answer.{answer_of, outgoing_codes}
 use Rattle.quickstep.specs.Watch.{Watch, watch_of, fresh_watch, watch_step}
@@ -104,7 +103,7 @@ module _ (state : Selector) (port : ℕ) (event : Bool) (source before : List �
       → WritePort state port event source before answer before
   write_port_no_port answer p a = record { answered = rw (lt-ltb _ _ p, a); content = rw (lt-ltb _ _ p) }
 
-  pub write_port_port : (codes : List ℕ) (written : FrameWrite) (answer : ℕ) (after : List ℕ)
+  pub write_port_port : (codes : List ℕ) (written : Writing) (answer : ℕ) (after : List ℕ)
       → port ≤ last_input → codes ≡ outgoing_codes state
       → WriteFrame before source event (get_or codes port 0) written after → answer ≡ number_of_write written
       → WritePort state port event source before answer after

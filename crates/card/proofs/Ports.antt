@@ -9,9 +9,8 @@ use lib.Dec.{eqb, ltb}
 use lib.ListN.{length, drop}
 use borrow.Author.Tests.{ltb-false, le-ltb}
 use Rattle.numbers.specs.Refusal.{accepted}
-use Rattle.frame.specs.declared.FrameWrite.{FrameWrite}
-use Rattle.frame.specs.declared.FrameWrite.TheVariants.{Written, Refused}
-use Rattle.frame.specs.Write.{written_length, source_length, frame_octets, write_answer, content_after}
+use Rattle.std.proofs.Common.{Ok, Err}
+use Rattle.frame.specs.Write.{Writing, written_length, source_length, frame_octets, write_answer, content_after}
 use Rattle.frame.proofs.RoundTrip.{demand_2_round_trip}
 use Rattle.numbers.proofs.Truth.{by_bool}
 use Rattle.sender.specs.Heartbeat.{code_of_port}
@@ -41,7 +40,7 @@ write_answer-small before source code small =
 
 -- where no refusal applies, it is written
 write_answer-written : (before source : List ℕ) (code : ℕ) → code ≤ 15
-    → number_of_write (write_answer before source code) ≡ accepted → write_answer before source code ≡ Written
+    → number_of_write (write_answer before source code) ≡ accepted → write_answer before source code ≡ Ok tt
 unfolding write_answer
 write_answer-written before source code small =
     rw (le-ltb _ _ small)
@@ -53,10 +52,10 @@ write_answer-written before source code small =
     (λ long. rw long (λ accepts. refl))))
     (λ other. rw other (λ accepts. absurd (omega arith))))
 
-refused-kept : (written : FrameWrite) (before source : List ℕ) (event : Bool) (code : ℕ)
+refused-kept : (written : Writing) (before source : List ℕ) (event : Bool) (code : ℕ)
     → number_of_write written ≢ accepted → content_after written before source event code ≡ before
-refused-kept Written before source event code refused = absurd (refused refl)
-refused-kept (Refused number) before source event code refused = refl
+refused-kept (Ok _) before source event code refused = absurd (refused refl)
+refused-kept (Err number) before source event code refused = refl
 
 module _ (state : Selector) (port : ℕ) (event : Bool) (source before : List ℕ) (answer : ℕ) (after : List ℕ)
     (write : WritePort state port event source before answer after) where
@@ -101,6 +100,6 @@ module _ (state : Selector) (port : ℕ) (event : Bool) (source before : List �
       (λ there. (
         ltb-false last_input port there,
         there-content there
-            ∙ ap (λ (written : FrameWrite). content_after written before source event (code_of_port state port))
+            ∙ ap (λ (written : Writing). content_after written before source event (code_of_port state port))
             (write_answer-written before source _ (port-small state port) (sym (there-answered there) ∙ accepts)),
       ))

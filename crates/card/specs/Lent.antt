@@ -1,6 +1,6 @@
 -- What each call leaves in the arrays that C lends, as the watch that they hold (`watch_at` of `onestep`), by the
 -- selector's own definitions. Cited by `src/`. Assumes nothing.
-use Rattle.std.specs.Prelude.{ℕ, Bool, not, ◌&&◌, ◌||◌, cond, List, [], ◌∷◌, ◌≡◌, eqb, leb, ltb, get_or}
+use Rattle.std.specs.Prelude.{ℕ, Bool, not, ◌&&◌, ◌||◌, cond, List, [], ◌∷◌, Ok, Err, ◌≡◌, eqb, leb, ltb, get_or}
 use Rattle.numbers.specs.declared.Answer.{Answer}
 use Rattle.numbers.specs.declared.Event.{Event}
 use Rattle.numbers.specs.Inputs.{last_input}
@@ -10,10 +10,8 @@ use Rattle.numbers.specs.Refusal.{accepted, input_out_of_range, argument_out_of_
 use Rattle.frame.specs.declared.FrameMessage.{FrameMessage}
 use Rattle.frame.specs.declared.FrameRead.{FrameRead}
 use Rattle.frame.specs.declared.FrameRead.TheVariants.{Code}
-use Rattle.frame.specs.declared.FrameWrite.{FrameWrite}
-use Rattle.frame.specs.declared.FrameWrite.TheVariants.{Written, Refused}
 use Rattle.frame.specs.Read.{number_of_read, code_of_read, read_code, read_frame}
-use Rattle.frame.specs.Write.{write_answer, content_after}
+use Rattle.frame.specs.Write.{Writing, write_answer, content_after}
 use Rattle.selector.specs.declared.Selector.{Selector}
 use Rattle.selector.specs.Clock.{no_input, locked, switch_manual}
 use Rattle.selector.specs.Answer.{answer_of}
@@ -96,12 +94,12 @@ unfoldable pub frame_told : List ℕ → List ℕ
 frame_told frame = message_told (read_frame frame)
 
 -- the number that each answer of writing says: 0 written
-abbrev pub number_of_write : FrameWrite → ℕ
-number_of_write Written = accepted
-number_of_write (Refused number) = number
+abbrev pub number_of_write : Writing → ℕ
+number_of_write (Ok _) = accepted
+number_of_write (Err number) = number
 
 -- what writing a port's code answers
-abbrev pub port_write : Selector → ℕ → List ℕ → List ℕ → FrameWrite
+abbrev pub port_write : Selector → ℕ → List ℕ → List ℕ → Writing
 port_write state port source before = write_answer before source (code_of_port state port)
 
 -- a frame with a port's code, written into a buffer: 5 where there is no such port, otherwise as writing has it

@@ -9,13 +9,12 @@ use native.Mathlib.Omega.{arith}
 use lib.Dec.{eqb}
 use lib.ListN.{length, get_or, take, drop, length-append}
 use lib.Seq.{take_at, take-take, get_or-take, length-take-le}
+use Rattle.std.proofs.Common.{Ok}
 use Rattle.numbers.specs.Rows.{first_that_applies}
 use Rattle.frame.specs.declared.FrameRead.TheVariants.{Code}
-use Rattle.frame.specs.declared.FrameWrite.{FrameWrite}
-use Rattle.frame.specs.declared.FrameWrite.TheVariants.{Written}
 use Rattle.frame.specs.Octets.{longest_frame, version, event_bit, same, octet, octets, upper_half, lower_half}
 use Rattle.frame.specs.Read.{right_length, right_destination, right_protocol, right_organisation, right_version, right_tlv, frame_number, message, read_frame}
-use Rattle.frame.specs.Write.{written_length, source_length, largest_code, octet21, header_octets, data_octets, frame_octets, write_answer, WriteFrame}
+use Rattle.frame.specs.Write.{Writing, written_length, source_length, largest_code, octet21, header_octets, data_octets, frame_octets, write_answer, WriteFrame}
 use Rattle.frame.specs.Demand1.{AlikeThroughout}
 use Rattle.frame.specs.RoundTrip.{Layout, RoundTrip}
 use Rattle.frame.proofs.ReadLaws.{right_length-right}
@@ -124,7 +123,7 @@ module _ (frame : List ℕ) where
 
 -- DEMAND 2: whatever is written reads back, and whatever can be written is.
 pub demand_2_round_trip :
-    (before source after : List ℕ) (event : Bool) (code : ℕ) (answer : FrameWrite)
+    (before source after : List ℕ) (event : Bool) (code : ℕ) (answer : Writing)
     → WriteFrame before source event code answer after
     → RoundTrip before source event code answer after
 demand_2_round_trip before source after event code answer write =
@@ -135,24 +134,24 @@ demand_2_round_trip before source after event code answer write =
       layout = λ written. rw (held written) (frame_octets-layout source event code (room written).six);
     }
   where
-    answers : answer ≡ Written → write_answer before source code ≡ Written
+    answers : answer ≡ Ok tt → write_answer before source code ≡ Ok tt
     answers written = sym write.answered ∙ written
 
-    room : answer ≡ Written → Room before source code
+    room : answer ≡ Ok tt → Room before source code
     room written = write_answer-room before source code (answers written)
 
-    content : answer ≡ Written → after ≡ frame_octets source event code ++ drop written_length before
+    content : answer ≡ Ok tt → after ≡ frame_octets source event code ++ drop written_length before
     content written = write.content ∙ rw (answers written)
 
-    sized : answer ≡ Written → length (frame_octets source event code) ≡ written_length
+    sized : answer ≡ Ok tt → length (frame_octets source event code) ≡ written_length
     sized written = frame_octets-length source event code (room written).six
 
-    held : answer ≡ Written → take written_length after ≡ frame_octets source event code
+    held : answer ≡ Ok tt → take written_length after ≡ frame_octets source event code
     held written = rw (content written) (take_at _ (drop written_length before) written_length (sized written))
 
-    reads : answer ≡ Written → read_frame (take written_length after) ≡ message (Code code) event source
+    reads : answer ≡ Ok tt → read_frame (take written_length after) ≡ message (Code code) event source
     reads written = rw (held written) (frame_octets-read source event code (room written).six (room written).fits)
 
-    reaches : answer ≡ Written → written_length ≤ length after
+    reaches : answer ≡ Ok tt → written_length ≤ length after
     reaches written =
         rw (content written, length-append _ (drop written_length before), sized written) (omega arith)

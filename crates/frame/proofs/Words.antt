@@ -2,7 +2,7 @@
 -- are. Each law is over the width.
 -- Assumes nothing.
 use Prim.Native.Nat.{ℕ, zero, suc, ◌+◌, ◌*◌, ◌^◌, ◌-◌, ◌≤◌, ◌<◌}
-use mathlib.Core.Bool.{Bool, true, false, ◌&&◌, and_assoc, false≢true}
+use mathlib.Core.Bool.{Bool, true, false, ◌&&◌, and_assoc, and-true, false≢true}
 use mathlib.Core.List.{List, [], ◌∷◌, ◌++◌, foldr}
 use mathlib.Core.Path.{◌≡◌, refl, sym, ap, ◌∙◌}
 use native.Mathlib.Nat.{mul_assoc, pow-suc, zero-add, suc-add, sub-zero, lt_of_le_of_lt}
@@ -208,6 +208,13 @@ module _ (row wanted : List ℕ) (octets : Octets row) (sought : Octets wanted) 
         drop-drop width place row,
         drop-drop width start wanted,
       )
+
+  -- the last ones, and then nothing is left
+  pub has_rest-last : (width : ℕ) → start + width ≡ length wanted → place + width ≤ length row
+      → has_rest row wanted place start ≡ eqb (low_first_at width row place) (low_first_at width wanted start)
+  has_rest-last width last fits =
+      has_rest_several width (omega arith) (omega arith)
+      ∙ rw (has_rest-end row wanted (place + width) (start + width) last) (and-true _)
 
   -- or one by itself
   pub has_rest-one : start < length wanted → place + (length wanted - start) ≤ length row

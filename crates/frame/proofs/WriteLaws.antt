@@ -3,6 +3,7 @@
 use Prim.Native.Nat.{ℕ, ◌+◌, ◌≤◌, ◌<◌}
 use mathlib.Core.Bool.{Bool, true, false, cond, not}
 use mathlib.Core.List.{List, ◌++◌}
+use Rattle.std.proofs.Common.{Ok, Err}
 use mathlib.Core.Path.{◌≡◌, refl, sym, ◌∙◌}
 use native.Mathlib.Omega.{arith}
 use lib.Dec.{eqb, ltb}
@@ -10,24 +11,22 @@ use lib.ListN.{length, drop, length-append}
 use borrow.Author.Tests.{eq-eqb, ne_eqb, lt-ltb, le-ltb, eqb-true, ltb-false}
 use Rattle.frame.proofs.Rows.{put-row, put_next, put_octets-front}
 use Rattle.numbers.specs.Refusal.{argument_out_of_range, buffer_too_short, source_not_six}
-use Rattle.frame.specs.declared.FrameWrite.{FrameWrite}
-use Rattle.frame.specs.declared.FrameWrite.TheVariants.{Written, Refused}
-use Rattle.frame.specs.Write.{written_length, source_length, largest_code, header_octets, data_octets, frame_octets, put_octets, write_answer, WriteFrame}
+use Rattle.frame.specs.Write.{Writing, written_length, source_length, largest_code, header_octets, data_octets, frame_octets, put_octets, write_answer, WriteFrame}
 
 -- ---- write_answer
 
-refused-written : (number : ℕ) → Refused number ≡ Written → ⊥
-refused-written number equal = let wrong : ◌≡◌ {A = ℕ} 0 1 = cc in omega arith
+refused-written : (number : ℕ) → ◌≡◌ {A = Writing} (Err number) (Ok tt) → ⊥
+refused-written number equal = cc
 
 module _ (buffer source : List ℕ) (code : ℕ) where
-  pub write_answer-code : largest_code < code → write_answer buffer source code ≡ Refused argument_out_of_range
+  pub write_answer-code : largest_code < code → write_answer buffer source code ≡ Err argument_out_of_range
   unfolding write_answer
   write_answer-code above = rw (lt-ltb _ _ above)
 
   pub write_answer-source :
       code ≤ largest_code
       → (length source ≡ source_length → ⊥)
-      → write_answer buffer source code ≡ Refused source_not_six
+      → write_answer buffer source code ≡ Err source_not_six
   unfolding write_answer
   write_answer-source fits other = rw (le-ltb _ _ fits, ne_eqb _ _ other)
 
@@ -35,7 +34,7 @@ module _ (buffer source : List ℕ) (code : ℕ) where
       code ≤ largest_code
       → length source ≡ source_length
       → length buffer < written_length
-      → write_answer buffer source code ≡ Refused buffer_too_short
+      → write_answer buffer source code ≡ Err buffer_too_short
   unfolding write_answer
   write_answer-buffer fits six short = rw (le-ltb _ _ fits, eq-eqb _ _ six, lt-ltb _ _ short)
 
@@ -43,7 +42,7 @@ module _ (buffer source : List ℕ) (code : ℕ) where
       code ≤ largest_code
       → length source ≡ source_length
       → written_length ≤ length buffer
-      → write_answer buffer source code ≡ Written
+      → write_answer buffer source code ≡ Ok tt
   unfolding write_answer
   write_answer-written fits six long = rw (le-ltb _ _ fits, eq-eqb _ _ six, le-ltb _ _ long)
 
@@ -53,7 +52,7 @@ module _ (buffer source : List ℕ) (code : ℕ) where
     pub six : length source ≡ source_length
     pub long : written_length ≤ length buffer
 
-  pub write_answer-room : write_answer buffer source code ≡ Written → Room
+  pub write_answer-room : write_answer buffer source code ≡ Ok tt → Room
   unfolding write_answer
   write_answer-room =
       go (ltb largest_code code) (eqb (length source) source_length) (ltb (length buffer) written_length) refl refl refl
@@ -62,10 +61,10 @@ module _ (buffer source : List ℕ) (code : ℕ) where
           (above six short : Bool) → ltb largest_code code ≡ above
           → eqb (length source) source_length ≡ six
           → ltb (length buffer) written_length ≡ short
-          → cond above (Refused argument_out_of_range)
-          (cond (not six) (Refused source_not_six)
-          (cond short (Refused buffer_too_short)
-          Written)) ≡ Written
+          → ◌≡◌ {A = Writing} (cond above (Err argument_out_of_range)
+          (cond (not six) (Err source_not_six)
+          (cond short (Err buffer_too_short)
+          (Ok tt)))) (Ok tt)
           → Room
       go true _ _ _ _ _ answer = absurd (refused-written _ answer)
       go false false _ _ _ _ answer = absurd (refused-written _ answer)
@@ -77,19 +76,19 @@ module _ (buffer source : List ℕ) (code : ℕ) where
 
 module _ (before source : List ℕ) (event : Bool) (code : ℕ) where
   pub write_frame_refused :
-      (number : ℕ) → write_answer before source code ≡ Refused number
-      → WriteFrame before source event code (Refused number) before
+      (number : ℕ) → write_answer before source code ≡ Err number
+      → WriteFrame before source event code (Err number) before
   write_frame_refused number answer = record { answered = sym answer; content = rw answer }
 
   pub write_frame_written :
-      (after : List ℕ) → write_answer before source code ≡ Written
+      (after : List ℕ) → write_answer before source code ≡ Ok tt
       → after ≡ frame_octets source event code ++ drop written_length before
-      → WriteFrame before source event code Written after
+      → WriteFrame before source event code (Ok tt) after
   write_frame_written after answer content = record { answered = sym answer; content = rw answer content }
 
   -- the promise admits one answer and one content
   pub write_frame_unique :
-      (one other : FrameWrite) (after later : List ℕ) → WriteFrame before source event code one after
+      (one other : Writing) (after later : List ℕ) → WriteFrame before source event code one after
       → WriteFrame before source event code other later
       → (one ≡ other) × (after ≡ later)
   write_frame_unique one other after later first second =

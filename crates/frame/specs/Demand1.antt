@@ -1,10 +1,9 @@
 -- DEMAND 1 for frames: document 01, "Numbers of refusal", each number given where its row says and nowhere else.
 -- Assumes nothing.
-use Rattle.std.specs.Prelude.{ℕ, ◌≤◌, ◌<◌, false, List, ◌⊎◌, ◌↔◌, ◌≢◌, ◌≡◌, length}
+use Rattle.std.specs.Prelude.{ℕ, ◌≤◌, ◌<◌, false, List, Ok, Err, ◌⊎◌, ◌↔◌, ◌≢◌, ◌≡◌, length}
 use Rattle.numbers.specs.Refusal.{argument_out_of_range, frame_length, frame_destination, frame_protocol, frame_organisation, frame_version, frame_tlv, buffer_too_short, source_not_six}
 use Rattle.numbers.specs.Rows.{NoneApplies, RowApplies, SmallestRow}
 use Rattle.frame.specs.declared.FrameRead.TheVariants as Read
-use Rattle.frame.specs.declared.FrameWrite.TheVariants as Write
 use Rattle.frame.specs.Octets.{shortest_frame, longest_frame, octet, octets, destination, protocol, organisation, version, tlv, upper_half, lower_half}
 use Rattle.frame.specs.Read.{right_length, frame_rows, event_flag, source_address, message, no_address, read_code, read_frame}
 use Rattle.frame.specs.Write.{written_length, source_length, largest_code, write_answer}
@@ -64,18 +63,18 @@ pub record AlikeThroughout (one other : List ℕ) : Type 0 where
 
 -- "writing checks 6 (code above 15), 19, 18": what is answered in each case, and there is no other
 pub record WriteTable (buffer source : List ℕ) (code : ℕ) : Type 0 where
-  pub above : largest_code < code → write_answer buffer source code ≡ Write.Refused argument_out_of_range
+  pub above : largest_code < code → write_answer buffer source code ≡ Err argument_out_of_range
   pub not_six :
       code ≤ largest_code
       → length source ≢ source_length
-      → write_answer buffer source code ≡ Write.Refused source_not_six
+      → write_answer buffer source code ≡ Err source_not_six
   pub short :
       code ≤ largest_code
       → length source ≡ source_length
       → length buffer < written_length
-      → write_answer buffer source code ≡ Write.Refused buffer_too_short
+      → write_answer buffer source code ≡ Err buffer_too_short
   pub written :
       code ≤ largest_code
       → length source ≡ source_length
       → written_length ≤ length buffer
-      → write_answer buffer source code ≡ Write.Written
+      → write_answer buffer source code ≡ Ok tt

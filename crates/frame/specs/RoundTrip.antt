@@ -1,12 +1,10 @@
 -- DEMAND 2 for frames: document 01, "ESMC frame", what a written frame holds, and that it reads back.
 -- Assumes nothing.
-use Rattle.std.specs.Prelude.{ℕ, ◌≤◌, Bool, cond, List, [], ◌∷◌, ◌≡◌, length, take}
+use Rattle.std.specs.Prelude.{ℕ, ◌≤◌, Bool, cond, List, [], ◌∷◌, Ok, ◌≡◌, length, take}
 use Rattle.frame.specs.declared.FrameRead.TheVariants.{Code}
-use Rattle.frame.specs.declared.FrameWrite.{FrameWrite}
-use Rattle.frame.specs.declared.FrameWrite.TheVariants.{Written}
 use Rattle.frame.specs.Octets.{longest_frame, octet, octets, event_bit, upper_half, lower_half}
 use Rattle.frame.specs.Read.{message, read_frame}
-use Rattle.frame.specs.Write.{written_length, source_length, largest_code, zeros}
+use Rattle.frame.specs.Write.{Writing, written_length, source_length, largest_code, zeros}
 
 -- "Octets from 1", each as the document has it
 pub record Layout (frame source : List ℕ) (event : Bool) (code : ℕ) : Type 0 where
@@ -42,16 +40,16 @@ pub record Layout (frame source : List ℕ) (event : Bool) (code : ℕ) : Type 0
 -- whatever is written reads back as the code, the flag and the source that were written, and every code, source, flag
 -- and buffer with room for it is written
 pub record RoundTrip
-    (before source : List ℕ) (event : Bool) (code : ℕ) (answer : FrameWrite) (after : List ℕ)
+    (before source : List ℕ) (event : Bool) (code : ℕ) (answer : Writing) (after : List ℕ)
     : Type 0 where
   pub written :
       code ≤ largest_code
       → length source ≡ source_length
       → written_length ≤ length before
-      → answer ≡ Written
+      → answer ≡ Ok tt
   -- the 60 octets written
-  pub front : answer ≡ Written → read_frame (take written_length after) ≡ message (Code code) event source
+  pub front : answer ≡ Ok tt → read_frame (take written_length after) ≡ message (Code code) event source
   -- the whole buffer, where a frame can be as long as that
-  pub whole : answer ≡ Written → length after ≤ longest_frame → read_frame after ≡ message (Code code) event source
+  pub whole : answer ≡ Ok tt → length after ≤ longest_frame → read_frame after ≡ message (Code code) event source
   -- "octets from 1"
-  pub layout : answer ≡ Written → Layout (take written_length after) source event code
+  pub layout : answer ≡ Ok tt → Layout (take written_length after) source event code

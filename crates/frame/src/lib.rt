@@ -72,13 +72,6 @@ pub struct FrameMessage {
     pub source: [u8; 6],
 }
 
-// What writing a frame answers.
-#[derive(Clone, Copy)]
-pub enum FrameWrite {
-    Written,
-    Refused(u8),
-}
-
 // The octet of a frame that has a number.
 fn octet(frame: &[u8], number: usize) -> u8
     requires { (0 < number) × (number ≤ length frame.now) }
@@ -87,32 +80,23 @@ fn octet(frame: &[u8], number: usize) -> u8
     frame[number - 1]
 }
 
-// An octet as a wider number, with its bound, so that sums of it ask for nothing more.
-fn wide(octet: u8) -> u64
-    ensures { (result ≡ octet) × (result < 256) }
-{
-    octet as u64
-}
-
 // Two octets of a row from `place` on as one number, the first the lowest: a processor that reads
 // low ends first has them in one go.
-fn two_octets(row: &[u8], place: usize) -> u64
+fn two_octets(row: &[u8], place: usize) -> u16
     requires { place + 2 ≤ length row.now }
-    ensures { (result ≡
-        foldr (λ octet higher. higher * 256 + octet) 0 (take 2 (drop place row.now)))
-        × (result < 65536) }
+    ensures { result ≡
+        foldr (λ octet higher. higher * 256 + octet) 0 (take 2 (drop place row.now)) }
 {
-    wide(row[place + 1]) * 256 + wide(row[place])
+    u16::from_le_bytes([row[place], row[place + 1]])
 }
 
 // Four octets, likewise.
-fn four_octets(row: &[u8], place: usize) -> u64
+fn four_octets(row: &[u8], place: usize) -> u32
     requires { place + 4 ≤ length row.now }
-    ensures { (result ≡
-        foldr (λ octet higher. higher * 256 + octet) 0 (take 4 (drop place row.now)))
-        × (result < 4294967296) }
+    ensures { result ≡
+        foldr (λ octet higher. higher * 256 + octet) 0 (take 4 (drop place row.now)) }
 {
-    two_octets(row, place + 2) * 65536 + two_octets(row, place)
+    u32::from_le_bytes([row[place], row[place + 1], row[place + 2], row[place + 3]])
 }
 
 // Eight octets, likewise.
@@ -121,7 +105,16 @@ fn eight_octets(row: &[u8], place: usize) -> u64
     ensures { result ≡
         foldr (λ octet higher. higher * 256 + octet) 0 (take 8 (drop place row.now)) }
 {
-    four_octets(row, place + 4) * 4294967296 + four_octets(row, place)
+    u64::from_le_bytes([
+        row[place],
+        row[place + 1],
+        row[place + 2],
+        row[place + 3],
+        row[place + 4],
+        row[place + 5],
+        row[place + 6],
+        row[place + 7],
+    ])
 }
 
 // Whether the octets of a row from `place` on are the rest of `wanted` from `start` on, three at
@@ -135,20 +128,15 @@ fn has_rest(row: &[u8], place: usize, wanted: &[u8], start: usize) -> bool
         (take (length wanted.now - start) (drop place row.now))
         (drop start wanted.now) }
 {
-    let left = wanted.len() - start;
-    if left < 1 {
-        return true;
+    match wanted.len() - start {
+        0 => true,
+        1 => row[place] == wanted[start],
+        2 => two_octets(row, place) == two_octets(wanted, start),
+        _ => {
+            two_octets(row, place) == two_octets(wanted, start)
+                && row[place + 2] == wanted[start + 2]
+        }
     }
-    if left < 2 {
-        return row[place] == wanted[start];
-    }
-    if two_octets(row, place) != two_octets(wanted, start) {
-        return false;
-    }
-    if left < 3 {
-        return true;
-    }
-    row[place + 2] == wanted[start + 2]
 }
 
 // Whether `wanted` stands in a row from `place` on: octets in a frame, or characters in a line.
@@ -160,19 +148,17 @@ pub fn has_row(row: &[u8], place: usize, wanted: &[u8]) -> bool
         (take (length wanted.now) (drop place row.now))
         wanted.now) }
 {
-    if row.len() < place {
+    if row.len() < place || row.len() - place < wanted.len() {
         return false;
     }
-    if row.len() - place < wanted.len() {
-        return false;
-    }
-    let mut passed = 0;
-    while 4 <= wanted.len() - passed {
+    let fours = wanted.len() / 4;
+    for four in 0..fours {
+        let passed = 4 * four;
         if four_octets(row, place + passed) != four_octets(wanted, passed) {
             return false;
         }
-        passed += 4;
     }
+    let passed = 4 * fours;
     has_rest(row, place + passed, wanted, passed)
 }
 
@@ -199,10 +185,7 @@ fn has_version_and_tlv(frame: &[u8]) -> bool
 fn frame_number(frame: &[u8]) -> u8
     ensures { result ≡ frame_number frame.now }
 {
-    if frame.len() < SHORTEST_FRAME {
-        return FRAME_LENGTH;
-    }
-    if LONGEST_FRAME < frame.len() {
+    if frame.len() < SHORTEST_FRAME || LONGEST_FRAME < frame.len() {
         return FRAME_LENGTH;
     }
     if !has_octets(frame, 1, &DESTINATION) {
@@ -247,14 +230,9 @@ fn source_address(frame: &[u8]) -> [u8; 6]
     requires { shortest_frame ≤ length frame.now }
     ensures { result ≡ source_address frame.now }
 {
-    [
-        octet(frame, 7),
-        octet(frame, 8),
-        octet(frame, 9),
-        octet(frame, 10),
-        octet(frame, 11),
-        octet(frame, 12),
-    ]
+    let mut source = [0; SOURCE_LENGTH];
+    source.copy_from_slice(&frame[6..12]);
+    source
 }
 
 // Reads a frame: its code, its event flag and its source address, or the smallest number of refusal
@@ -295,11 +273,7 @@ fn put_octets(buffer: &mut [u8], first: usize, row: &[u8])
     ensures { buffer.new ≡ put_octets buffer.old first row.now }
 {
     let start = first - 1;
-    let mut put = 0;
-    while put < row.len() {
-        buffer[start + put] = row[put];
-        put += 1;
-    }
+    buffer[start..start + row.len()].copy_from_slice(row);
 }
 
 // Octet 21 of a frame that is written.
@@ -336,21 +310,22 @@ fn put_data(buffer: &mut [u8], code: u8)
     put_octets(buffer, 29, &[0; WRITTEN_LENGTH - 28]);
 }
 
-// Writes a frame into the first 60 octets of `buffer` and keeps the others; a refusal keeps all.
-pub fn write_frame(buffer: &mut [u8], source: &[u8], event: bool, code: u8) -> FrameWrite
+// Writes a frame into the first 60 octets of `buffer` and keeps the others; a refusal keeps all, and
+// tells its number.
+pub fn write_frame(buffer: &mut [u8], source: &[u8], event: bool, code: u8) -> Result<(), u8>
     ensures { WriteFrame
         buffer.old source.now event code result buffer.new }
 {
     if LARGEST_CODE < code {
-        return FrameWrite::Refused(ARGUMENT_OUT_OF_RANGE);
+        return Err(ARGUMENT_OUT_OF_RANGE);
     }
     if source.len() != SOURCE_LENGTH {
-        return FrameWrite::Refused(SOURCE_NOT_SIX);
+        return Err(SOURCE_NOT_SIX);
     }
     if buffer.len() < WRITTEN_LENGTH {
-        return FrameWrite::Refused(BUFFER_TOO_SHORT);
+        return Err(BUFFER_TOO_SHORT);
     }
     put_header(buffer, source, event);
     put_data(buffer, code);
-    FrameWrite::Written
+    Ok(())
 }

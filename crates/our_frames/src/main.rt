@@ -43,7 +43,7 @@ fn print_frames(rt: &HostRuntime, event: bool, sent: &mut usize) -> Ending {
 // One line. The buffer starts with no octet zero, so that all 60 are seen to be written.
 fn print_frame(rt: &HostRuntime, event: bool, code: u8, sent: &mut usize) -> Ending {
     let mut buffer = [0xff; WRITTEN_LENGTH];
-    write_frame(&mut buffer, &SOURCE, event, code);
+    let _ = write_frame(&mut buffer, &SOURCE, event, code);
     let mut line = [b'\n'; LINE];
     put_octets(&buffer, &mut line);
     write_line(rt, &line, sent)

@@ -9,7 +9,7 @@ use lib.Seq.{drop_at}
 use borrow.Author.Tests.{eqb-true, eqb-false}
 use Rattle.numbers.specs.Refusal.{accepted}
 use Rattle.frame.specs.declared.FrameRead.TheVariants.{Code}
-use Rattle.frame.specs.declared.FrameWrite.TheVariants.{Written}
+use Rattle.std.proofs.Common.{Ok}
 use Rattle.frame.specs.Read.{message}
 use Rattle.frame.specs.Write.{written_length, frame_octets, write_answer, content_after}
 use Rattle.frame.specs.RoundTrip.{Layout, RoundTrip}
@@ -59,7 +59,7 @@ heartbeat_over-flag time code sent frame =
 
 -- a frame's content, of its answer
 content_by-frame : (answer : Heartbeat) (code : ℕ) (source before : List ℕ) → is_frame_sent answer ≡ true
-    → content_by answer code source before ≡ content_after Written before source (flag_of answer) code
+    → content_by answer code source before ≡ content_after (Ok tt) before source (flag_of answer) code
 content_by-frame H.Information code source before frame = refl
 content_by-frame H.Event code source before frame = refl
 content_by-frame H.Nothing code source before frame = absurd (false≢true frame)
@@ -99,7 +99,7 @@ module _ (earlier : Questions) (question : Question) where
 
   framed : is_frame_sent (heartbeat_after earlier question) ≡ true
       → heartbeat_buffer earlier question
-      ≡ content_after Written question.buffer question.source (flag_of (heartbeat_after earlier question))
+      ≡ content_after (Ok tt) question.buffer question.source (flag_of (heartbeat_after earlier question))
       (code_asked question)
   framed frame =
       content_by-frame (heartbeat_after earlier question) (code_asked question) question.source question.buffer frame
@@ -107,11 +107,11 @@ module _ (earlier : Questions) (question : Question) where
   -- the buffer is as the frame writer leaves it
   trip : is_frame_sent (heartbeat_after earlier question) ≡ true
       → RoundTrip question.buffer question.source (flag_of (heartbeat_after earlier question)) (code_asked question)
-      Written
+      (Ok tt)
       (heartbeat_buffer earlier question)
   trip frame =
       let fit = fit-over (accepted_of question.port earlier) question (answer-frame frame) in
-      let written : write_answer question.buffer question.source (code_asked question) ≡ Written =
+      let written : write_answer question.buffer question.source (code_asked question) ≡ Ok tt =
       write_answer-written question.buffer question.source (code_asked question)
       (code_of_port-small question.state question.port)
       fit.six
@@ -119,7 +119,7 @@ module _ (earlier : Questions) (question : Question) where
       demand_2_round_trip question.buffer question.source (heartbeat_buffer earlier question)
       (flag_of (heartbeat_after earlier question))
       (code_asked question)
-      Written
+      (Ok tt)
       (record {
         answered = sym written;
         content = framed frame ∙ (rw written);

@@ -11,8 +11,7 @@ use Rattle.numbers.specs.Inputs.{last_input, input_count, time_limit}
 use Rattle.numbers.specs.Refusal.{accepted, time_too_large, time_before_state, input_out_of_range, argument_out_of_range, buffer_too_short, source_not_six}
 use Rattle.numbers.specs.Rows.{first_that_applies}
 use Rattle.numbers.proofs.Rows.{none-exact}
-use Rattle.frame.specs.declared.FrameWrite.{FrameWrite}
-use Rattle.frame.specs.Write.{written_length, source_length, largest_code, WriteFrame}
+use Rattle.frame.specs.Write.{Writing, written_length, source_length, largest_code, WriteFrame}
 use Rattle.frame.proofs.WriteLaws.{write_answer-written}
 use Rattle.selector.specs.declared.Selector.{Selector}
 use Rattle.selector.specs.Answer.{outgoing_codes}
@@ -188,22 +187,16 @@ pub ruleset questionNumber-laws = (
 
 -- ---- content_by
 
-module _ (code : ℕ) (source before : List ℕ) (written : FrameWrite) (after : List ℕ) where
-  pub content_by-information : (heartbeat : Heartbeat) → code ≤ largest_code → length source ≡ source_length
-      → written_length ≤ length before
-      → heartbeat ≡ H.Information
-      → WriteFrame before source false code written after
-      → after ≡ content_by heartbeat code source before
-  content_by-information heartbeat small six long case write =
-      write.content ∙ (rw (write_answer-written before source code small six long, case))
+module _ (heartbeat : Heartbeat) (event : Bool) (code : ℕ) (source before : List ℕ) (written : Writing) (after : List ℕ)
+    (write : WriteFrame before source event code written after)
+    (small : code ≤ largest_code) (six : length source ≡ source_length) (long : written_length ≤ length before) where
+  pub content_by-information : heartbeat ≡ H.Information → event ≡ false → after ≡ content_by heartbeat code source before
+  content_by-information case flag =
+      write.content ∙ (rw (write_answer-written before source code small six long, case, flag))
 
-  pub content_by-event : (heartbeat : Heartbeat) → code ≤ largest_code → length source ≡ source_length
-      → written_length ≤ length before
-      → heartbeat ≡ H.Event
-      → WriteFrame before source true code written after
-      → after ≡ content_by heartbeat code source before
-  content_by-event heartbeat small six long case write =
-      write.content ∙ (rw (write_answer-written before source code small six long, case))
+  pub content_by-event : heartbeat ≡ H.Event → event ≡ true → after ≡ content_by heartbeat code source before
+  content_by-event case flag =
+      write.content ∙ (rw (write_answer-written before source code small six long, case, flag))
 
 pub ruleset contentBy-laws = (content_by-information, content_by-event)
 

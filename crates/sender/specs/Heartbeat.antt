@@ -1,11 +1,10 @@
 -- Document 02, L1, "A heartbeat on every port": what a question is answered with, by the questions that came before it.
 -- This is the whole law: nothing is kept and no timer runs. `Sender` has what the code keeps instead.
 -- Assumes nothing.
-use Rattle.std.specs.Prelude.{ℕ, suc, ◌+◌, Bool, true, false, not, ◌&&◌, cond, List, [], ◌∷◌, eqb, leb, ltb, length, get_or}
+use Rattle.std.specs.Prelude.{ℕ, suc, ◌+◌, Bool, true, false, not, ◌&&◌, cond, List, [], ◌∷◌, Ok, eqb, leb, ltb, length, get_or}
 use Rattle.numbers.specs.Inputs.{last_input, time_limit}
 use Rattle.numbers.specs.Refusal.{accepted, time_too_large, time_before_state, input_out_of_range, buffer_too_short, source_not_six}
 use Rattle.numbers.specs.Rows.{Refusal, refusal, first_that_applies}
-use Rattle.frame.specs.declared.FrameWrite.TheVariants.{Written}
 use Rattle.frame.specs.Write.{written_length, source_length, content_after}
 use Rattle.selector.specs.declared.Selector.{Selector}
 use Rattle.selector.specs.Answer.{outgoing_codes}
@@ -163,7 +162,7 @@ sent_by port questions = sent_over (accepted_of port questions)
 -- what each answer leaves in the buffer: a frame is its first 60 octets; refusals "keep .. the buffer; answering
 -- nothing keeps the buffer"
 abbrev pub content_by : Heartbeat → ℕ → List ℕ → List ℕ → List ℕ
-content_by H.Information code source buffer = content_after Written buffer source false code
-content_by H.Event code source buffer = content_after Written buffer source true code
+content_by H.Information code source buffer = content_after (Ok tt) buffer source false code
+content_by H.Event code source buffer = content_after (Ok tt) buffer source true code
 content_by H.Nothing code source buffer = buffer
 content_by (H.Refused number) code source buffer = buffer

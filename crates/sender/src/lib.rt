@@ -220,16 +220,13 @@ fn send(heartbeat: Heartbeat, code: u8, source: &[u8], buffer: &mut [u8])
     ensures { buffer.new ≡
         content_by heartbeat code source.now buffer.old }
 {
-    match heartbeat {
-        Heartbeat::Information => {
-            write_frame(buffer, source, false, code);
-        }
-        Heartbeat::Event => {
-            write_frame(buffer, source, true, code);
-        }
-        Heartbeat::Nothing => {}
-        Heartbeat::Refused(_) => {}
-    }
+    let event = match heartbeat {
+        Heartbeat::Information => false,
+        Heartbeat::Event => true,
+        Heartbeat::Nothing | Heartbeat::Refused(_) => return,
+    };
+    // Code, source and room are right: no refusal comes back.
+    let _ = write_frame(buffer, source, event, code);
 }
 
 // The time of a port's last question: a port above 15 has no sender, and no last question.

@@ -12,6 +12,7 @@ use Rattle.frame.proofs.ReadLaws.{right_length-right, right_length-short, right_
 use Rattle.frame.proofs.Header.{protocol_and_organisation}
 use Rattle.numbers.proofs.Truth.{both_first, both-second}
 use Rattle.frame.proofs.frame_number.Goals as goal
+use Rattle.frame.proofs.frame_number.Goals.{then-frame-lt-SHORTEST_FRAME-via-then-frame-lt-SHORTEST_FRAME, then-frame-lt-SHORTEST_FRAME-via-else-frame-lt-SHORTEST_FRAME+then-frame-gt-LONGEST_FRAME}
 
 -- ---- two parts together
 second-false : (one other : Bool) → one ≡ true → (one && other) ≡ false → other ≡ false
@@ -33,10 +34,12 @@ rows_right frame both =
 
 -- ---- the needs
 pub returns-then-frame-lt-SHORTEST_FRAME : goal.returns-then-frame-lt-SHORTEST_FRAME
-returns-then-frame-lt-SHORTEST_FRAME c = frame_number-length _ (right_length-short _ c.if-frame-lt-SHORTEST_FRAME.true)
-
-pub returns-then-frame-gt-LONGEST_FRAME : goal.returns-then-frame-gt-LONGEST_FRAME
-returns-then-frame-gt-LONGEST_FRAME c = frame_number-length _ (right_length-long _ c.if-frame-gt-LONGEST_FRAME.true)
+returns-then-frame-lt-SHORTEST_FRAME c =
+    frame_number-length _
+    (elim c.then-frame-lt-SHORTEST_FRAME.branch [
+      | then-frame-lt-SHORTEST_FRAME-via-then-frame-lt-SHORTEST_FRAME w ↦ right_length-short _ w.if-frame-lt-SHORTEST_FRAME.true
+      | then-frame-lt-SHORTEST_FRAME-via-else-frame-lt-SHORTEST_FRAME+then-frame-gt-LONGEST_FRAME w ↦ right_length-long _ w.if-frame-gt-LONGEST_FRAME.true
+    ])
 
 pub returns-then-not-has_octets : goal.returns-then-not-has_octets
 returns-then-not-has_octets c =

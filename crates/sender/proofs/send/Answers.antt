@@ -2,9 +2,8 @@
 -- Assumes nothing.
 use Rattle.sender.proofs.SenderLaws.{contentBy-laws}
 use Rattle.sender.proofs.send.Goals as goal
+use Rattle.sender.proofs.send.Goals.{in-Information, in-Event}
 
-pub returns-in-Information : goal.returns-in-Information
-returns-in-Information c = search contentBy-laws
-
-pub returns-in-Event : goal.returns-in-Event
-returns-in-Event c = search contentBy-laws
+pub returns : goal.returns
+returns c =
+    elim c.match-heartbeat.branch [ in-Information w ↦ search contentBy-laws | in-Event w ↦ search contentBy-laws ]
