@@ -15,7 +15,7 @@ use Rattle.numbers.specs.Recorded.{Recorded}
 use Rattle.numbers.specs.From.{started, ◌following◌, profile_of}
 use Rattle.numbers.specs.Codes.{Sign, said_by, codes_of, words, quality_of_code, quality_of_word, said_in}
 use Rattle.numbers.specs.Inputs.{last_input, frame_life}
-use Rattle.numbers.specs.Kind.{kind_row_of, kind_word, kind_line_code, kind_frame, takes_frames, is_counted, is_frame}
+use Rattle.numbers.specs.Kind.{kind_row_of, is_known, kind_word, kind_line_code, kind_frame, takes_frames, is_counted, is_frame}
 use Rattle.numbers.specs.Profile.{limits_of, number_of_prov_place, prov_place_of, number_in_one, paper_number}
 use Rattle.numbers.specs.Quality.{quality, not_told, invalid, failed, prov, is_failed}
 use Rattle.frame.specs.Read.{read_code}
@@ -217,7 +217,7 @@ word_ranged provplace marks word =
     )
 
 -- option I knows no word
-words_ranged : (profile : Profile) (kind argument : ℕ) → (kind_row_of (limits_of profile) kind).known ≡ true
+words_ranged : (profile : Profile) (kind argument : ℕ) → is_known (limits_of profile) kind ≡ true
     → kind ≡ kind_word
     → Ranged profile (quality_of_word argument)
 unfolding kind_row_of limits_of
@@ -225,7 +225,7 @@ words_ranged P.OptionOne kind argument known word = absurd (true≢false (sym (r
 words_ranged (P.OptionTwo provplace marks) kind argument known word = word_ranged provplace marks argument
 
 -- what a report says
-said_ranged : (profile : Profile) (kind argument : ℕ) → (kind_row_of (limits_of profile) kind).known ≡ true
+said_ranged : (profile : Profile) (kind argument : ℕ) → is_known (limits_of profile) kind ≡ true
     → Ranged profile (said_in profile kind argument)
 unfolding said_in
 said_ranged profile kind argument known =
@@ -245,15 +245,15 @@ HistoryRanged profile input (event following earlier) =
 
 -- an event that is not refused with 2 to 13 is of a kind that is known
 known-kind : (past : Past) (given : Given) → early_by past given ≡ accepted
-    → (kind_row_of (limits_of (profile_of past.history)) given.event.kind).known ≡ true
+    → is_known (limits_of (profile_of past.history)) given.event.kind ≡ true
 known-kind past given none =
     let limits = limits_of (profile_of past.history) in
     let rows =
     early_rows limits (time_of past.history) (input_kind given.event.input past.history) given.event in
-    let first : not (kind_row_of limits given.event.kind).known ≡ false =
+    let first : not (is_known limits given.event.kind) ≡ false =
     (given-none-first rows (frame_event_rows given.event.kind given.frame)
     (rising-numbered kind_unknown rows (omega arith) refl) none).0 in
-    not-false (kind_row_of limits given.event.kind).known first
+    not-false (is_known limits given.event.kind) first
 
 -- what has happened after an event
 abbrev past_with : Past → Given → Bool → Bool → Past

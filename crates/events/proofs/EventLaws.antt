@@ -11,17 +11,15 @@ use Rattle.std.specs.Prelude.{Option}
 use Rattle.numbers.specs.declared.Event.{Event}
 use Rattle.numbers.specs.declared.kind.InputKind.{InputKind}
 use Rattle.numbers.specs.declared.InputNumber.{InputNumber}
-use Rattle.numbers.specs.declared.profile.Limits.{Limits}
 use Rattle.numbers.specs.declared.profile.Profile.{Profile}
-use Rattle.numbers.specs.declared.kind.KindRow.{KindRow}
 use Rattle.numbers.specs.declared.quality.Quality.{Quality}
 use Rattle.numbers.specs.Recorded.{Recorded, said_event}
 use Rattle.numbers.specs.Codes.{quality_of_code, quality_of_word, said_in}
 use Rattle.numbers.specs.Profile.{limits_of}
 use Rattle.numbers.specs.Quality.{not_told}
-use Rattle.numbers.specs.Inputs.{input_count, time_limit}
-use Rattle.numbers.specs.Kind.{kind_row_of, is_input_out, is_argument_out, flag, input_kind_of, kind_argument, takes_codes, takes_frames, takes_words, kind_signal, kind_frame, kind_line_code, kind_priority, kind_lockout, kind_holdoff, kind_wait, kind_fixed_quality, kind_clear_wait, kind_forced, kind_manual, kind_clear_switch, kind_quality_mode, kind_sending, kind_input_kind, kind_floor, kind_word}
-use Rattle.numbers.specs.Refusal.{accepted, kind_unknown, time_too_large, time_before_state, input_out_of_range, argument_out_of_range, wrong_input_kind, forced_barred, manual_forced_stands, manual_not_eligible, manual_lower_quality}
+use Rattle.numbers.specs.Inputs.{input_count}
+use Rattle.numbers.specs.Kind.{flag, input_kind_of, kind_argument, takes_codes, takes_frames, takes_words, kind_signal, kind_frame, kind_line_code, kind_priority, kind_lockout, kind_holdoff, kind_wait, kind_fixed_quality, kind_clear_wait, kind_forced, kind_manual, kind_clear_switch, kind_quality_mode, kind_sending, kind_input_kind, kind_floor, kind_word}
+use Rattle.numbers.specs.Refusal.{accepted, forced_barred, manual_forced_stands, manual_not_eligible, manual_lower_quality}
 use Rattle.frame.specs.declared.FrameRead.{FrameRead}
 use Rattle.frame.specs.declared.FrameRead.TheVariants as R
 use Rattle.frame.specs.Read.{number_of_read}
@@ -43,7 +41,6 @@ use Rattle.due.specs.Served.{Served, most_served, served, ticked}
 use Rattle.due.proofs.ServesEachDue.{served-most}
 use Rattle.numbers.specs.Rows.{first_that_applies}
 use Rattle.numbers.proofs.Truth.{by_bool, contra, or_first, or_second}
-use Rattle.numbers.proofs.Rows.{first-own}
 use Rattle.events.specs.Refusals.{is_wrong_kind, frame_refusal, early_refusal, is_forced_switch, is_judged_late, ScannedOn, late_refusal}
 use Rattle.events.specs.Step.{Stepped, kind_at, low_byte, is_held_in_byte, held_argument, input_after, inputs_after, mode_after, recorded_argument, read_event, at_its_moment, stepped, early_number, late_number, step_ticked, step_read}
 
@@ -90,79 +87,6 @@ module _ (kind : ℕ) (read : FrameRead) where
   frame_refusal-other n = rw (ne_eqb _ _ n)
 
 pub ruleset frameRefusal-laws = (frame_refusal-refused, frame_refusal-code, frame_refusal-other)
-
--- ---- early_refusal
-
-module _ (profile : Profile) (limits : Limits) (time : ℕ) (inputkind : InputKind) (event : Event) (read : FrameRead)
-    (row : KindRow) where
-  pub early_refusal_unknown : limits ≡ limits_of profile → row ≡ kind_row_of limits event.kind → not row.known ≡ true
-      → kind_unknown ≡ early_refusal (limits_of profile) time inputkind event read
-  unfolding early_refusal first_that_applies
-  early_refusal_unknown l n f = rw (← l, ← n, f)
-
-  pub early_refusal-late-time : limits ≡ limits_of profile → row ≡ kind_row_of limits event.kind
-      → not row.known ≡ false
-      → time_limit ≤ event.time
-      → time_too_large ≡ early_refusal (limits_of profile) time inputkind event read
-  unfolding early_refusal first_that_applies
-  early_refusal-late-time l n f t = rw (← l, ← n, f, le-leb _ _ t)
-
-  pub early_refusal-early-time : limits ≡ limits_of profile → row ≡ kind_row_of limits event.kind
-      → not row.known ≡ false
-      → event.time < time_limit
-      → event.time < time → time_before_state ≡ early_refusal (limits_of profile) time inputkind event read
-  unfolding early_refusal first_that_applies
-  early_refusal-early-time l n f t u = rw (← l, ← n, f, lt-leb _ _ t, lt-ltb _ _ u)
-
-  module _ (out : Bool) where
-    pub early_refusal-input : limits ≡ limits_of profile → row ≡ kind_row_of limits event.kind → not row.known ≡ false
-        → event.time < time_limit
-        → time ≤ event.time → out ≡ is_input_out row event.input → out ≡ true
-        → input_out_of_range ≡ early_refusal (limits_of profile) time inputkind event read
-    unfolding early_refusal first_that_applies
-    early_refusal-input l n f t u i o = rw (← l, ← n, f, lt-leb _ _ t, le-ltb _ _ u, ← i, o)
-
-    module _ (argumentOut : Bool) where
-      pub early_refusal-argument : limits ≡ limits_of profile → row ≡ kind_row_of limits event.kind
-          → not row.known ≡ false
-          → event.time < time_limit
-          → time ≤ event.time → out ≡ is_input_out row event.input → out ≡ false
-          → argumentOut ≡ is_argument_out row event.argument → argumentOut ≡ true
-          → argument_out_of_range ≡ early_refusal (limits_of profile) time inputkind event read
-      unfolding early_refusal first_that_applies
-      early_refusal-argument l n f t u i o a p = rw (← l, ← n, f, lt-leb _ _ t, le-ltb _ _ u, ← i, o, ← a, p)
-
-      module _ (wrong : Bool) where
-        pub early_refusal-kind : limits ≡ limits_of profile → row ≡ kind_row_of limits event.kind
-            → not row.known ≡ false
-            → event.time < time_limit
-            → time ≤ event.time → out ≡ is_input_out row event.input → out ≡ false
-            → argumentOut ≡ is_argument_out row event.argument → argumentOut ≡ false
-            → wrong ≡ is_wrong_kind event.kind inputkind
-            → wrong ≡ true → wrong_input_kind ≡ early_refusal (limits_of profile) time inputkind event read
-        unfolding early_refusal first_that_applies
-        early_refusal-kind l n f t u i o a p w q = rw (← l, ← n, f, lt-leb _ _ t, le-ltb _ _ u, ← i, o, ← a, p, ← w, q)
-
-        pub early_refusal-frame : (number : ℕ) → limits ≡ limits_of profile → row ≡ kind_row_of limits event.kind
-            → not row.known ≡ false
-            → event.time < time_limit → time ≤ event.time → out ≡ is_input_out row event.input → out ≡ false
-            → argumentOut ≡ is_argument_out row event.argument → argumentOut ≡ false
-            → wrong ≡ is_wrong_kind event.kind inputkind
-            → wrong ≡ false → number ≡ frame_refusal event.kind read
-            → number ≡ early_refusal (limits_of profile) time inputkind event read
-        unfolding early_refusal first_that_applies
-        early_refusal-frame number l n f t u i o a p w q r =
-            rw (← l, ← n, f, lt-leb _ _ t, le-ltb _ _ u, ← i, o, ← a, p, ← w, q, ← r) (sym (first-own number))
-
-pub ruleset earlyRefusal-laws = (
-  early_refusal_unknown,
-  early_refusal-late-time,
-  early_refusal-early-time,
-  early_refusal-input,
-  early_refusal-argument,
-  early_refusal-kind,
-  early_refusal-frame,
-)
 
 -- ---- is_forced_switch
 

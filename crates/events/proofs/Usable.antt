@@ -13,7 +13,6 @@ use Rattle.numbers.specs.declared.InputNumber.{InputNumber}
 use Rattle.numbers.specs.declared.quality.Quality.{Quality}
 use Rattle.numbers.specs.declared.profile.Profile.{Profile}
 use Rattle.numbers.specs.declared.profile.Profile.TheVariants as P
-use Rattle.numbers.specs.declared.kind.KindRow.{KindRow}
 use Rattle.numbers.specs.From.{started, ◌following◌, profile_of}
 use Rattle.numbers.specs.Kind.{kind_row_of, kind_frame, kind_tick, kind_fixed_quality, kind_floor}
 use Rattle.numbers.specs.Profile.{limits_of, floor_in, prov_place_of, last_prov_place}
@@ -38,7 +37,7 @@ use Rattle.events.specs.Past.{Past, candidate_by, decided_by, early_by, late_by,
 use Rattle.events.specs.Told.{shown, candidate_selected}
 use Rattle.events.specs.Demand3.{StandsForced}
 use Rattle.events.specs.Usable.{SelectedPasses, UsableFrom, SomethingUsable, NothingUsable, clock_state_after, LockedExactly, NeverUsable}
-use Rattle.events.proofs.Refused.{early_refusal-rows, argument-within, argument-least}
+use Rattle.events.proofs.Refused.{InRow, early_refusal-rows, argument_in_row}
 use Rattle.events.proofs.Agrees.{recorded-profile}
 use Rattle.events.proofs.Stated.{passed_at_passes, passed_at_only}
 use Rattle.events.proofs.Happened.{happened}
@@ -230,10 +229,6 @@ module _ (sequence : Sequence) where
 
 -- ---- settings stay in their ranges
 
--- an argument is in a row's range
-abbrev InRow : KindRow → ℕ → Type 0
-InRow row argument = (row.least ≤ argument) × (argument ≤ row.most)
-
 module _ (kind number fresh : ℕ) (notTick : eqb kind_tick kind ≡ false) (notFrame : eqb kind kind_frame ≡ false) where
   -- a setting as the recorded events have it is fresh, or in its row
   abbrev Ranged : History → Type 0
@@ -259,16 +254,13 @@ module _ (kind number fresh : ℕ) (notTick : eqb kind_tick kind ≡ false) (not
         let early = early_refusal-rows (limits_of (profile_of past.history)) (time_of past.history)
         (input_kind given.event.input past.history) given.event given.frame ∙ none
         in
-        let least = argument-least (limits_of (profile_of past.history)) (time_of past.history)
-        (input_kind given.event.input past.history) given.event (read_code given.frame) early
-        in
-        let most = argument-within (limits_of (profile_of past.history)) (time_of past.history)
+        let within = argument_in_row (limits_of (profile_of past.history)) (time_of past.history)
         (input_kind given.event.input past.history) given.event (read_code given.frame) early
         in
         rw (same, notFrame)
         (subst (λ (known : ℕ). InRow (kind_row_of (limits_of (profile_of past.history)) known) given.event.argument)
         same
-        (least, most))
+        within)
 
     taken_ranged : Ranged past.history
         → Ranged (as_recorded (profile_of past.history) given following past.history)

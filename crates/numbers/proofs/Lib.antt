@@ -2,9 +2,7 @@
 -- of rows of refusals, that the first that applies is the smallest; that no place of PROV is above 8. `Truth`: tests,
 -- by their cases.
 pub mod Truth
-pub mod KindLaws
 pub mod Rows
 pub mod Cases
-pub mod Profiles
 pub mod Places
 pub mod Told

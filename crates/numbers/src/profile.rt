@@ -15,7 +15,7 @@ pub const OPTION_TWO: u8 = 2;
 const LAST_PROV_PLACE: u8 = 8;
 
 // The place of PROV: none, or just below a quality of 1 to 8. There is no other.
-#[derive(Clone, Copy)]
+#[derive(Clone, Copy, PartialEq, Eq)]
 pub enum ProvPlace {
     Unplaced,
     Below1,
@@ -30,7 +30,7 @@ pub enum ProvPlace {
 
 // What is chosen once, at the fresh start; option II with the place of PROV and the marks of the
 // first-generation ports.
-#[derive(Clone, Copy)]
+#[derive(Clone, Copy, PartialEq, Eq)]
 pub enum Profile {
     OptionOne,
     OptionTwo(ProvPlace, u16),
@@ -38,7 +38,7 @@ pub enum Profile {
 
 // What the options differ in: the last fixed quality, floor and kind of input, whether words come,
 // and what a clock by itself tells.
-#[derive(Clone, Copy)]
+#[derive(Clone, Copy, PartialEq, Eq)]
 pub struct Limits {
     pub fixed: u16,
     pub floor: u16,
@@ -48,6 +48,7 @@ pub struct Limits {
 }
 
 // What the options differ in.
+#[tactic(auto, unfolding(crate::specs::Profile::limits_of))]
 pub fn limits_of(profile: Profile) -> Limits
     ensures { result ≡ limits_of profile }
 {
@@ -71,6 +72,7 @@ pub fn limits_of(profile: Profile) -> Limits
 
 // The place that a number says. A number above 8 says none, as 0 does: a start asks `start_number`
 // first, and numbers that nobody has asked about leave PROV unplaced.
+#[tactic(auto, unfolding(crate::specs::Profile::prov_place_in))]
 pub fn prov_place_in(number: u8) -> ProvPlace
     ensures { result ≡ prov_place_in number }
 {
@@ -88,24 +90,16 @@ pub fn prov_place_in(number: u8) -> ProvPlace
 }
 
 // The number of a place, 0 for none.
+#[tactic(auto, unfolding(crate::specs::Profile::number_of_prov_place))]
 pub fn number_of_prov_place(provplace: ProvPlace) -> u8
     ensures { result ≡ number_of_prov_place provplace }
 {
-    match provplace {
-        ProvPlace::Unplaced => 0,
-        ProvPlace::Below1 => 1,
-        ProvPlace::Below2 => 2,
-        ProvPlace::Below3 => 3,
-        ProvPlace::Below4 => 4,
-        ProvPlace::Below5 => 5,
-        ProvPlace::Below6 => 6,
-        ProvPlace::Below7 => 7,
-        ProvPlace::Below8 => 8,
-    }
+    provplace as u8
 }
 
 // The profile of an option's number: 2 with the place and the marks; any other number is option I,
 // and neither is looked at.
+#[tactic(auto, unfolding(crate::specs::Profile::profile_with))]
 pub fn profile_with(option: u8, provplace: ProvPlace, marks: u16) -> Profile
     ensures { result ≡ profile_with option provplace marks }
 {
@@ -116,6 +110,7 @@ pub fn profile_with(option: u8, provplace: ProvPlace, marks: u16) -> Profile
 }
 
 // The same, of a place's number.
+#[tactic(auto, unfolding(crate::specs::Profile::profile_in))]
 pub fn profile_in(option: u8, provplace: u8, marks: u16) -> Profile
     ensures { result ≡ profile_in option provplace marks }
 {
@@ -123,6 +118,7 @@ pub fn profile_in(option: u8, provplace: u8, marks: u16) -> Profile
 }
 
 // The number of a profile's option.
+#[tactic(auto, unfolding(crate::specs::Profile::option_of))]
 pub fn option_of(profile: Profile) -> u8
     ensures { result ≡ option_of profile }
 {
@@ -133,6 +129,7 @@ pub fn option_of(profile: Profile) -> u8
 }
 
 // The number of a profile's place of PROV, 0 for none.
+#[tactic(auto, unfolding(crate::specs::Profile::prov_place_of))]
 pub fn prov_place_of(profile: Profile) -> u8
     ensures { result ≡ prov_place_of profile }
 {
@@ -144,19 +141,18 @@ pub fn prov_place_of(profile: Profile) -> u8
 
 // The number that a start with an option's number and a place's is answered with: 6 where option II
 // is given a place above 8, and then there is none.
+#[tactic(auto, unfolding(crate::specs::Profile::start_number))]
 pub fn start_number(option: u8, provplace: u8) -> u8
     ensures { result ≡ start_number option provplace }
 {
-    if option != OPTION_TWO {
-        return ACCEPTED;
-    }
-    if LAST_PROV_PLACE < provplace {
+    if option == OPTION_TWO && LAST_PROV_PLACE < provplace {
         return ARGUMENT_OUT_OF_RANGE;
     }
     ACCEPTED
 }
 
 // The marks of the first-generation ports, bit i for port i.
+#[tactic(auto, unfolding(crate::specs::Profile::marks_of))]
 pub fn marks_of(profile: Profile) -> u16
     ensures { result ≡ marks_of profile }
 {
@@ -167,6 +163,7 @@ pub fn marks_of(profile: Profile) -> u16
 }
 
 // An input's floor: as set, or fresh.
+#[tactic(auto, unfolding(crate::specs::Profile::floor_in))]
 pub fn floor_in(own: Quality, floor: u8) -> u8
     ensures { result ≡ floor_in own floor }
 {
@@ -177,35 +174,32 @@ pub fn floor_in(own: Quality, floor: u8) -> u8
 }
 
 // What a port tells of a quality: a first-generation one has ST3 for TNC and ST3E.
+#[tactic(auto, unfolding(crate::specs::Profile::told_by))]
 pub fn told_by(marked: bool, quality: Quality) -> Quality
     ensures { result ≡ told_by marked quality }
 {
-    if marked {
-        if quality.0 == TNC.0 {
-            return ST3;
-        }
-        if quality.0 == ST3E.0 {
-            return ST3;
-        }
-        return quality;
+    if marked && (quality == TNC || quality == ST3E) {
+        return ST3;
     }
     quality
 }
 
 // A quality's number in document 01: 6 for invalid and 7 for failed.
+#[tactic(auto, unfolding(crate::specs::Profile::number_in_one))]
 fn number_in_one(quality: Quality) -> u8
     ensures { result ≡ number_in_one quality }
 {
-    if quality.0 == INVALID.0 {
+    if quality == INVALID {
         return 6;
     }
-    if quality.0 == FAILED.0 {
+    if quality == FAILED {
         return 7;
     }
     quality.0
 }
 
 // A quality's number on paper, where it is shown.
+#[tactic(auto, unfolding(crate::specs::Profile::paper_number))]
 pub fn paper_number(profile: Profile, quality: Quality) -> u8
     ensures { result ≡ paper_number profile quality }
 {

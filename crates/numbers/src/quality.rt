@@ -93,10 +93,11 @@ const WORD_PROV: u16 = 0x40ff;
 pub const WORD_DUS: u16 = 0x30ff;
 
 // A quality's number: 1 to 5 or 1 to 10 by name, 11 invalid, 12 failed, 0 not told.
-#[derive(Clone, Copy)]
+#[derive(Clone, Copy, PartialEq, Eq, PartialOrd, Ord)]
 pub struct Quality(pub u8);
 
 // The quality that a code says in option I; invalid where it says none of the five.
+#[tactic(auto, unfolding(crate::specs::Codes::said_by))]
 fn said_in_one(code: u16) -> Quality
     ensures { result ≡ said_by codes_one code }
 {
@@ -111,6 +112,7 @@ fn said_in_one(code: u16) -> Quality
 }
 
 // The quality that a code says in option II; invalid where it says none of the nine.
+#[tactic(auto, unfolding(crate::specs::Codes::said_by))]
 fn said_in_two(code: u16) -> Quality
     ensures { result ≡ said_by codes_two code }
 {
@@ -129,6 +131,7 @@ fn said_in_two(code: u16) -> Quality
 }
 
 // The quality that a code says.
+#[tactic(auto, unfolding(crate::specs::Codes::quality_of_code))]
 pub fn quality_of_code(profile: Profile, code: u16) -> Quality
     ensures { result ≡ quality_of_code profile code }
 {
@@ -139,6 +142,7 @@ pub fn quality_of_code(profile: Profile, code: u16) -> Quality
 }
 
 // The code that says a quality in option I; 1111, do not use, where the number is none of the five.
+#[tactic(auto, unfolding(crate::specs::Codes::sign_of))]
 fn code_in_one(number: u8) -> u8
     ensures { result ≡ sign_of codes_one code_dnu (record { 0 = number }) }
 {
@@ -153,6 +157,7 @@ fn code_in_one(number: u8) -> u8
 }
 
 // The code that says a quality in option II; 1111 for ST4 too, which has none.
+#[tactic(auto, unfolding(crate::specs::Codes::sign_of))]
 fn code_in_two(number: u8) -> u8
     ensures { result ≡ sign_of codes_two code_dnu (record { 0 = number }) }
 {
@@ -171,6 +176,7 @@ fn code_in_two(number: u8) -> u8
 }
 
 // The code that says a quality.
+#[tactic(auto, unfolding(crate::specs::Codes::code_of_quality))]
 pub fn code_of_quality(profile: Profile, quality: Quality) -> u8
     ensures { result ≡ code_of_quality profile quality }
 {
@@ -181,6 +187,7 @@ pub fn code_of_quality(profile: Profile, quality: Quality) -> u8
 }
 
 // The quality that a word says; invalid where it says none of the ten.
+#[tactic(auto, unfolding(crate::specs::Codes::quality_of_word, crate::specs::Codes::said_by))]
 pub fn quality_of_word(word: u16) -> Quality
     ensures { result ≡ quality_of_word word }
 {
@@ -200,11 +207,11 @@ pub fn quality_of_word(word: u16) -> Quality
 }
 
 // The word that says a quality; 30FF, do not use, where the number is none of the ten.
+#[tactic(auto, unfolding(crate::specs::Codes::word_of_quality, crate::specs::Codes::sign_of))]
 pub fn word_of_quality(quality: Quality) -> u16
     ensures { result ≡ word_of_quality quality }
 {
-    let number = quality.0;
-    match number {
+    match quality.0 {
         1 => WORD_PRS,
         2 => WORD_STU,
         3 => WORD_ST2,
@@ -223,5 +230,5 @@ pub fn word_of_quality(quality: Quality) -> u16
 pub fn is_failed(quality: Quality) -> bool
     ensures { result ≡ is_failed quality }
 {
-    quality.0 == FAILED.0
+    quality == FAILED
 }

@@ -9,7 +9,7 @@ use lib.Dec.{eqb, leb, ltb}
 use borrow.Author.Tests.{leb-false, ltb-false, ne_eqb, le-ltb, eqb-true, eqb-false}
 use Rattle.numbers.specs.From.{◌following◌, profile_of}
 use Rattle.numbers.specs.Inputs.{time_limit}
-use Rattle.numbers.specs.Kind.{kind_row_of, is_input_out, is_argument_out}
+use Rattle.numbers.specs.Kind.{kind_row_of, is_known, is_input_out, is_argument_out}
 use Rattle.numbers.specs.Profile.{limits_of}
 use Rattle.numbers.specs.Refusal.{accepted, kind_unknown, time_too_large, time_before_state}
 use Rattle.numbers.specs.Rows.{RowApplies, first_that_applies}
@@ -92,7 +92,7 @@ module _ (past : Past) (time : ℕ) where
 module _ (past : Past) (given : Given) where
   abbrev refused_as : ℕ
   refused_as =
-      cond (kind_row_of (limits_of (profile_of past.history)) given.event.kind).known
+      cond (is_known (limits_of (profile_of past.history)) given.event.kind)
       (time_number (time_of past.history) given.event.time)
       kind_unknown
 
@@ -100,7 +100,7 @@ module _ (past : Past) (given : Given) where
   untimely_early : time_number (time_of past.history) given.event.time ≢ accepted → early_by past given ≡ refused_as
   unfolding first_that_applies time_number
   untimely_early refused =
-      by_bool (kind_row_of (limits_of (profile_of past.history)) given.event.kind).known
+      by_bool (is_known (limits_of (profile_of past.history)) given.event.kind)
       (λ k. by_bool (leb time_limit given.event.time)
       (λ l. rw (k, l))
       (λ l. by_bool (ltb given.event.time (time_of past.history))
@@ -110,7 +110,7 @@ module _ (past : Past) (given : Given) where
 
   refused_as-within : time_number (time_of past.history) given.event.time ≢ accepted → OneToThirteen refused_as
   refused_as-within refused =
-      by_bool (kind_row_of (limits_of (profile_of past.history)) given.event.kind).known
+      by_bool (is_known (limits_of (profile_of past.history)) given.event.kind)
       (λ k. rw k (time_number-within _ _ refused))
       (λ k. rw k (record { least = omega arith; most = omega arith }))
 

@@ -8,7 +8,7 @@ use lib.Dec.{eqb}
 use borrow.Author.Tests.{eq-eqb, ne_eqb}
 use Rattle.numbers.specs.declared.quality.Quality.{Quality}
 use Rattle.numbers.specs.From.{started, ◌following◌, profile_of}
-use Rattle.numbers.specs.Kind.{kind_row_of}
+use Rattle.numbers.specs.Kind.{is_known}
 use Rattle.numbers.specs.Profile.{limits_of}
 use Rattle.numbers.specs.Refusal.{accepted, kind_unknown, time_too_large, time_before_state}
 use Rattle.input.specs.Recorded.{time_of}
@@ -120,7 +120,7 @@ module _ (half : Half) (addressed : Addressed) (earlier : UnitSequence) where
   -- 2 where the kind is unknown, otherwise 3 or 4
   number-refused : timed ≢ accepted
       → number_with true addressed.given own ≡
-      cond (kind_row_of (limits_of (profile_of earlier)) addressed.given.event.kind).known timed kind_unknown
+      cond (is_known (limits_of (profile_of earlier)) addressed.given.event.kind) timed kind_unknown
   number-refused refused =
       let untimely : time_number (time_after own) (time_in addressed) ≢ accepted = λ e. refused (sym own-timed ∙ e) in
       let profile : profile_of (recorded first) ≡ profile_of earlier =
@@ -132,7 +132,7 @@ module _ (half : Half) (addressed : Addressed) (earlier : UnitSequence) where
       own-timed
       in
       untimely_number first addressed.given (refused-again own addressed.given untimely) ∙
-      (λ j. cond (kind_row_of (limits_of (profile j)) addressed.given.event.kind).known (same j) kind_unknown)
+      (λ j. cond (is_known (limits_of (profile j)) addressed.given.event.kind) (same j) kind_unknown)
 
   -- neither 3 nor 4 where it passes
   number_passed : (goes : Bool) (number : ℕ) → time_too_large ≤ number → number ≤ time_before_state → timed ≡ accepted

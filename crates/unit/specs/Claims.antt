@@ -3,7 +3,7 @@ use Rattle.std.specs.Prelude.{ℕ, ◌≤◌, ◌<◌, true, false, cond, ◌⊎
 use Rattle.numbers.specs.declared.profile.Profile.{Profile}
 use Rattle.numbers.specs.declared.quality.Quality.{Quality}
 use Rattle.numbers.specs.From.{started, ◌following◌, profile_of}
-use Rattle.numbers.specs.Kind.{kind_row_of}
+use Rattle.numbers.specs.Kind.{is_known}
 use Rattle.numbers.specs.Profile.{limits_of}
 use Rattle.numbers.specs.Quality.{quality, prov}
 use Rattle.numbers.specs.Refusal.{accepted, kind_unknown, time_too_large, time_before_state}
@@ -58,7 +58,7 @@ pub record OneTime (minimum : Quality) (half : Half) (addressed : Addressed) (ea
   -- "and checks 3 and 4 against it": where the time does not pass, a known kind is 3 or 4; one that is unknown is 2
   pub refused : time_number (unit_time earlier) (time_in addressed) ≢ accepted → is_for half addressed earlier ≡ true
       → half_number minimum half addressed earlier ≡
-      cond (kind_row_of (limits_of (profile_of earlier)) addressed.given.event.kind).known
+      cond (is_known (limits_of (profile_of earlier)) addressed.given.event.kind)
       (time_number (unit_time earlier) (time_in addressed))
       kind_unknown
   -- and where it passes, neither is given
