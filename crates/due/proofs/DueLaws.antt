@@ -1,92 +1,30 @@
 -- The definitions of `specs/`, a law for each way through the function that meets it. Assumes nothing.
 use Prim.Native.Nat.{ℕ, zero, suc, ◌+◌, ◌-◌, ◌≤◌, ◌<◌}
-use mathlib.Core.Bool.{Bool, true, false}
+use mathlib.Core.Bool.{Bool}
 use mathlib.Core.List.{List}
 use mathlib.Core.Path.{◌≡◌, refl, sym, ◌∙◌, ap}
 use native.Mathlib.Omega.{arith}
 use native.Mathlib.Numerals.{add-one}
 use lib.ListN.{length, get_or}
-use borrow.Author.Tests.{le-leb, lt-leb, lt-ltb, le-ltb}
-use Rattle.numbers.specs.Inputs.{frame_life}
-use Rattle.numbers.specs.Quality.{is_failed}
-use Rattle.run.specs.declared.Forecast.{Forecast}
-use Rattle.run.specs.declared.Run.{Run}
-use Rattle.input.specs.declared.Heard.{Heard}
+use borrow.Author.Tests.{le-leb, lt-leb}
 use Rattle.input.specs.declared.Input.{Input}
-use Rattle.input.specs.Record.{fresh_input, forecast}
+use Rattle.input.specs.Record.{fresh_input}
 use Rattle.selector.specs.declared.Selector.{Selector}
 use Rattle.selector.specs.State as State
 use Rattle.selector.proofs.SelectorLaws.{get_d_any}
-use Rattle.due.specs.Next.{never, lesser, sum_or_never, if_later, timer_due, frame_due, next_of, next_among, next_of_all, next_due}
+use Rattle.due.specs.Next.{never, lesser, sum_or_never, next_of, next_among, next_of_all, next_due}
 use Rattle.due.specs.Served.{served_of, served_from, served}
 
--- ---- lesser, sum_or_never, if_later
-
-module _ (one other : ℕ) where
-  pub lesser-first : one ≤ other → one ≡ lesser one other
-  unfolding lesser
-  lesser-first h = rw (le-leb _ _ h)
-
-  pub lesser-second : other < one → other ≡ lesser one other
-  unfolding lesser
-  lesser-second h = rw (lt-leb _ _ h)
-
-pub ruleset lesser-laws = (lesser-first, lesser-second)
+-- ---- sum_or_never
 
 module _ (began length : ℕ) where
   pub sum_or_never_sum : began + length ≤ never → began + length ≡ sum_or_never began length
-  unfolding sum_or_never
-  sum_or_never_sum h = lesser-first (began + length) never h
+  unfolding sum_or_never lesser
+  sum_or_never_sum h = rw (le-leb _ _ h)
 
   pub sum_or_never-never : never < began + length → never ≡ sum_or_never began length
-  unfolding sum_or_never
-  sum_or_never-never h = lesser-second (began + length) never h
-
-module _ (time due : ℕ) where
-  pub if_later-later : time < due → due ≡ if_later time due
-  unfolding if_later
-  if_later-later h = rw (lt-ltb _ _ h)
-
-  pub if_later-never : due ≤ time → never ≡ if_later time due
-  unfolding if_later
-  if_later-never h = rw (le-ltb _ _ h)
-
-pub ruleset ifLater-laws = (if_later-later, if_later-never)
-
--- ---- timer_due, frame_due, next_of
-
-module _ (run : Run) (forecast : Forecast) (sum : ℕ) where
-  pub timer_due-holdoff : run.failed ≡ true → sum ≡ sum_or_never run.began forecast.holdoff
-      → sum ≡ timer_due run forecast
-  unfolding timer_due
-  timer_due-holdoff f s = s ∙ (rw f)
-
-  pub timer_due-wait : run.failed ≡ false → sum ≡ sum_or_never run.began forecast.wait
-      → sum ≡ timer_due run forecast
-  unfolding timer_due
-  timer_due-wait f s = s ∙ (rw f)
-
-pub ruleset timerDue-laws = (timer_due-holdoff, timer_due-wait)
-
-module _ (heard : Heard) (none : Bool) where
-  pub frame_due-none : none ≡ is_failed heard.frame → none ≡ true → never ≡ frame_due heard
-  unfolding frame_due
-  frame_due-none n t = rw (← n, t)
-
-  pub frame_due_sum : (sum : ℕ) → none ≡ is_failed heard.frame → none ≡ false
-      → sum ≡ sum_or_never heard.framed frame_life
-      → sum ≡ frame_due heard
-  unfolding frame_due
-  frame_due_sum sum n t s = s ∙ (rw (← n, t))
-
-pub ruleset frameDue-laws = (frame_due-none, frame_due_sum)
-
-pub next_of_made : (input : Input) (mode : Bool) (time : ℕ) (forecasts : Forecast) (timer frame ends expires next : ℕ)
-    → forecasts ≡ forecast input mode → timer ≡ timer_due input.run forecasts → frame ≡ frame_due input.heard
-    → ends ≡ if_later time timer
-    → expires ≡ if_later time frame → next ≡ lesser ends expires → next ≡ next_of input mode time
-unfolding next_of
-next_of_made input mode time forecasts timer frame ends expires next f t r e x n = n ∙ (rw (e, x, t, r, f))
+  unfolding sum_or_never lesser
+  sum_or_never-never h = rw (lt-leb _ _ h)
 
 -- ---- next_among: the loop of `next_of_all`
 

@@ -6,8 +6,7 @@
 // has come yet. Every time and every setting is safe, and no public function has a `requires`.
 #![tactic(auto)]
 
-ghost use Rattle.std.specs.Prelude.{◌≡◌, ◌*◌};
-ghost use Rattle.numbers.specs.Inputs.{minute};
+ghost use Rattle.std.specs.Prelude.{◌≡◌};
 ghost use Rattle.numbers.specs.Quality.{not_told};
 ghost use Rattle.numbers.specs.Kind.{flag, kind_argument, kind_floor, kind_signal, kind_frame, kind_line_code, kind_priority, kind_lockout, kind_holdoff, kind_wait, kind_fixed_quality, kind_clear_wait, kind_sending, kind_input_kind};
 ghost use Rattle.input.specs.Record.{fresh_input, equal_count, line_after, forgotten, heard_after, quality_now, can_expire, forecast, input_at_moment, input_brought_to, after_event, passed_of};
@@ -31,7 +30,7 @@ const MINUTE: u64 = 60_000;
 // What was heard: when the last frame came and what it said; what the last code or word that came
 // three times in a row said; the last one with its count, three for any more; and whether the
 // signal is good. Failed where nothing was heard.
-#[derive(Clone, Copy)]
+#[derive(Clone, Copy, PartialEq, Eq)]
 pub struct Heard {
     pub framed: u64,
     pub frame: Quality,
@@ -43,7 +42,7 @@ pub struct Heard {
 
 // What the operator has set. The hold-off is in ms, the wait in minutes; fixed quality 0 is none,
 // and floor 0 the fresh one.
-#[derive(Clone, Copy)]
+#[derive(Clone, Copy, PartialEq, Eq)]
 pub struct Settings {
     pub holdoff: u16,
     pub wait: u8,
@@ -55,7 +54,7 @@ pub struct Settings {
     pub sending: bool,
 }
 
-#[derive(Clone, Copy)]
+#[derive(Clone, Copy, PartialEq, Eq)]
 pub struct Input {
     pub heard: Heard,
     pub run: Run,
@@ -63,26 +62,30 @@ pub struct Input {
 }
 
 // How many equal codes have come in a row, three for any more.
+#[tactic(auto, unfolding(crate::specs::Record::equal_count))]
 fn equal_count(code: u16, last: u16, reports: u8) -> u8
     ensures { result ≡ equal_count code last reports }
 {
-    if code == last {
-        if reports < REPORTS_NEEDED {
-            return reports + 1;
-        }
-        return REPORTS_NEEDED;
+    if code != last {
+        return 1;
     }
-    1
+    if reports < REPORTS_NEEDED {
+        reports + 1
+    } else {
+        REPORTS_NEEDED
+    }
 }
 
 // What codes or words say, once one that says `said` has come `reports` times in a row.
+#[tactic(auto, unfolding(crate::specs::Record::line_after))]
 fn line_after(said: Quality, reports: u8, linequality: Quality) -> Quality
     ensures { result ≡ line_after said reports linequality }
 {
     if reports < REPORTS_NEEDED {
-        return linequality;
+        linequality
+    } else {
+        said
     }
-    said
 }
 
 // The codes heard, the count of equal ones and the frames heard are forgotten.
@@ -99,18 +102,16 @@ fn forgotten(signal: bool) -> Heard
     }
 }
 
+#[tactic(auto, unfolding(crate::specs::Record::heard_after))]
 impl Heard {
     // A signal report. A repeated fail or good changes nothing.
     fn signal(mut self, fail: bool) -> Heard
         ensures { result ≡ heard_after self kind_signal (flag fail) not_told 0 }
     {
-        if fail {
-            if self.signal {
-                return forgotten(false);
-            }
-            return self;
+        if fail && self.signal {
+            return forgotten(false);
         }
-        self.signal = true;
+        self.signal = !fail;
         self
     }
 
@@ -119,13 +120,9 @@ impl Heard {
         ensures { result ≡ heard_after self kind_line_code number said 0 }
     {
         if self.signal {
-            let reports = equal_count(number, self.last, self.reports);
-            let old = self.linequality;
-            let linequality = line_after(said, reports, old);
-            self.linequality = linequality;
+            self.reports = equal_count(number, self.last, self.reports);
+            self.linequality = line_after(said, self.reports, self.linequality);
             self.last = number;
-            self.reports = reports;
-            return self;
         }
         self
     }
@@ -137,134 +134,98 @@ impl Heard {
         if self.signal {
             self.framed = time;
             self.frame = said;
-            return self;
         }
         self
     }
 }
 
 // Raw quality now, but for a frame's age.
+#[tactic(auto, unfolding(crate::specs::Record::quality_now))]
 fn quality_now(heard: Heard, settings: Settings, mode: bool) -> Quality
     ensures { result ≡ quality_now heard settings mode }
 {
-    if heard.signal {
-        if mode {
-            if settings.fixed.0 == 0 {
-                let kind = settings.kind;
-                if takes_frames(kind) {
-                    return heard.frame;
-                }
-                return heard.linequality;
-            }
-            return settings.fixed;
-        }
+    if !heard.signal {
+        return FAILED;
+    }
+    if !mode {
         return NOT_TOLD;
     }
-    FAILED
+    if settings.fixed != NOT_TOLD {
+        return settings.fixed;
+    }
+    if takes_frames(settings.kind) {
+        heard.frame
+    } else {
+        heard.linequality
+    }
 }
 
 // Whether raw quality is that of a frame, which expires.
+#[tactic(auto, unfolding(crate::specs::Record::can_expire))]
 fn can_expire(heard: Heard, settings: Settings, mode: bool) -> bool
     ensures { result ≡ can_expire heard settings mode }
 {
-    if heard.signal {
-        if mode {
-            if settings.fixed.0 == 0 {
-                let kind = settings.kind;
-                return takes_frames(kind);
-            }
-            return false;
-        }
-        return false;
-    }
-    false
+    heard.signal && mode && settings.fixed == NOT_TOLD && takes_frames(settings.kind)
 }
 
-// The hold-off, as wide as a time.
-fn holdoff_in_ms(holdoff: u16) -> u64
-    ensures { result ≡ holdoff }
-{
-    holdoff as u64
-}
-
-fn minutes_in_ms(minutes: u8) -> u64
-    ensures { result ≡ minutes * minute }
-{
-    (minutes as u64) * MINUTE
-}
-
+#[tactic(auto, unfolding(crate::specs::Record::after_event, crate::specs::Record::heard_after, crate::specs::Record::settings_after, numbers::specs::Kind::input_kind_of))]
 impl Input {
     pub fn fresh() -> Input
         ensures { result ≡ fresh_input }
     {
-        let heard = forgotten(false);
-        let run = Run::fresh();
-        let kind = InputKind::Line;
-        let settings = Settings {
-            holdoff: FRESH_HOLDOFF,
-            wait: FRESH_WAIT,
-            priority: Priority(0),
-            fixed: NOT_TOLD,
-            floor: 0,
-            kind,
-            locked: false,
-            sending: true,
-        };
         Input {
-            heard,
-            run,
-            settings,
+            heard: forgotten(false),
+            run: Run::fresh(),
+            settings: Settings {
+                holdoff: FRESH_HOLDOFF,
+                wait: FRESH_WAIT,
+                priority: Priority(0),
+                fixed: NOT_TOLD,
+                floor: 0,
+                kind: InputKind::Line,
+                locked: false,
+                sending: true,
+            },
         }
     }
 
     // How raw quality goes on if no event comes.
+    #[tactic(auto, unfolding(crate::specs::Record::forecast))]
     pub fn forecast(self, mode: bool) -> Forecast
         ensures { result ≡ forecast self mode }
     {
-        let heard = self.heard;
-        let settings = self.settings;
-        let holdoff = holdoff_in_ms(settings.holdoff);
-        let wait = minutes_in_ms(settings.wait);
-        let quality = quality_now(heard, settings, mode);
-        let expires = can_expire(heard, settings, mode);
         Forecast {
-            framed: heard.framed,
-            holdoff,
-            wait,
-            quality,
-            expires,
+            framed: self.heard.framed,
+            holdoff: self.settings.holdoff as u64,
+            wait: self.settings.wait as u64 * MINUTE,
+            quality: quality_now(self.heard, self.settings, mode),
+            expires: can_expire(self.heard, self.settings, mode),
         }
     }
 
     // An event's own moment taken, once the event has been heard; `clears` where it is a clear-wait
     // on this input.
+    #[tactic(auto, unfolding(crate::specs::Record::input_at_moment))]
     pub fn at_moment(mut self, time: u64, mode: bool, clears: bool) -> Input
         ensures { result ≡ input_at_moment self time mode clears }
     {
-        let forecast = self.forecast(mode);
-        let old = self.run;
-        let run = old.at_moment(forecast, time, clears);
-        self.run = run;
+        self.run = self.run.at_moment(self.forecast(mode), time, clears);
         self
     }
 
     // Time going by, to a time at which no event has come yet.
+    #[tactic(auto, unfolding(crate::specs::Record::input_brought_to))]
     pub fn brought_to(mut self, time: u64, mode: bool) -> Input
         ensures { result ≡ input_brought_to self time mode }
     {
-        let forecast = self.forecast(mode);
-        let old = self.run;
-        let run = old.brought_to(forecast, time);
-        self.run = run;
+        self.run = self.run.brought_to(self.forecast(mode), time);
         self
     }
 
     pub fn signal(mut self, fail: bool, time: u64, mode: bool) -> Input
         ensures { result ≡ after_event self kind_signal (flag fail) not_told time mode }
     {
-        let old = self.heard;
-        let heard = old.signal(fail);
-        self.heard = heard;
+        self.heard = self.heard.signal(fail);
         self.at_moment(time, mode, false)
     }
 
@@ -272,63 +233,49 @@ impl Input {
     pub fn counted(mut self, number: u16, said: Quality, time: u64, mode: bool) -> Input
         ensures { result ≡ after_event self kind_line_code number said time mode }
     {
-        let old = self.heard;
-        let heard = old.counted(number, said);
-        self.heard = heard;
+        self.heard = self.heard.counted(number, said);
         self.at_moment(time, mode, false)
     }
 
     pub fn frame(mut self, said: Quality, time: u64, mode: bool) -> Input
         ensures { result ≡ after_event self kind_frame 0 said time mode }
     {
-        let old = self.heard;
-        let heard = old.frame(said, time);
-        self.heard = heard;
+        self.heard = self.heard.frame(said, time);
         self.at_moment(time, mode, false)
     }
 
     pub fn priority(mut self, priority: Priority, time: u64, mode: bool) -> Input
         ensures { result ≡ after_event self kind_priority priority.0 not_told time mode }
     {
-        let mut settings = self.settings;
-        settings.priority = priority;
-        self.settings = settings;
+        self.settings.priority = priority;
         self.at_moment(time, mode, false)
     }
 
     pub fn lockout(mut self, locked: bool, time: u64, mode: bool) -> Input
         ensures { result ≡ after_event self kind_lockout (flag locked) not_told time mode }
     {
-        let mut settings = self.settings;
-        settings.locked = locked;
-        self.settings = settings;
+        self.settings.locked = locked;
         self.at_moment(time, mode, false)
     }
 
     pub fn hold_off(mut self, holdoff: u16, time: u64, mode: bool) -> Input
         ensures { result ≡ after_event self kind_holdoff holdoff not_told time mode }
     {
-        let mut settings = self.settings;
-        settings.holdoff = holdoff;
-        self.settings = settings;
+        self.settings.holdoff = holdoff;
         self.at_moment(time, mode, false)
     }
 
     pub fn wait(mut self, minutes: u8, time: u64, mode: bool) -> Input
         ensures { result ≡ after_event self kind_wait minutes not_told time mode }
     {
-        let mut settings = self.settings;
-        settings.wait = minutes;
-        self.settings = settings;
+        self.settings.wait = minutes;
         self.at_moment(time, mode, false)
     }
 
     pub fn fixed_quality(mut self, quality: Quality, time: u64, mode: bool) -> Input
         ensures { result ≡ after_event self kind_fixed_quality quality.0 not_told time mode }
     {
-        let mut settings = self.settings;
-        settings.fixed = quality;
-        self.settings = settings;
+        self.settings.fixed = quality;
         self.at_moment(time, mode, false)
     }
 
@@ -341,18 +288,14 @@ impl Input {
     pub fn sending(mut self, sending: bool, time: u64, mode: bool) -> Input
         ensures { result ≡ after_event self kind_sending (flag sending) not_told time mode }
     {
-        let mut settings = self.settings;
-        settings.sending = sending;
-        self.settings = settings;
+        self.settings.sending = sending;
         self.at_moment(time, mode, false)
     }
 
     pub fn floor(mut self, floor: u8, time: u64, mode: bool) -> Input
         ensures { result ≡ after_event self kind_floor floor not_told time mode }
     {
-        let mut settings = self.settings;
-        settings.floor = floor;
-        self.settings = settings;
+        self.settings.floor = floor;
         self.at_moment(time, mode, false)
     }
 
@@ -360,23 +303,8 @@ impl Input {
     pub fn kind(mut self, kind: InputKind, time: u64, mode: bool) -> Input
         ensures { result ≡ after_event self kind_input_kind (kind_argument kind) not_told time mode }
     {
-        let old = self.heard;
-        let heard = forgotten(old.signal);
-        let before = self.settings;
-        let priority = before.priority;
-        let fixed = before.fixed;
-        let settings = Settings {
-            holdoff: before.holdoff,
-            wait: before.wait,
-            priority,
-            fixed,
-            floor: before.floor,
-            kind,
-            locked: before.locked,
-            sending: before.sending,
-        };
-        self.heard = heard;
-        self.settings = settings;
+        self.heard = forgotten(self.heard.signal);
+        self.settings.kind = kind;
         self.at_moment(time, mode, false)
     }
 
@@ -384,7 +312,6 @@ impl Input {
     pub fn passed_quality(self) -> Quality
         ensures { result ≡ passed_of self }
     {
-        let run = self.run;
-        run.passed_quality()
+        self.run.passed_quality()
     }
 }

@@ -1,5 +1,4 @@
--- `RunLaws`: the code's definitions, way by way. `Kept`: what the code keeps of any moments. `Exact`: the statements
+-- `Kept`: what the code keeps of any moments. `Exact`: the statements
 -- and what is computed say the same.
-pub mod RunLaws
 pub mod Kept
 pub mod Exact

@@ -13,7 +13,7 @@ use numbers::quality::{FAILED, Quality, is_failed};
 
 // Raw quality from here on, if no event comes, and the timers in force: `quality`, and failed from
 // the frame's 5,000th millisecond on where it `expires`. `holdoff` and `wait` are in ms.
-#[derive(Clone, Copy)]
+#[derive(Clone, Copy, PartialEq, Eq)]
 pub struct Forecast {
     pub framed: u64,
     pub holdoff: u64,
@@ -24,7 +24,7 @@ pub struct Forecast {
 
 // The present run: since when, failed or not; the last raw quality that was not failed; and whether
 // the last down or up moment was up.
-#[derive(Clone, Copy)]
+#[derive(Clone, Copy, PartialEq, Eq)]
 pub struct Run {
     pub began: u64,
     pub good: Quality,
@@ -36,39 +36,28 @@ pub struct Run {
 pub fn has_elapsed(began: u64, length: u64, time: u64) -> bool
     ensures { result ≡ leb (began + length) time }
 {
-    if began <= time {
-        length <= time - began
-    } else {
-        false
-    }
+    began <= time && length <= time - began
 }
 
 // Whether the last down or up moment before `end` was up, where a run that is not failed lasts from
 // `began` to `end`.
+#[tactic(auto, unfolding(crate::specs::Run::up_before))]
 fn up_before(up: bool, began: u64, wait: u64, end: u64) -> bool
     ensures { result ≡ up_before up began wait end }
 {
-    if began < end {
-        if wait < end - began {
-            return true;
-        }
-        return up;
-    }
-    up
+    up || (began < end && wait < end - began)
 }
 
 // When the run began that holds at a moment found `failed` or not.
+#[tactic(auto, unfolding(crate::specs::Run::began_after))]
 fn began_after(was: bool, began: u64, failed: bool, time: u64) -> u64
     ensures { result ≡ began_after was began failed time }
 {
-    if was {
-        if failed { began } else { time }
-    } else {
-        if failed { time } else { began }
-    }
+    if failed == was { began } else { time }
 }
 
 // Whether the last down or up moment is up, once the moment at `time` has been judged.
+#[tactic(auto, unfolding(crate::specs::Run::is_up_after))]
 fn is_up_after(
     up: bool,
     failed: bool,
@@ -80,42 +69,30 @@ fn is_up_after(
     ensures { result ≡ is_up_after up failed began forecast time clears }
 {
     if failed {
-        if has_elapsed(began, forecast.holdoff, time) {
-            return false;
-        }
-        return up;
+        return up && !has_elapsed(began, forecast.holdoff, time);
     }
-    if clears {
-        return true;
-    }
-    if has_elapsed(began, forecast.wait, time) {
-        return true;
-    }
-    up
+    up || clears || has_elapsed(began, forecast.wait, time)
 }
 
 // The last raw quality that was not failed.
+#[tactic(auto, unfolding(crate::specs::Run::last_good))]
 fn last_good(good: Quality, raw: Quality) -> Quality
     ensures { result ≡ last_good good raw }
 {
-    if is_failed(raw) {
-        return good;
-    }
-    raw
+    if is_failed(raw) { good } else { raw }
 }
 
 impl Forecast {
     // Whether the frame has expired by a time.
+    #[tactic(auto, unfolding(crate::specs::Run::is_expired))]
     fn is_expired(self, time: u64) -> bool
         ensures { result ≡ is_expired self time }
     {
-        if self.expires {
-            return has_elapsed(self.framed, FRAME_LIFE, time);
-        }
-        false
+        self.expires && has_elapsed(self.framed, FRAME_LIFE, time)
     }
 
     // Raw quality at a time.
+    #[tactic(auto, unfolding(crate::specs::Run::raw_at))]
     pub fn raw_at(self, time: u64) -> Quality
         ensures { result ≡ raw_at self time }
     {
@@ -141,60 +118,46 @@ impl Run {
 
     // The run once an event's own moment has been taken; `clears` where the event is a clear-wait
     // on the input.
+    #[tactic(auto, unfolding(crate::specs::Run::at_moment))]
     pub fn at_moment(self, forecast: Forecast, time: u64, clears: bool) -> Run
         ensures { result ≡ at_moment self forecast time clears }
     {
         let raw = forecast.raw_at(time);
         let failed = is_failed(raw);
         let began = began_after(self.failed, self.began, failed, time);
-        let up = is_up_after(self.up, failed, began, forecast, time, clears);
-        let old = self.good;
-        let good = last_good(old, raw);
         Run {
             began,
-            good,
+            good: last_good(self.good, raw),
             failed,
-            up,
+            up: is_up_after(self.up, failed, began, forecast, time, clears),
         }
     }
 
     // The run brought to a later time at which no event has come yet. A frame that expires on the
     // way comes first in its millisecond, so a wait that would end just then has not ended.
+    #[tactic(auto, unfolding(crate::specs::Run::brought_to))]
     pub fn brought_to(self, forecast: Forecast, time: u64) -> Run
         ensures { result ≡ brought_to self forecast time }
     {
-        let good = self.good;
-        if self.failed {
-            let up = is_up_after(self.up, true, self.began, forecast, time, false);
-            return Run {
-                began: self.began,
-                good,
-                failed: true,
-                up,
-            };
-        }
-        if forecast.is_expired(time) {
+        if !self.failed && forecast.is_expired(time) {
             let end = forecast.framed + FRAME_LIFE;
             let before = up_before(self.up, self.began, forecast.wait, end);
-            let up = is_up_after(before, true, end, forecast, time, false);
             return Run {
                 began: end,
-                good,
                 failed: true,
-                up,
+                up: is_up_after(before, true, end, forecast, time, false),
+                ..self
             };
         }
-        let up = is_up_after(self.up, false, self.began, forecast, time, false);
         Run {
-            began: self.began,
-            good,
-            failed: false,
-            up,
+            up: is_up_after(self.up, self.failed, self.began, forecast, time, false),
+            ..self
         }
     }
 
     // What is passed on: 7 if the last down or up moment was down; otherwise raw quality, or in a
     // failed run the last raw quality before it. Both are the last one that was not failed.
+    #[tactic(auto, unfolding(crate::specs::Run::passed_quality))]
     pub fn passed_quality(self) -> Quality
         ensures { result ≡ passed_quality self }
     {
