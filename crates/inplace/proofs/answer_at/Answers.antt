@@ -12,7 +12,7 @@ returns c = let args = c.args in
       c.selected_number.ensures,
       c.clock_quality-quality.ensures,
       c.selected_at-candidate.ensures,
-      c.limits_of-limits.ensures,
+      c.limits_of.ensures,
       c.was_locked_at-waslocked.ensures args.times.now args.wider.now,
       c.switch_at-switch.ensures args.times.now args.wider.now,
       c.selection_at-selection.ensures args.times.now args.wider.now,

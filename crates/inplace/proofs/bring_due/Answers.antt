@@ -37,7 +37,6 @@ bring_input-one-requires c =
 pub loop-at-preserved : goal.loop-at-preserved
 loop-at-preserved c =
     let args = c.args in
-    let known = c.know_own in
     let loop = c.loop-at in
     let inside = c.loop-at-test.true in
     let one = c.bring_input-one in
@@ -60,7 +59,7 @@ loop-at-preserved c =
       one.ensures.1 ∙
           own_turn first sixteen args.mode args.time input loop.at args.own.now loop.own one.result.next
           inside
-          known.ensures
+          c.told-own
           same
           loop.invariant.2
           one.ensures.2,
@@ -90,7 +89,7 @@ returns c =
           loop.invariant.0
           c.loop-at-test.false,
       own-done first sixteen args.mode args.time loop.at args.own.now loop.own
-          c.know_own.ensures
+          c.told-own
           loop.invariant.2
           loop.invariant.0
           c.loop-at-test.false,

@@ -1,6 +1,6 @@
 -- `inplace::bring_due` meets its contract: a turn of the loop brings one input to the time, or finds it there, and
 -- makes its own time anew. Assumes nothing.
-use Prim.Native.Nat.{ℕ, ◌<◌, ◌≤◌, ◌-◌}
+use Prim.Native.Nat.{ℕ, ◌<◌, ◌≤◌}
 use mathlib.Core.Bool.{true}
 use mathlib.Core.List.{map}
 use mathlib.Core.Path.{◌≡◌}
@@ -26,6 +26,3 @@ invariant-loop-at l =
     l.at) ×
     (l.alike ≡ true → (number : ℕ) → number < l.at
     → PassesAlike (get_or (selector_at l.initial.times l.initial.small l.wider).inputs number fresh_input) l.mode l.time)
-
-abbrev pub decreases-loop-at : goal.decreases-loop-at
-decreases-loop-at l = 16 - l.at

@@ -27,8 +27,8 @@ returns c =
     let read = c.input_in-input in
     let after = c.brought_to-after in
     let next = c.next_of-next in
-    let old = c.passed_quality-before in
-    let new = c.passed_quality-passed in (
+    let old = c.passed_quality in
+    let new = c.passed_quality-2 in (
       brought-stored args.times.now args.small.now args.wider.now args.at
           _
           read.result

@@ -4,4 +4,4 @@ use Rattle.inplace.proofs.input_in.Goals as goal
 
 pub returns : goal.returns
 unfolding input_at
-returns c = rw (c.settings_at-settings.ensures, c.run_at-run.ensures, c.heard_at-heard.ensures)
+returns c = rw (c.settings_at.ensures, c.run_at.ensures, c.heard_at.ensures)

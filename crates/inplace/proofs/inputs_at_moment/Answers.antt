@@ -28,12 +28,12 @@ loop-at-preserved c =
           (inputs-length args.times.now args.small.now args.wider.now)
           loop.invariant.1
           (c.put_run.ensures args.wider.now)
-          (momentary (input_at loop.times loop.small args.wider.now loop.at) c.input_in-input.result
+          (momentary (input_at loop.times loop.small args.wider.now loop.at) c.input_in.result
           c.at_moment-after.result
           args.time
           args.mode
           false
-          c.input_in-input.ensures
+          c.input_in.ensures
           c.at_moment-after.ensures)
           c.loop-at-test.true,
     )

@@ -1,6 +1,6 @@
 -- `inplace::inputs_at_moment` meets its contract: a turn of the loop brings one input to the moment.
 -- Assumes nothing.
-use Prim.Native.Nat.{◌≤◌, ◌-◌}
+use Prim.Native.Nat.{◌≤◌}
 use mathlib.Core.Bool.{false}
 use mathlib.Core.Path.{◌≡◌}
 use Rattle.input.specs.declared.Input.{Input}
@@ -14,6 +14,3 @@ invariant-loop-at l =
     (l.at ≤ 16) ×
     (selector_at l.times l.small l.wider ≡
     changed (λ (input : Input). input_at_moment input l.time l.mode false) l.at (selector_at l.initial.times l.initial.small l.wider))
-
-abbrev pub decreases-loop-at : goal.decreases-loop-at
-decreases-loop-at l = 16 - l.at

@@ -2,14 +2,8 @@
 use Rattle.inplace.proofs.Own.{timely-laws}
 use Rattle.inplace.proofs.is_timely.Goals as goal
 
-pub returns-then-run : goal.returns-then-run
-returns-then-run c = search timely-laws
+pub returns-then-input : goal.returns-then-input
+returns-then-input c = ?
 
-pub returns-then-is_failed : goal.returns-then-is_failed
-returns-then-is_failed c = search timely-laws
-
-pub returns-then-forecast : goal.returns-then-forecast
-returns-then-forecast c = search timely-laws
-
-pub returns : goal.returns
-returns c = search timely-laws
+pub returns-after-forecast : goal.returns-after-forecast
+returns-after-forecast c = ?

@@ -1,6 +1,6 @@
 -- `inplace::leader_at` meets its contract.
 -- Assumes nothing.
-use Prim.Native.Nat.{◌≤◌, ◌-◌}
+use Prim.Native.Nat.{◌≤◌}
 use mathlib.Core.Path.{◌≡◌}
 use Rattle.std.specs.Prelude.{Option}
 use Rattle.numbers.specs.declared.InputNumber.{InputNumber}
@@ -15,6 +15,3 @@ invariant-loop-number l =
     × ((before : Option InputNumber)
     → l.initial.leader ≡ leads_after (candidates_of l.profile (selector_at l.times l.small l.wider).inputs l.mode) 0 before
     → l.leader ≡ leads_after (candidates_of l.profile (selector_at l.times l.small l.wider).inputs l.mode) l.number before)
-
-abbrev pub decreases-loop-number : goal.decreases-loop-number
-decreases-loop-number l = 16 - l.number

@@ -11,13 +11,4 @@ pub loop-at-preserved : goal.loop-at-preserved
 loop-at-preserved c = (search rules, search due-turn)
 
 pub returns : goal.returns
-returns c = let args = c.args in
-    due-done args.times.now args.small.now args.wider.now c.mode_at-mode.result
-    c.time_at-time.result
-    c.loop-at.at
-    c.loop-at.due
-    c.loop-at.invariant.1
-    (c.mode_at-mode.ensures args.times.now args.wider.now)
-    (c.time_at-time.ensures args.small.now args.wider.now)
-    c.loop-at.invariant.0
-    c.loop-at-test.false
+returns c = ?

@@ -5,6 +5,6 @@ use Rattle.inplace.proofs.put_command.Goals as goal
 pub returns : goal.returns
 returns c = command-stored c.args.small.now c.args.mode c.args.switch c.switch_number.result
     c.switch_input.result
-    c.know_small.ensures
+    c.told-small
     c.switch_number.ensures
     c.switch_input.ensures

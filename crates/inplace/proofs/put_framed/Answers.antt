@@ -6,7 +6,7 @@ use Rattle.inplace.proofs.put_framed.Goals as goal
 pub returns-then-number-lt-INPUT_COUNT : goal.returns-then-number-lt-INPUT_COUNT
 returns-then-number-lt-INPUT_COUNT c = let args = c.args in
     framed-stored args.times.now args.number.0 args.framed (search rules)
-    c.know_times.ensures
+    c.told-times
 
 pub returns-else-number-lt-INPUT_COUNT : goal.returns-else-number-lt-INPUT_COUNT
 returns-else-number-lt-INPUT_COUNT c = let args = c.args in

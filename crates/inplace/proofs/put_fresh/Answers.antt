@@ -22,11 +22,11 @@ loop-at-preserved c =
           loop.wider
           (selector_at c.put_in.new.times c.put_in.new.small c.put_in.new.wider)
           loop.at
-          c.fresh-fresh.result
+          c.fresh.result
           (inputs-length args.times.now args.small.now args.wider.now)
           loop.invariant.1
           c.put_in.ensures
-          c.fresh-fresh.ensures
+          c.fresh.ensures
           c.loop-at-test.true,
     )
 

@@ -1,5 +1,5 @@
 -- `inplace::put_fresh` meets its contract. Assumes nothing.
-use Prim.Native.Nat.{◌≤◌, ◌-◌}
+use Prim.Native.Nat.{◌≤◌}
 use mathlib.Core.Path.{◌≡◌}
 use Rattle.input.specs.declared.Input.{Input}
 use Rattle.input.specs.Record.{fresh_input}
@@ -12,6 +12,3 @@ invariant-loop-at l =
     (l.at ≤ 16) ×
     (selector_at l.times l.small l.wider ≡
     changed (λ (one : Input). fresh_input) l.at (selector_at l.initial.times l.initial.small l.initial.wider))
-
-abbrev pub decreases-loop-at : goal.decreases-loop-at
-decreases-loop-at l = 16 - l.at

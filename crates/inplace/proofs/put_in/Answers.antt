@@ -7,9 +7,9 @@ pub returns : goal.returns
 returns c = let args = c.args in
     rw (add-zero args.at) at
     (input-stored args.times.now args.small.now args.wider.now args.at args.input
-    c.kind_argument-number.result
+    c.kind_argument.result
     c.requires
-    c.know_times.ensures
-    c.know_small.ensures
-    c.know_wider.ensures
-    c.kind_argument-number.ensures)
+    c.told-times
+    c.told-small
+    c.told-wider
+    c.kind_argument.ensures)

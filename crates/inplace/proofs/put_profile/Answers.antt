@@ -7,8 +7,8 @@ returns c = let args = c.args in
     profile-stored args.small.now args.wider.now args.profile c.option_of.result
     c.prov_place_of.result
     c.marks_of.result
-    c.know_small.ensures
-    c.know_wider.ensures
+    c.told-small
+    c.told-wider
     c.option_of.ensures
     c.prov_place_of.ensures
     c.marks_of.ensures

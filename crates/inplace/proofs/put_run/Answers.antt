@@ -5,4 +5,4 @@ use Rattle.inplace.proofs.put_run.Goals as goal
 pub returns : goal.returns
 returns c = let args = c.args in λ wider.
     run_stored args.times.now args.small.now wider args.at args.run c.requires
-    c.know_times.ensures c.know_small.ensures
+    c.told-times c.told-small

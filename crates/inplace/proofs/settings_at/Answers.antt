@@ -6,6 +6,6 @@ returns c =
     rw (
       c.is_set-2.ensures,
       c.is_set.ensures,
-      c.input_kind_of-kind.ensures,
-      c.wide.ensures,
+      c.input_kind_of.ensures,
+      c.from.ensures,
     )

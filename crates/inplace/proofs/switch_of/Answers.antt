@@ -6,11 +6,11 @@ use Rattle.inplace.proofs.switch_of.Goals as goal
 pub returns-then-on-gt-LAST_INPUT : goal.returns-then-on-gt-LAST_INPUT
 returns-then-on-gt-LAST_INPUT c = search switchOf-laws
 
-pub returns-then-kind-eq-SWITCH_FORCED : goal.returns-then-kind-eq-SWITCH_FORCED
-returns-then-kind-eq-SWITCH_FORCED c = search switchOf-laws
+pub returns-in-1 : goal.returns-in-1
+returns-in-1 c = search switchOf-laws
 
-pub returns-then-kind-eq-SWITCH_MANUAL : goal.returns-then-kind-eq-SWITCH_MANUAL
-returns-then-kind-eq-SWITCH_MANUAL c = search switchOf-laws
+pub returns-in-2 : goal.returns-in-2
+returns-in-2 c = search switchOf-laws
 
-pub returns : goal.returns
-returns c = search switchOf-laws
+pub returns-in_default : goal.returns-in_default
+returns-in_default c = search switchOf-laws
