@@ -6,8 +6,10 @@ use mathlib.Core.List.{List}
 use mathlib.Core.Path.{◌≡◌, refl}
 use native.Mathlib.Omega.{arith}
 use lib.Dec.{eqb, ltb}
+use mir.Val.{bool_byte}
 use borrow.Author.Tests.{ltb-false, lt-ltb, le-ltb, eq-eqb, ne_eqb}
 use Rattle.std.specs.Prelude.{Option, Some, None}
+use Rattle.std.specs.Option.{is_some}
 use Rattle.numbers.specs.declared.InputNumber.{InputNumber}
 use Rattle.numbers.specs.Inputs.{last_input, input_count}
 use Rattle.numbers.specs.Kind.{kind_forced, kind_manual, kind_clear_switch}
@@ -33,11 +35,9 @@ module _ (kind : ℕ) (on : InputNumber) where
   unfolding switch_of
   switch_of-forced p e = rw (le-ltb _ _ p, eq-eqb _ _ e)
 
-  pub switch_of-manual :
-      on.0 ≤ last_input → (kind ≡ switch_forced → ⊥) → kind ≡ switch_manual
-      → W.Manual on ≡ switch_of kind on
+  pub switch_of-manual : on.0 ≤ last_input → kind ≡ switch_manual → W.Manual on ≡ switch_of kind on
   unfolding switch_of
-  switch_of-manual p n e = rw (le-ltb _ _ p, ne_eqb _ _ n, eq-eqb _ _ e)
+  switch_of-manual p e = rw (le-ltb _ _ p, e)
 
   pub switch_of-other :
       on.0 ≤ last_input → (kind ≡ switch_forced → ⊥) → (kind ≡ switch_manual → ⊥)
@@ -47,7 +47,7 @@ module _ (kind : ℕ) (on : InputNumber) where
 
 pub ruleset switchOf-laws = (switch_of_nowhere, switch_of-forced, switch_of-manual, switch_of-other)
 
--- ---- selection_of, is_selected
+-- ---- selection_of
 
 module _ (selection : ℕ) (number : InputNumber) where
   pub selection_of_nowhere : last_input < number.0 → None ≡ selection_of selection number
@@ -64,16 +64,11 @@ module _ (selection : ℕ) (number : InputNumber) where
 
 pub ruleset selectionOf-laws = (selection_of_nowhere, selection_of-nothing, selection_of-at)
 
-module _ (selection : Option InputNumber) where
-  pub is_selected-nothing : selection ≡ None → 0 ≡ is_selected selection
-  unfolding is_selected
-  is_selected-nothing e = rw e
-
-  pub is_selected-at : (number : InputNumber) → selection ≡ Some number → 1 ≡ is_selected selection
-  unfolding is_selected
-  is_selected-at number e = rw e
-
-pub ruleset isSelected-laws = (is_selected-nothing, is_selected-at)
+-- as a yes or no is stored
+pub is_selected_byte : (selection : Option InputNumber) → bool_byte (is_some selection) ≡ is_selected selection
+unfolding is_selected
+is_selected_byte None = refl
+is_selected_byte (Some number) = refl
 
 -- ---- what names an input
 

@@ -1,7 +1,7 @@
 -- The own time of an input: before it nothing changes, and it stays what it is. What a moment leaves out by it, input
 -- by input. Assumes nothing.
 use Prim.Native.Nat.{ℕ, zero, suc, ◌+◌, ◌<◌, ◌≤◌}
-use mathlib.Core.Bool.{Bool, true, false, not, ◌&&◌, ◌||◌, cond, false≢true}
+use mathlib.Core.Bool.{Bool, true, false, not, ◌&&◌, cond, false≢true}
 use mathlib.Core.List.{List, [], ◌∷◌, map, map-map}
 use mathlib.Core.Path.{◌≡◌, refl, sym, ap, subst, ◌∙◌}
 use mathlib.Core.Logic.{⊎_elim}
@@ -221,42 +221,7 @@ next_among-after inputs mode time (suc count) h =
     lesser-after time _ _ (next_among-after inputs mode time count h)
     (lesser-after time _ _ (if_later-after time _ h) (if_later-after time _ h))
 
--- ---- `is_timely` and `reach`, a law for each way through
-
-module _ (input : Input) (mode : Bool) where
-  pub timely_failed : input.run.failed ≡ true → true ≡ is_timely input mode
-  unfolding is_timely
-  timely_failed e = sym (or_left input.run.failed _ e)
-
-  module _ (forecasts : Forecast) (told : forecasts ≡ forecast input mode) where
-    pub timely_still : forecasts.expires ≡ false → true ≡ is_timely input mode
-    unfolding is_timely
-    timely_still e =
-        sym (or_right input.run.failed _
-        (ap (λ (expires : Bool). not (expires && is_failed input.heard.frame))
-        (ap (λ (one : Forecast). one.expires) (sym told) ∙ e)))
-
-    pub timely_heard : (none : Bool) → none ≡ is_failed input.heard.frame → none ≡ false
-        → true ≡ is_timely input mode
-    unfolding is_timely
-    timely_heard none n e =
-        sym (or_right input.run.failed _
-        (ap (λ (fails : Bool). not ((forecast input mode).expires && fails)) (sym n ∙ e) ∙
-        neither-way (forecast input mode).expires))
-      where
-        neither-way : (expires : Bool) → not (expires && false) ≡ true
-        neither-way true = refl
-        neither-way false = refl
-
-    pub timely_unheard : (none : Bool) → none ≡ is_failed input.heard.frame → none ≡ true
-        → input.run.failed ≡ false → forecasts.expires ≡ true
-        → false ≡ is_timely input mode
-    unfolding is_timely
-    timely_unheard none n e runs x =
-        λ j. sym runs j ||
-        not ((sym x ∙ ap (λ (one : Forecast). one.expires) told) j && (sym e ∙ n) j)
-
-pub ruleset timely-laws = (timely_failed, timely_still, timely_heard, timely_unheard)
+-- ---- `reach`, a law for each way through
 
 module _ (timely : Bool) (time : ℕ) where
   pub reach-moment : timely ≡ true → time ≡ reach timely time

@@ -26,7 +26,7 @@ use Rattle.choice.proofs.Leading.{leader-seeded, scan_none}
 use Rattle.selector.specs.declared.Selector.{Selector}
 use Rattle.selector.specs.State.{candidate_for, candidates_of, seen_all}
 use Rattle.selector.proofs.Scanning.{leads_after, seen_one, candidate_in_outside, leader-more, leader-done}
-use Rattle.selector.specs.Answer.{answer_of, quality_of, selected_number, sign_for, ports}
+use Rattle.selector.specs.Answer.{answer_of, quality_of, selected_number, sign_for, outgoing_signs, ports}
 use Rattle.selector.proofs.Filled.{filled, filled-turn_in_place, filled-done}
 use Rattle.selector.proofs.SelectorLaws.{get_d_past, sign_for-turn}
 use Rattle.selector.proofs.Ports.{get_d_ports}
@@ -175,8 +175,8 @@ module _ (times small wider : List ℕ) (at : ℕ) (input : Input) (seen : input
       (inputs-length times small wider)
 
   -- and tells a port its code or its word
-  pub sign-turn : (rule : Bool → Bool → Bool → ℕ → ℕ) (mode : Bool) (selected marks sign first rest : ℕ)
-      (into now : List ℕ) (chosen told : ℕ)
+  pub sign-turn : {Sign : Type 0} (rule : Bool → Bool → Bool → Sign → Sign) (mode : Bool) (selected marks rest : ℕ)
+      (sign first : Sign) (into now : List Sign) (chosen told : Sign)
       → now ≡ filled (sign_for rule (selector_at times small wider).inputs mode selected marks sign first) at ports into
       → rest ≡ halved at marks
       → chosen ≡ cond (eqb (rest % 2) 1) first sign
@@ -184,7 +184,7 @@ module _ (times small wider : List ℕ) (at : ℕ) (input : Input) (seen : input
       → length into ≡ 16
       → set now at told
       ≡ filled (sign_for rule (selector_at times small wider).inputs mode selected marks sign first) (at + 1) ports into
-  sign-turn rule mode selected marks sign first rest into now chosen told e r c o l =
+  sign-turn rule mode selected marks rest sign first into now chosen told e r c o l =
       sign_for-turn rule (selector_at times small wider).inputs mode selected marks sign first at rest into now chosen
       told fresh_input e r c
       (o ∙ ap (λ (one : Input). rule mode one.settings.sending (eqb selected at) chosen) (seen_at fresh_input))
@@ -247,24 +247,20 @@ due-done times small wider mode time at due e m t h k =
     (λ j. next_of_all (selector_at times small wider).inputs (m j) (t j))
 
 -- what goes out of the sixteen ports, call by call
-pub signs_told : (rule : Bool → Bool → Bool → ℕ → ℕ) (say : Profile → Quality → ℕ) (state : Selector)
-    (profile : Profile) (mode : Bool) (told : Answer) (later : Quality) (sign first marks : ℕ) (list : List ℕ)
+pub signs_told : {Sign : Type 0} (rule : Bool → Bool → Bool → Sign → Sign) (says : Profile → Quality → Sign)
+    (state : Selector) (profile : Profile) (mode : Bool) (told : Answer) (later : Quality) (sign first : Sign)
+    (marks : ℕ) (list : List Sign)
     → told ≡ answer_of accepted state → profile ≡ state.profile → mode ≡ state.mode
-    → sign ≡ say profile (quality told.clockquality) → later ≡ told_by true (quality told.clockquality)
-    → first ≡ say profile later → marks ≡ marks_of profile
+    → sign ≡ says profile (quality told.clockquality) → later ≡ told_by true (quality told.clockquality)
+    → first ≡ says profile later → marks ≡ marks_of profile
     → list ≡ map (sign_for rule state.inputs mode told.selected marks sign first) ports
-    → list
-    ≡ map
-    (sign_for rule state.inputs state.mode (selected_number state.selection) (marks_of state.profile)
-    (say state.profile (quality_of state))
-    (say state.profile (told_by true (quality_of state))))
-    ports
+    → list ≡ outgoing_signs rule says state
 unfolding answer_of
-signs_told rule say state profile mode told later sign first marks list t p m s l f k e =
+signs_told rule says state profile mode told later sign first marks list t p m s l f k e =
     let n : told.selected ≡ selected_number state.selection = ap (λ (one : Answer). one.selected) t in
     let q : quality told.clockquality ≡ quality_of state = ap (λ (one : Answer). quality one.clockquality) t in
-    let s' : sign ≡ say state.profile (quality_of state) = s ∙ (λ j. say (p j) (q j)) in
-    let f' : first ≡ say state.profile (told_by true (quality_of state)) =
-    f ∙ (λ j. say (p j) ((l ∙ ap (told_by true) q) j)) in
+    let s' : sign ≡ says state.profile (quality_of state) = s ∙ (λ j. says (p j) (q j)) in
+    let f' : first ≡ says state.profile (told_by true (quality_of state)) =
+    f ∙ (λ j. says (p j) ((l ∙ ap (told_by true) q) j)) in
     let k' : marks ≡ marks_of state.profile = k ∙ ap marks_of p in
     e ∙ (λ j. map (sign_for rule state.inputs (m j) (n j) (k' j) (s' j) (f' j)) ports)

@@ -54,20 +54,20 @@ sign_for rule inputs mode selected marks sign first port =
     rule mode (get_or inputs port fresh_input).settings.sending (eqb selected port)
     (cond (is_marked marks port) first sign)
 
+-- what goes out of the sixteen ports of a state, codes or words, by their rule and what says a quality
+abbrev pub outgoing_signs : {Sign : Type 0} → (Bool → Bool → Bool → Sign → Sign) → (Profile → Quality → Sign)
+    → Selector → List Sign
+outgoing_signs rule says state =
+    map
+    (sign_for rule state.inputs state.mode (selected_number state.selection) (marks_of state.profile)
+    (says state.profile (quality_of state))
+    (says state.profile (told_by true (quality_of state))))
+    ports
+
 -- "Outgoing code, for each of the sixteen ports"
 unfoldable pub outgoing_codes : Selector → List ℕ
-outgoing_codes state =
-    map
-    (sign_for outgoing_code state.inputs state.mode (selected_number state.selection) (marks_of state.profile)
-    (code_of_quality state.profile (quality_of state))
-    (code_of_quality state.profile (told_by true (quality_of state))))
-    ports
+outgoing_codes state = outgoing_signs outgoing_code code_of_quality state
 
 -- the words of the sixteen ports, of an option II state
 unfoldable pub outgoing_words : Selector → List ℕ
-outgoing_words state =
-    map
-    (sign_for outgoing_word state.inputs state.mode (selected_number state.selection) (marks_of state.profile)
-    (word_of_quality (quality_of state))
-    (word_of_quality (told_by true (quality_of state))))
-    ports
+outgoing_words state = outgoing_signs outgoing_word (λ profile. word_of_quality) state

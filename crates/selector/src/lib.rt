@@ -6,7 +6,9 @@
 #![tactic(auto)]
 
 ghost use Rattle.std.specs.Prelude.{◌≡◌, Bool, true, false, cond, not, ◌||◌, refl};
-ghost use Rattle.numbers.specs.Codes.{code_dnu, word_stu, word_dus};
+ghost use Rattle.numbers.specs.declared.profile.Profile.{Profile};
+ghost use Rattle.numbers.specs.declared.quality.Quality.{Quality};
+ghost use Rattle.numbers.specs.Codes.{code_dnu, word_stu, word_dus, code_of_quality, word_of_quality};
 ghost use Rattle.selector.specs.State.{seen_of, candidate_for};
 ghost use Rattle.selector.specs.Answer.{selected_number, switch_number, switch_input, clock_state, clock_quality, outgoing_code, outgoing_word};
 
@@ -14,7 +16,9 @@ use choice::{Candidate, Seen, candidate_of};
 use input::Input;
 use numbers::InputNumber;
 use numbers::profile::{Profile, floor_in, limits_of, prov_place_of};
-use numbers::quality::{CODE_DNU, NOT_TOLD, Quality, WORD_DUS, WORD_STU};
+use numbers::quality::{
+    CODE_DNU, NOT_TOLD, Quality, WORD_DUS, WORD_STU, code_of_quality, word_of_quality,
+};
 use switch::Switch;
 
 // Stands for no input in an answer.
@@ -86,11 +90,17 @@ pub trait Sign: Copy {
 
     ghost DO_NOT_USE: { Self };
 
+    ghost says: { Profile → Quality → Self };
+
     // What goes out with sending off.
     const SENDING_OFF: Self;
 
     // What goes out with mode off, and of the selected port.
     const DO_NOT_USE: Self;
+
+    // What says a quality.
+    fn says(profile: Profile, quality: Quality) -> Self
+        ensures { result ≡ says profile quality };
 
     ghost by_rule: { (mode sending selected : Bool) (sign : Self) → outgoing mode sending selected sign ≡
         cond (not sending) SENDING_OFF (cond (not mode || selected) DO_NOT_USE sign) };
@@ -103,9 +113,15 @@ impl Sign for u8 {
 
     ghost DO_NOT_USE = { code_dnu };
 
+    ghost says = { code_of_quality };
+
     const SENDING_OFF: u8 = CODE_DNU;
 
     const DO_NOT_USE: u8 = CODE_DNU;
+
+    fn says(profile: Profile, quality: Quality) -> u8 {
+        code_of_quality(profile, quality)
+    }
 
     ghost by_rule = { unfold outgoing_code in elim [
       | true ↦ elim [ true ↦ λ selected code. refl | false ↦ λ selected code. refl ]
@@ -120,9 +136,15 @@ impl Sign for u16 {
 
     ghost DO_NOT_USE = { word_dus };
 
+    ghost says = { λ profile. word_of_quality };
+
     const SENDING_OFF: u16 = WORD_STU;
 
     const DO_NOT_USE: u16 = WORD_DUS;
+
+    fn says(_profile: Profile, quality: Quality) -> u16 {
+        word_of_quality(quality)
+    }
 
     ghost by_rule = { unfold outgoing_word in λ mode sending selected word. refl };
 }

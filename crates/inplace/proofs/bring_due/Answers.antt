@@ -12,7 +12,7 @@ use Rattle.inplace.proofs.Own.{own_then, untouched, awaits_still, own_turn, own-
 use Rattle.inplace.proofs.bring_due.Goals as goal
 
 pub loop-at-init : goal.loop-at-init
-loop-at-init c = (search rules, refl, refl, search nextAmong-laws, λ e number h. absurd (search rules))
+loop-at-init c = (refl, refl, search nextAmong-laws, λ e number h. absurd (search rules))
 
 pub bring_input-one-requires : goal.bring_input-one-requires
 bring_input-one-requires c =
@@ -23,7 +23,7 @@ bring_input-one-requires c =
       awaits_still loop.times loop.small args.wider.now loop.at c.loop-at-test.true
           (λ (input : Input). input_brought_to input args.time args.mode)
           (selector_at args.times.now args.small.now args.wider.now)
-          loop.invariant.1
+          loop.invariant.0
           (own_then args.mode args.time)
           args.mode
           args.time
@@ -31,7 +31,7 @@ bring_input-one-requires c =
           args.own.now
           loop.own
           start.requires
-          loop.invariant.2,
+          loop.invariant.1,
     )
 
 pub loop-at-preserved : goal.loop-at-preserved
@@ -44,15 +44,14 @@ loop-at-preserved c =
     let sixteen = inputs-length args.times.now args.small.now args.wider.now in
     let input = input_at loop.times loop.small args.wider.now loop.at in
     let same = untouched loop.times loop.small args.wider.now loop.at inside
-    (λ (input : Input). input_brought_to input args.time args.mode) first loop.invariant.1 in (
-      search rules,
+    (λ (input : Input). input_brought_to input args.time args.mode) first loop.invariant.0 in (
       turn (λ (input : Input). input_brought_to input args.time args.mode) first loop.times loop.small
           args.wider.now
           (selector_at one.new.times one.new.small args.wider.now)
           loop.at
           (input_brought_to input args.time args.mode)
           sixteen
-          loop.invariant.1
+          loop.invariant.0
           one.ensures.0
           refl
           inside,
@@ -61,17 +60,17 @@ loop-at-preserved c =
           inside
           c.told-own
           same
-          loop.invariant.2
+          loop.invariant.1
           one.ensures.2,
       least-turn first sixteen args.mode args.time input loop.at loop.next one.result.next
           c.lesser-next.result
           inside
           same
-          loop.invariant.3
+          loop.invariant.2
           one.ensures.2
           c.lesser-next.ensures,
       alike-turn first.inputs args.mode args.time loop.at input loop.alike one.result.alike same
-          loop.invariant.4
+          loop.invariant.3
           one.ensures.3,
     )
 
@@ -85,13 +84,13 @@ returns c =
           (selector_at loop.times loop.small args.wider.now)
           loop.at
           sixteen
-          loop.invariant.1
           loop.invariant.0
+          loop.auto.at-end
           c.loop-at-test.false,
       own-done first sixteen args.mode args.time loop.at args.own.now loop.own
           c.told-own
-          loop.invariant.2
-          loop.invariant.0
+          loop.invariant.1
+          loop.auto.at-end
           c.loop-at-test.false,
       next_among-all
           (map (λ (input : Input). input_brought_to input args.time args.mode) first.inputs)
@@ -99,8 +98,8 @@ returns c =
           args.time
           loop.at
           loop.next
-          loop.invariant.3
-          loop.invariant.0
+          loop.invariant.2
+          loop.auto.at-end
           c.loop-at-test.false,
-      λ e. all_alike first.inputs args.mode args.time loop.at c.loop-at-test.false (loop.invariant.4 e),
+      λ e. all_alike first.inputs args.mode args.time loop.at c.loop-at-test.false (loop.invariant.3 e),
     )

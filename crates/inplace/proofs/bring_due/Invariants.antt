@@ -1,6 +1,6 @@
 -- `inplace::bring_due` meets its contract: a turn of the loop brings one input to the time, or finds it there, and
 -- makes its own time anew. Assumes nothing.
-use Prim.Native.Nat.{ℕ, ◌<◌, ◌≤◌}
+use Prim.Native.Nat.{ℕ, ◌<◌}
 use mathlib.Core.Bool.{true}
 use mathlib.Core.List.{map}
 use mathlib.Core.Path.{◌≡◌}
@@ -17,7 +17,6 @@ use Rattle.inplace.proofs.bring_due.Given as goal
 
 abbrev pub invariant-loop-at : goal.invariant-loop-at
 invariant-loop-at l =
-    (l.at ≤ 16) ×
     (selector_at l.times l.small l.wider ≡
     changed (λ (input : Input). input_brought_to input l.time l.mode) l.at (selector_at l.initial.times l.initial.small l.wider)) ×
     (l.own ≡ filled (own_then l.mode l.time) l.at (selector_at l.initial.times l.initial.small l.wider).inputs l.initial.own) ×

@@ -1,5 +1,4 @@
 -- `inplace::next_due` meets its contract. Assumes nothing.
-use Prim.Native.Nat.{◌≤◌}
 use mathlib.Core.Path.{◌≡◌}
 use Rattle.due.specs.Next.{next_among}
 use Rattle.inplace.specs.Lists.{selector_at}
@@ -7,4 +6,4 @@ use Rattle.inplace.proofs.next_due.Given as goal
 
 abbrev pub invariant-loop-at : goal.invariant-loop-at
 invariant-loop-at l =
-    (l.at ≤ 16) × (l.due ≡ next_among (selector_at l.times l.small l.wider).inputs l.mode l.time l.at)
+    l.due ≡ next_among (selector_at l.times l.small l.wider).inputs l.mode l.time l.at

@@ -1,5 +1,4 @@
 -- `inplace::put_fresh` meets its contract. Assumes nothing.
-use Prim.Native.Nat.{◌≤◌}
 use mathlib.Core.Path.{◌≡◌}
 use Rattle.input.specs.declared.Input.{Input}
 use Rattle.input.specs.Record.{fresh_input}
@@ -9,6 +8,5 @@ use Rattle.inplace.proofs.put_fresh.Given as goal
 
 abbrev pub invariant-loop-at : goal.invariant-loop-at
 invariant-loop-at l =
-    (l.at ≤ 16) ×
-    (selector_at l.times l.small l.wider ≡
-    changed (λ (one : Input). fresh_input) l.at (selector_at l.initial.times l.initial.small l.initial.wider))
+    selector_at l.times l.small l.wider ≡
+    changed (λ (one : Input). fresh_input) l.at (selector_at l.initial.times l.initial.small l.initial.wider)
