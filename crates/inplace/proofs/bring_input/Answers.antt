@@ -1,5 +1,5 @@
 -- `inplace::bring_input` meets its contract: an input that awaits its own time is as it would be. Assumes nothing.
-use mathlib.Core.Path.{refl, sym, ap}
+use mathlib.Core.Path.{refl, sym, ap, ◌∙◌}
 use lib.Seq.{set-get_or}
 use Rattle.input.specs.Record.{input_brought_to, passed_of}
 use Rattle.inplace.specs.Lists.{input_at}
@@ -42,8 +42,9 @@ returns c =
       own-made input read.result after.result args.time args.mode next.result read.ensures
           after.ensures
           next.ensures,
-      passes-alike input read.result after.result args.time args.mode old.result new.result read.ensures
+      λ alike. passes-alike input read.result after.result args.time args.mode old.result new.result read.ensures
           after.ensures
           old.ensures
-          new.ensures,
+          new.ensures
+          (sym c.eq-alike.ensures ∙ alike),
     )
