@@ -6,13 +6,11 @@ use mathlib.Core.Path.{◌≡◌, ◌∙◌, ap}
 use borrow.Author.Tests.{lt-ltb, le-ltb, le-leb, lt-leb, eq-eqb, ne_eqb}
 use lib.Dec.{eqb, leb, ltb}
 use lib.ListN.{get_or, replicate}
+use Rattle.std.proofs.Common.{Option, Some, None}
 use Rattle.numbers.specs.declared.Answer.{Answer}
-use Rattle.numbers.specs.declared.Event.{Event}
 use Rattle.numbers.specs.declared.profile.ProvPlace.{ProvPlace}
 use Rattle.numbers.specs.Kind.{kind_sending}
-use Rattle.frame.specs.declared.FrameRead.{FrameRead}
 use Rattle.eventlog.specs.declared.LineRead.{LineRead}
-use Rattle.eventlog.specs.declared.LineRead.TheVariants.{Read, Malformed}
 use Rattle.selector.specs.declared.Selector.{Selector}
 use Rattle.selector.specs.Answer.{answer_of, outgoing_codes}
 use Rattle.logline.specs.Plain.{no_option}
@@ -95,13 +93,13 @@ module _ (number : ℕ) where
   unfolding is_early
   is_early-some n = rw (ne_eqb number 0 n)
 
-module _ (read : LineRead) where
-  pub sets_sending-event : (event : Event) (frame : FrameRead) (byte : ℕ) → read ≡ Read event frame byte
-      → eqb event.kind kind_sending ≡ sets_sending read
+module _ (read : Option LineRead) where
+  pub sets_sending-event : (said : LineRead) → read ≡ Some said
+      → eqb said.event.kind kind_sending ≡ sets_sending read
   unfolding sets_sending
-  sets_sending-event event frame byte is = rw is
+  sets_sending-event said is = rw is
 
-  pub sets_sending-malformed : read ≡ Malformed → false ≡ sets_sending read
+  pub sets_sending-malformed : read ≡ None → false ≡ sets_sending read
   unfolding sets_sending
   sets_sending-malformed is = rw is
 

@@ -7,6 +7,7 @@ use mathlib.Core.Path.{◌≡◌, refl, sym, ◌∙◌, ap}
 use lib.Dec.{eqb}
 use lib.ListN.{get_or, set, get_or-map}
 use lib.Seq.{map-set_same}
+use Rattle.std.proofs.Common.{Option, Some, None}
 use Rattle.numbers.specs.declared.Answer.{Answer}
 use Rattle.numbers.specs.declared.Event.{Event}
 use Rattle.numbers.specs.Codes.{code_of_quality}
@@ -19,7 +20,6 @@ use Rattle.frame.specs.Read.{read_code}
 use Rattle.input.specs.declared.Input.{Input}
 use Rattle.input.specs.Record.{fresh_input, settings_after, input_at_moment, after_event}
 use Rattle.eventlog.specs.declared.LineRead.{LineRead}
-use Rattle.eventlog.specs.declared.LineRead.TheVariants.{Read, Malformed}
 use Rattle.selector.specs.declared.Selector.{Selector}
 use Rattle.selector.specs.Answer.{answer_of, quality_of, sign_for, outgoing_codes, outgoing_code, selected_number, ports}
 use Rattle.events.specs.Given.{Given, Sequence}
@@ -148,12 +148,12 @@ module _ (watch : Watch) (kept : Kept watch) (event : Event) (frame : FrameRead)
       (own-sends watch.state (due_at watch event) event frame unsent) (rw other) view)
 
 -- so does a line that is not malformed, and one that is
-pub line-shows : (watch : Watch) (line : LineRead) → Kept watch → is_made_anew watch line ≡ false
+pub line-shows : (watch : Watch) (line : Option LineRead) → Kept watch → is_made_anew watch line ≡ false
     → sets_sending line ≡ false
     → (view : View) → shown_by view (watched_of watch line).state ≡ shown_by view watch.state
 unfolding is_made_anew sets_sending watched_of
-line-shows watch Malformed kept quiet unsent view = refl
-line-shows watch (Read event frame byte) kept quiet unsent view = quiet_shows watch kept event frame quiet unsent view
+line-shows watch None kept quiet unsent view = refl
+line-shows watch (Some said) kept quiet unsent view = quiet_shows watch kept said.event said.frame quiet unsent view
 
 -- ---- after any events
 

@@ -1,8 +1,7 @@
 -- What the program carries from line to line, and what an event does to it. Cited by `src/bench.rt`. Assumes nothing.
-use Rattle.std.specs.Prelude.{ℕ, ◌<◌, max, Bool, true, false, not, ◌&&◌, ◌||◌, cond, List, ◌≡◌, eqb, leb, ltb}
+use Rattle.std.specs.Prelude.{ℕ, ◌<◌, max, Bool, true, false, not, ◌&&◌, ◌||◌, cond, List, ◌≡◌, eqb, leb, ltb, Option, Some, None}
 use Rattle.numbers.specs.Kind.{kind_sending}
 use Rattle.eventlog.specs.declared.LineRead.{LineRead}
-use Rattle.eventlog.specs.declared.LineRead.TheVariants.{Read, Malformed}
 use Rattle.selector.specs.declared.Selector.{Selector}
 use Rattle.selector.specs.Answer.{answer_of, outgoing_codes}
 use Rattle.due.specs.Next.{next_due}
@@ -76,17 +75,17 @@ unfoldable pub is_early : ℕ → Bool
 is_early number = not (eqb number 0) && leb number 13
 
 -- a line says an event that sets what a port sends
-unfoldable pub sets_sending : LineRead → Bool
-sets_sending (Read event frame byte) = eqb event.kind kind_sending
-sets_sending Malformed = false
+unfoldable pub sets_sending : Option LineRead → Bool
+sets_sending (Some line) = eqb line.event.kind kind_sending
+sets_sending None = false
 
 -- a line, as the log means it, may change what shows: it is the first that says an option, its answer is made anew, or
 -- it sets what a port sends
-unfoldable pub may_change_by : Bool → Bool → LineRead → Bool
+unfoldable pub may_change_by : Bool → Bool → Option LineRead → Bool
 may_change_by first anew line = first || anew || sets_sending line
 
 -- a line of a log may change what shows
-abbrev pub may_change : LogWatch → LineRead → Bool
+abbrev pub may_change : LogWatch → Option LineRead → Bool
 may_change log read =
     let line = meant_read log.option read in
     may_change_by (eqb log.option no_option) (is_made_anew (watch_for log line) line) line
@@ -108,7 +107,7 @@ unfoldable pub is_told : Bool → ℕ → Bool → Bool
 is_told changes number late = not (is_early number) && not late && changes
 
 -- the state that a line finds: of the profile that it says where none was said before
-abbrev pub state_found : LogWatch → LineRead → Selector
+abbrev pub state_found : LogWatch → Option LineRead → Selector
 state_found log read = (watch_for log (meant_read log.option read)).state
 
 -- what is carried, and when each value of each lane was right last
@@ -123,14 +122,14 @@ abbrev pub places_in : Taken → List ℕ
 places_in taken = taken.room
 
 -- what the lanes are told of the spans up to a log's time
-abbrev pub told_up_to : Question → Bench → LineRead → LogWatch → List ℕ → AllTold
+abbrev pub told_up_to : Question → Bench → Option LineRead → LogWatch → List ℕ → AllTold
 told_up_to question bench read after room =
     spans_told_all question (spans_since (state_found bench.log read) bench.since after.watch.state.time)
     bench.lanes
     room
 
 -- what is carried after an event line that left a log, with the lanes and since when they have not been told
-abbrev pub bench_stepped : Question → Bench → LineRead → LogWatch → List Lane → ℕ → Bench
+abbrev pub bench_stepped : Question → Bench → Option LineRead → LogWatch → List Lane → ℕ → Bench
 bench_stepped question bench read after lanes since =
     let number = after.watch.answer.number in
     let state = after.watch.state in
@@ -146,7 +145,7 @@ bench_stepped question bench read after lanes since =
     }
 
 -- what an event line does: the lanes are told what was right up to it, where that may change
-unfoldable pub event_taken : Question → Bench → LineRead → List ℕ → Taken
+unfoldable pub event_taken : Question → Bench → Option LineRead → List ℕ → Taken
 event_taken question bench read room =
     let after = logged_of bench.log read in
     let number = after.watch.answer.number in

@@ -102,18 +102,18 @@ fn is_early(number: u8) -> bool
 }
 
 // Whether a line says an event that sets what a port sends.
-fn sets_sending(read: LineRead) -> bool
+fn sets_sending(read: Option<LineRead>) -> bool
     ensures { result ≡ sets_sending read }
 {
-    let LineRead::Read(event, _, _) = read else {
+    let Some(line) = read else {
         return false;
     };
-    event.kind == KIND_SENDING
+    line.event.kind == KIND_SENDING
 }
 
 // Whether an event line may change what shows: it is the first that says an option, its answer is
 // made anew, or it sets what a port sends.
-pub fn may_change(first: bool, anew: bool, read: LineRead) -> bool
+pub fn may_change(first: bool, anew: bool, read: Option<LineRead>) -> bool
     ensures { result ≡ may_change_by first anew read }
 {
     if first {
