@@ -8,12 +8,11 @@ use Rattle.numbers.specs.Inputs.{last_input}
 use Rattle.selector.specs.declared.Selector.{Selector}
 use Rattle.selector.specs.Answer.{outgoing_codes}
 use Rattle.selector.proofs.SelectorLaws.{get_d_past}
-use Rattle.sender.specs.declared.AskedOne.{AskedOne}
 use Rattle.sender.specs.declared.Heartbeat.{Heartbeat}
 use Rattle.sender.specs.declared.Heartbeat.TheVariants as H
 use Rattle.sender.specs.declared.Sender.{Sender}
 use Rattle.sender.specs.Heartbeat.{code_of_port}
-use Rattle.sender.specs.Sender.{AskOne}
+use Rattle.sender.specs.Sender.{AskedOne, AskOne}
 use Rattle.card.specs.Asking.{sender_times, sender_numbers, heartbeat_told, AskLent}
 
 -- ---- heartbeat_told

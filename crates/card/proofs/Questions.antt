@@ -12,13 +12,11 @@ use Rattle.numbers.specs.Refusal.{accepted}
 use Rattle.numbers.proofs.Truth.{by_bool}
 use Rattle.frame.specs.Write.{largest_code}
 use Rattle.selector.proofs.SelectorLaws.{get_d_past}
-use Rattle.sender.specs.declared.Asked.{Asked}
-use Rattle.sender.specs.declared.AskedOne.{AskedOne}
 use Rattle.sender.specs.declared.Heartbeat.TheVariants as H
 use Rattle.sender.specs.declared.Sender.{Sender}
 use Rattle.sender.specs.declared.Senders.{Senders}
 use Rattle.sender.specs.Heartbeat.{Question, Questions, code_asked, question_number}
-use Rattle.sender.specs.Sender.{fresh_sender, heartbeat_of, after_heartbeat, sender_at, asked_number, last_asked, one_number, one_with, asked_one, asked}
+use Rattle.sender.specs.Sender.{Asked, AskedOne, fresh_sender, heartbeat_of, after_heartbeat, sender_at, asked_number, last_asked, one_number, one_with, asked_one, asked}
 use Rattle.sender.specs.Sequence.{senders_after}
 use Rattle.sender.proofs.Agrees.{asked-refused, asked-accepted, senders-sixteen, fresh_at, other-kept}
 use Rattle.sender.proofs.Codes.{code_of_port-small}

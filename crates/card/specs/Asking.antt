@@ -3,12 +3,11 @@
 use Rattle.std.specs.Prelude.{ℕ, ◌*◌, ◌≤◌, cond, List, [], ◌∷◌, ◌≡◌, eqb, get_or}
 use Rattle.numbers.specs.Inputs.{last_input}
 use Rattle.selector.specs.declared.Selector.{Selector}
-use Rattle.sender.specs.declared.AskedOne.{AskedOne}
 use Rattle.sender.specs.declared.Heartbeat.{Heartbeat}
 use Rattle.sender.specs.declared.Heartbeat.TheVariants as H
 use Rattle.sender.specs.declared.Sender.{Sender}
 use Rattle.sender.specs.Heartbeat.{Question, Questions, code_of_port, code_asked, heartbeat_by, content_by}
-use Rattle.sender.specs.Sender.{fresh_sender, asked_one, sender_at}
+use Rattle.sender.specs.Sender.{AskedOne, fresh_sender, asked_one, sender_at}
 use Rattle.sender.specs.Sequence.{senders_after}
 
 -- the sender that two lists hold: the times of its last ten frames and of the last question; the last code, and how

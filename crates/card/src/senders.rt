@@ -9,7 +9,7 @@ ghost use Rattle.card.specs.Asking.{sender_in, sender_times, sender_numbers, hea
 
 use inplace::{SMALL, TIMES, WIDER, codes_at};
 use numbers::LAST_INPUT;
-use sender::{Heartbeat, Sender, ask_one};
+use sender::{Heartbeat, Sender};
 
 // How many numbers the two arrays of a sender have: the times of its last ten frames, the latest
 // first, and that of the last accepted question; the code of the last frame, and how many frames
@@ -128,13 +128,10 @@ pub extern "C" fn nurrispane_ask_in(
         port time source.now buffer.old
         frames.new numbers.new result buffer.new }
 {
-    let before = sender_in(frames, numbers);
+    let mut sender = sender_in(frames, numbers);
     let code = code_at(times, small, wider, port);
-    let asked = ask_one(before, port as u64, time, code, source, buffer);
-    let after = asked.sender;
-    let heartbeat = asked.heartbeat;
-    let eleven = times_of(after);
-    *frames = eleven;
-    *numbers = [after.code, after.sent];
+    let heartbeat = sender.ask_one(port as u64, time, code, source, buffer);
+    *frames = times_of(sender);
+    *numbers = [sender.code, sender.sent];
     told_of(heartbeat)
 }

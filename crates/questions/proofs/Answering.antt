@@ -17,10 +17,9 @@ use Rattle.selector.specs.declared.Selector.{Selector}
 use Rattle.numbers.specs.Rows.{refusal, first_that_applies}
 use Rattle.sender.specs.declared.Heartbeat.{Heartbeat}
 use Rattle.sender.specs.declared.Heartbeat.TheVariants as H
-use Rattle.sender.specs.declared.Asked.{Asked}
 use Rattle.sender.specs.declared.Senders.{Senders}
 use Rattle.sender.specs.Heartbeat.{Question, question_of, question_number}
-use Rattle.sender.specs.Sender.{sender_at, asked_number, answered_with, asked_of, asked, content_of, AskSenders}
+use Rattle.sender.specs.Sender.{Asked, sender_at, asked_number, answered_with, asked_of, asked, content_of, AskSenders}
 use Rattle.sender.proofs.SenderLaws.{question_number-fit}
 use Rattle.sender.proofs.Agrees.{asked-refused}
 use Rattle.questions.specs.declared.LineText.{LineText}

@@ -11,13 +11,12 @@ use borrow.Author.Tests.{eq-eqb, ne_eqb, eqb-true, eqb-false, leb-true, leb-fals
 use Rattle.numbers.specs.Refusal.{accepted}
 use Rattle.numbers.proofs.Truth.{by_bool, both-second}
 use Rattle.selector.proofs.SelectorLaws.{get_d_past}
-use Rattle.sender.specs.declared.Asked.{Asked}
 use Rattle.sender.specs.declared.Heartbeat.{Heartbeat}
 use Rattle.sender.specs.declared.Heartbeat.TheVariants as H
 use Rattle.sender.specs.declared.Sender.{Sender}
 use Rattle.sender.specs.declared.Senders.{Senders}
 use Rattle.sender.specs.Heartbeat.{Question, Questions, code_asked, question_number, is_earlier, number_over, accepted_of, sent_over, heartbeat_over}
-use Rattle.sender.specs.Sender.{fresh_sender, fresh_senders, heartbeat_of, after_heartbeat, sender_at, asked_number, answered_with, asked_of, asked}
+use Rattle.sender.specs.Sender.{Asked, fresh_sender, fresh_senders, heartbeat_of, after_heartbeat, sender_at, asked_number, answered_with, asked_of, asked}
 use Rattle.sender.specs.Sequence.{senders_after}
 use Rattle.sender.proofs.SenderLaws.{Fit, question_number-fit}
 use Rattle.sender.proofs.Kept.{last_asked, is_earlier-asked, sender_over, heartbeat_of-over, after_heartbeat-over, Falling, falling_descending}

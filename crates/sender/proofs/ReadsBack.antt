@@ -16,9 +16,9 @@ use Rattle.frame.specs.RoundTrip.{Layout, RoundTrip}
 use Rattle.frame.proofs.WriteLaws.{write_answer-written, frame_octets-length}
 use Rattle.frame.proofs.RoundTrip.{demand_2_round_trip}
 use Rattle.numbers.proofs.Truth.{by_bool}
-use Rattle.sender.specs.declared.Asked.{Asked}
 use Rattle.sender.specs.declared.Heartbeat.{Heartbeat}
 use Rattle.sender.specs.declared.Heartbeat.TheVariants as H
+use Rattle.sender.specs.Sender.{Asked}
 use Rattle.sender.specs.Heartbeat.{Question, Questions, code_asked, number_over, accepted_of, Sent, period, window_frames, later_count, differs, due_frame, heartbeat_over, sent_over, content_by}
 use Rattle.sender.specs.Sequence.{heartbeat_after, heartbeat_buffer, answered_on}
 use Rattle.sender.specs.Sending.{is_frame_sent, ReadsBack}

@@ -1,68 +1,60 @@
 -- The definitions of `specs/`, a law for each way through the function that meets it. Assumes nothing.
 use Prim.Native.Nat.{ℕ, ◌+◌, ◌≤◌, ◌<◌}
-use mathlib.Core.Bool.{Bool, true, false}
-use mathlib.Core.List.{List, [], ◌∷◌}
+use mathlib.Core.Bool.{Bool, true, false, not}
+use mathlib.Core.List.{List, [], ◌∷◌, ◌++◌, append-nil}
 use mathlib.Core.Path.{◌≡◌, refl, sym, ◌∙◌, ap}
 use native.Mathlib.Omega.{arith}
-use lib.Dec.{leb, ltb}
-use lib.ListN.{length, get_or, take}
+use lib.Dec.{eqb, leb, ltb}
+use lib.ListN.{length, get_or, set, take, drop}
+use lib.Seq.{drop-length}
+use Rattle.std.specs.List.{copy_within}
+use Rattle.std.proofs.lemmas.List.{set-get_or}
 use borrow.Author.Tests.{eq-eqb, ne_eqb, lt-ltb, le-ltb, le-leb, lt-leb, eqb-true, leb-false, ltb-false, not-false}
 use Rattle.numbers.specs.Inputs.{last_input, input_count, time_limit}
 use Rattle.numbers.specs.Refusal.{accepted, time_too_large, time_before_state, input_out_of_range, argument_out_of_range, buffer_too_short, source_not_six}
 use Rattle.numbers.specs.Rows.{first_that_applies}
 use Rattle.numbers.proofs.Rows.{none-exact}
+use Rattle.numbers.proofs.Truth.{by_bool}
 use Rattle.frame.specs.Write.{Writing, written_length, source_length, largest_code, WriteFrame}
 use Rattle.frame.proofs.WriteLaws.{write_answer-written}
 use Rattle.selector.specs.declared.Selector.{Selector}
 use Rattle.selector.specs.Answer.{outgoing_codes}
 use Rattle.selector.proofs.SelectorLaws.{get_d_any, get_d_past}
-use Rattle.sender.specs.declared.Asked.{Asked}
 use Rattle.sender.specs.declared.Heartbeat.{Heartbeat}
 use Rattle.sender.specs.declared.Heartbeat.TheVariants as H
 use Rattle.sender.specs.declared.Sender.{Sender}
 use Rattle.sender.specs.declared.Senders.{Senders}
 use Rattle.sender.specs.Heartbeat.{Question, question_of, question_rows, code_asked, question_number, period, window, window_frames, content_by}
-use Rattle.sender.specs.Sender.{tenth, fresh_sender, is_full, heartbeat_due, heartbeat_of, with_frame, with_question, after_heartbeat, sender_at, asked_number, with_sender, answered_with, asked, AskSenders, last_asked, one_number, one_with, asked_one, AskOne}
+use Rattle.sender.specs.Sender.{Asked, AskedOne, tenth, fresh_sender, is_full, heartbeat_due, heartbeat_of, with_frame, with_question, after_heartbeat, sender_at, asked_number, with_sender, answered_with, asked, AskSenders, last_asked, one_number, one_with, asked_one, AskOne}
 use Rattle.sender.proofs.Codes.{code_of_port-small}
 
 -- ---- ten times
 
--- ten times are their ten elements
-pub ten : (times : List ℕ) (time : ℕ) → length times ≡ 10
-    → time ∷ get_or times 0 0 ∷ get_or times 1 0 ∷ get_or times 2 0 ∷ get_or times 3 0 ∷ get_or times 4 0 ∷ get_or times 5 0 ∷
-    get_or times 6 0 ∷ get_or times 7 0 ∷ get_or times 8 0 ∷ [] ≡ take 10 (time ∷ times)
-ten (a ∷ b ∷ c ∷ d ∷ e ∷ f ∷ g ∷ h ∷ i ∷ j ∷ rest) time size = refl
-ten [] time size = absurd (omega arith)
-ten (a ∷ []) time size = absurd (omega arith)
-ten (a ∷ b ∷ []) time size = absurd (omega arith)
-ten (a ∷ b ∷ c ∷ []) time size = absurd (omega arith)
-ten (a ∷ b ∷ c ∷ d ∷ []) time size = absurd (omega arith)
-ten (a ∷ b ∷ c ∷ d ∷ e ∷ []) time size = absurd (omega arith)
-ten (a ∷ b ∷ c ∷ d ∷ e ∷ f ∷ []) time size = absurd (omega arith)
-ten (a ∷ b ∷ c ∷ d ∷ e ∷ f ∷ g ∷ []) time size = absurd (omega arith)
-ten (a ∷ b ∷ c ∷ d ∷ e ∷ f ∷ g ∷ h ∷ []) time size = absurd (omega arith)
-ten (a ∷ b ∷ c ∷ d ∷ e ∷ f ∷ g ∷ h ∷ i ∷ []) time size = absurd (omega arith)
+-- nine of ten times moved behind, and one in front: the ten latest
+pub latest_ten : (times moved : List ℕ) (time : ℕ) → length times ≡ 10 → moved ≡ copy_within times 0 9 1
+    → set moved 0 time ≡ take 10 (time ∷ times)
+latest_ten [] moved time size _ = absurd (omega arith)
+latest_ten (x ∷ rest) moved time size is =
+    let nine : 9 ≡ length rest = omega arith in
+    let none : drop 9 rest ≡ [] = ap (λ (n : ℕ). drop n rest) nine ∙ drop-length rest in
+    rw is
+    (ap (λ (tail : List ℕ). time ∷ (take 9 (x ∷ rest) ++ tail)) none
+    ∙ ap (λ (tail : List ℕ). time ∷ tail) (append-nil (take 9 (x ∷ rest))))
 
 -- ---- is_full
 
 module _ (sender : Sender) (time : ℕ) where
-  pub is_full-few : sender.sent < window_frames → false ≡ is_full sender time
+  pub is_full-few : sender.sent < window_frames → leb window_frames sender.sent ≡ is_full sender time
   unfolding is_full
   is_full-few few = rw (lt-leb _ _ few)
 
-  pub is_full_elapsed : (elapsed : Bool) → window_frames ≤ sender.sent
-      → elapsed ≡ leb (get_or sender.times tenth 0 + window) time → elapsed ≡ true
-      → false ≡ is_full sender time
+  pub is_full-ten : (elapsed : Bool) → window_frames ≤ sender.sent
+      → elapsed ≡ leb (get_or sender.times tenth 0 + window) time
+      → not elapsed ≡ is_full sender time
   unfolding is_full
-  is_full_elapsed elapsed ten test passed = rw (le-leb _ _ ten, ← test, passed)
+  is_full-ten elapsed ten test = rw (le-leb _ _ ten, ← test)
 
-  pub is_full-within : (elapsed : Bool) → window_frames ≤ sender.sent
-      → elapsed ≡ leb (get_or sender.times tenth 0 + window) time → elapsed ≡ false
-      → true ≡ is_full sender time
-  unfolding is_full
-  is_full-within elapsed ten test left = rw (le-leb _ _ ten, ← test, left)
-
-pub ruleset isFull-laws = (is_full-few, is_full_elapsed, is_full-within)
+pub ruleset isFull-laws = (is_full-few, is_full-ten)
 
 -- ---- dueOf, heartbeat_of
 
@@ -292,12 +284,13 @@ module _ (senders : Senders) (port time : ℕ) (state : Selector) (source before
   abbrev question : Question
   question = question_of port time state source before
 
-  module _ (number last : ℕ) (sixteen : length senders.ports ≡ input_count) (fifteen : last ≡ last_input) where
+  module _ (sixteen : length senders.ports ≡ input_count) where
     -- a port above 15 has no sender
-    pub ask_no_port : last < port → number ≡ question_number (ltb time 0) port time (length before) (length source)
+    pub ask_no_port : (number : ℕ) → last_input < port
+        → number ≡ question_number (ltb time 0) port time (length before) (length source)
         → AskSenders senders question (answered_with senders (H.Refused number)) before
     unfolding asked
-    ask_no_port past given =
+    ask_no_port number past given =
         let beyond : length senders.ports ≤ port = omega arith in
         let same : number ≡ asked_number senders question =
         given ∙ (rw (get_d_past senders.ports port fresh_sender beyond)) in
@@ -305,43 +298,49 @@ module _ (senders : Senders) (port time : ℕ) (state : Selector) (source before
         λ none. let fit = question_number-fit _ _ _ _ _ (sym given ∙ none) in omega (arith, fit.inside) in
         record { answered = rw (← same, ne_eqb _ _ refused); content = rw (← same, ne_eqb _ _ refused) }
 
-  module _ (number last : ℕ) (zeroed : Sender) (sixteen : length senders.ports ≡ input_count)
-      (fifteen : last ≡ last_input) (inside : port ≤ last)
-      (given :
-      number ≡ question_number (ltb time (get_or senders.ports port zeroed).asked) port time (length before)
-      (length source)) where
-    found : get_or senders.ports port zeroed ≡ sender_at senders port
-    found =
-        let within : port < length senders.ports = omega arith in
-        get_d_any senders.ports port zeroed fresh_sender within
+    module _ (inside : port ≤ last_input) where
+      -- what is asked of a port's sender by itself
+      abbrev asked_there : AskedOne
+      asked_there = asked_one (sender_at senders port) port time (code_asked question) source before
 
-    same : number ≡ asked_number senders question
-    same = given ∙ (rw found)
+      one-number : one_number (sender_at senders port) port time source before ≡ asked_number senders question
+      one-number =
+          ap (λ (last : ℕ). question_number (ltb time last) port time (length before) (length source))
+          (sym (last_asked-port (sender_at senders port) port inside))
 
-    pub ask_refused : (number ≡ accepted → ⊥)
-        → AskSenders senders question (answered_with senders (H.Refused number)) before
-    unfolding asked
-    ask_refused refused =
-        record { answered = rw (← same, ne_eqb _ _ refused); content = rw (← same, ne_eqb _ _ refused) }
+      -- any other's sender is asked by itself
+      asked-there : asked senders question ≡ answered_with (with_sender senders port asked_there.sender) asked_there.heartbeat
+      unfolding asked asked_one
+      asked-there =
+          by_bool (eqb (asked_number senders question) accepted)
+          (λ none. rw (one-number, none, le-ltb _ _ (code_of_port-small state port)))
+          (λ refused.
+          rw (one-number, refused)
+          (ap (λ (ports : List Sender). answered_with (record { ports = ports }) (H.Refused (asked_number senders question)))
+          (sym (set-get_or senders.ports port fresh_sender))))
 
-    pub ask_accepted : (codes : List ℕ) (heartbeat : Heartbeat) (next : Sender) (after : List ℕ) → number ≡ accepted
-        → codes ≡ outgoing_codes state
-        → heartbeat ≡ heartbeat_of (get_or senders.ports port zeroed) time (get_or codes port 0)
-        → next ≡ after_heartbeat heartbeat (get_or senders.ports port zeroed) time (get_or codes port 0)
-        → after ≡ content_by heartbeat (get_or codes port 0) source before
-        → AskSenders senders question (answered_with (with_sender senders port next) heartbeat) after
-    unfolding asked
-    ask_accepted codes heartbeat next after none told answered kept content =
-        let sender = sender_at senders port in
-        let code : get_or codes port 0 ≡ code_asked question = rw told in
-        let beat : heartbeat ≡ heartbeat_of sender time (code_asked question) = answered ∙ (rw (found, code)) in
-        let left : next
-        ≡ after_heartbeat (heartbeat_of sender time (code_asked question)) sender time (code_asked question) =
-        kept ∙ (rw (beat, found, code)) in
-        record {
-          answered = rw (← same, eq-eqb _ _ none, beat, left);
-          content = content ∙ (rw (← same, eq-eqb _ _ none, beat, code));
-        }
+      pub ask-port : (zeroed : Sender) (codes : List ℕ) (next : Sender) (heartbeat : Heartbeat) (after : List ℕ)
+          → codes ≡ outgoing_codes state
+          → AskOne (get_or senders.ports port zeroed) port time (get_or codes port 0) source before (one_with next heartbeat) after
+          → AskSenders senders question (answered_with (with_sender senders port next) heartbeat) after
+      ask-port zeroed codes next heartbeat after told one =
+          let within : port < length senders.ports = omega arith in
+          let found : get_or senders.ports port zeroed ≡ sender_at senders port =
+          get_d_any senders.ports port zeroed fresh_sender within in
+          let code : get_or codes port 0 ≡ code_asked question = rw told in
+          let same : asked_one (get_or senders.ports port zeroed) port time (get_or codes port 0) source before ≡ asked_there =
+          rw (found, code) in
+          let answer : one_with next heartbeat ≡ asked_there = one.answered ∙ same in
+          record {
+            answered =
+                ap (λ (one : AskedOne). answered_with (with_sender senders port one.sender) one.heartbeat) answer
+                ∙ sym asked-there;
+            content =
+                one.content
+                ∙ ap (λ (one : AskedOne). content_by one.heartbeat (get_or codes port 0) source before) same
+                ∙ ap (λ (number : ℕ). content_by asked_there.heartbeat number source before) code
+                ∙ ap (λ (answer : Asked). content_by answer.heartbeat (code_asked question) source before) (sym asked-there);
+          }
 
   -- the promise admits one answer and one content
   pub ask_senders_unique : (one other : Asked) (after later : List ℕ) → AskSenders senders question one after

@@ -11,11 +11,10 @@ use Rattle.numbers.specs.Refusal.{accepted, time_too_large}
 use Rattle.numbers.specs.Rows.{Refusal, NoneApplies, SmallestRow}
 use Rattle.numbers.proofs.Truth.{by_bool}
 use Rattle.numbers.proofs.Rows.{none-given, smallest_or_none, applies-numbered, smallest-exact}
-use Rattle.sender.specs.declared.Asked.{Asked}
 use Rattle.sender.specs.declared.Heartbeat.{Heartbeat}
 use Rattle.sender.specs.declared.Heartbeat.TheVariants as H
 use Rattle.sender.specs.Heartbeat.{Question, Questions, code_asked, question_number, number_over, accepted_of, Sent, heartbeat_over, sent_after, sent_over, answer_over, heartbeat_by, sent_by, content_by}
-use Rattle.sender.specs.Sender.{answered_with, asked}
+use Rattle.sender.specs.Sender.{Asked, answered_with, asked}
 use Rattle.sender.specs.Sequence.{senders_after, heartbeat_after, answered_on}
 use Rattle.sender.specs.Sending.{Sending, rows_by, Refusing, questions_to, OwnQuestions}
 use Rattle.sender.proofs.Kept.{Beat, information, event, nothing, heartbeat_over_beat}

@@ -4,8 +4,6 @@ use Rattle.std.specs.Prelude.{ℕ, ◌+◌, Bool, not, ◌&&◌, cond, List, ◌
 use Rattle.numbers.specs.Inputs.{input_count, last_input}
 use Rattle.numbers.specs.Refusal.{accepted, argument_out_of_range}
 use Rattle.frame.specs.Write.{largest_code}
-use Rattle.sender.specs.declared.Asked.{Asked}
-use Rattle.sender.specs.declared.AskedOne.{AskedOne}
 use Rattle.sender.specs.declared.Heartbeat.{Heartbeat}
 use Rattle.sender.specs.declared.Heartbeat.TheVariants as H
 use Rattle.sender.specs.declared.Sender.{Sender}
@@ -86,6 +84,11 @@ abbrev pub one_number : Sender → ℕ → ℕ → List ℕ → List ℕ → ℕ
 one_number sender port time source buffer =
     question_number (ltb time (last_asked sender port)) port time (length buffer) (length source)
 
+-- one sender after a question to it, and what it is answered with
+pub record AskedOne : Type 0 where
+  pub sender : Sender
+  pub heartbeat : Heartbeat
+
 -- a sender and what is answered beside it
 abbrev pub one_with : Sender → Heartbeat → AskedOne
 one_with sender heartbeat = record { sender = sender; heartbeat = heartbeat }
@@ -110,6 +113,11 @@ pub record AskOne (sender : Sender) (port time code : ℕ) (source buffer : List
 -- senders with another in the place of a port's
 abbrev pub with_sender : Senders → ℕ → Sender → Senders
 with_sender senders port sender = record { ports = set senders.ports port sender }
+
+-- the senders after a question, and what it is answered with
+pub record Asked : Type 0 where
+  pub senders : Senders
+  pub heartbeat : Heartbeat
 
 -- senders and what is answered beside them
 abbrev pub answered_with : Senders → Heartbeat → Asked

@@ -6,12 +6,11 @@
 // are answered for, no sum can wrap, and no public function has a `requires`.
 #![tactic(auto)]
 
-ghost use Rattle.std.specs.Prelude.{◌≡◌, ◌∷◌, ◌≤◌, ltb, length, take};
-ghost use Rattle.numbers.specs.Inputs.{last_input, input_count};
+ghost use Rattle.std.specs.Prelude.{◌≡◌, ◌≤◌, ltb, length};
 ghost use Rattle.frame.specs.Write.{written_length, source_length, largest_code};
 ghost use Rattle.inplace.specs.Lists.{selector_at};
 ghost use Rattle.sender.specs.Heartbeat.{question_of, question_number, content_by};
-ghost use Rattle.sender.specs.Sender.{fresh_senders, is_full, heartbeat_due, heartbeat_of, with_frame, after_heartbeat, last_asked, AskOne, AskSenders};
+ghost use Rattle.sender.specs.Sender.{fresh_senders, is_full, heartbeat_due, heartbeat_of, with_frame, after_heartbeat, last_asked, one_with, answered_with, AskOne, AskSenders};
 
 use frame::{SOURCE_LENGTH, WRITTEN_LENGTH, write_frame};
 use inplace::{SMALL, TIMES, WIDER, codes_at};
@@ -64,7 +63,7 @@ pub struct Senders {
 
 // What a question is answered with: an information frame, an event frame, nothing, or the number
 // of its refusal.
-#[derive(Clone, Copy)]
+#[derive(Clone, Copy, PartialEq, Eq)]
 pub enum Heartbeat {
     Information,
     Event,
@@ -72,120 +71,149 @@ pub enum Heartbeat {
     Refused(u8),
 }
 
-// The senders after a question, and what it is answered with.
-#[derive(Clone, Copy)]
-pub struct Asked {
-    pub senders: Senders,
-    pub heartbeat: Heartbeat,
-}
-
-// One sender after a question to it, and what it is answered with.
-#[derive(Clone, Copy)]
-pub struct AskedOne {
-    pub sender: Sender,
-    pub heartbeat: Heartbeat,
-}
-
-// The times of the last ten frames after one more.
-fn latest_ten(times: [u64; 10], time: u64) -> [u64; 10]
-    ensures { result ≡ take 10 (time ∷ times) }
-{
-    [
-        time, times[0], times[1], times[2], times[3], times[4], times[5], times[6], times[7],
-        times[8],
-    ]
-}
-
 impl Sender {
+    // A sender of which nothing was asked, and that has sent nothing.
+    const FRESH: Sender = Sender {
+        times: [0; 10],
+        asked: NEVER_ASKED,
+        code: 0,
+        sent: 0,
+    };
+
     // Whether ten frames carry times later than 1,000 ms before a time: the tenth last does.
-    fn is_full(self, time: u64) -> bool
-        ensures { result ≡ is_full self time }
+    fn is_full(&self, time: u64) -> bool
+        ensures { result ≡ is_full self.now time }
     {
-        if self.sent < WINDOW_FRAMES {
-            return false;
-        }
-        let tenth = self.times[TENTH];
-        if has_elapsed(tenth, WINDOW, time) {
-            return false;
-        }
-        true
+        WINDOW_FRAMES <= self.sent && !has_elapsed(self.times[TENTH], WINDOW, time)
     }
 
     // The frame that is due, where the window is not full.
-    fn due_frame(self, time: u64, code: u32) -> Heartbeat
-        ensures { result ≡ heartbeat_due self time code }
+    fn due_frame(&self, time: u64, code: u32) -> Heartbeat
+        ensures { result ≡ heartbeat_due self.now time code }
     {
         if self.sent == 0 {
-            return Heartbeat::Information;
+            Heartbeat::Information
+        } else if code != self.code {
+            Heartbeat::Event
+        } else if has_elapsed(self.times[0], PERIOD, time) {
+            Heartbeat::Information
+        } else {
+            Heartbeat::Nothing
         }
-        if code != self.code {
-            return Heartbeat::Event;
-        }
-        let last = self.times[0];
-        if has_elapsed(last, PERIOD, time) {
-            return Heartbeat::Information;
-        }
-        Heartbeat::Nothing
     }
 
     // What an accepted question is answered with.
-    fn heartbeat(self, time: u64, code: u32) -> Heartbeat
-        ensures { result ≡ heartbeat_of self time code }
+    fn heartbeat(&self, time: u64, code: u32) -> Heartbeat
+        ensures { result ≡ heartbeat_of self.now time code }
     {
         if self.is_full(time) {
-            return Heartbeat::Nothing;
+            Heartbeat::Nothing
+        } else {
+            self.due_frame(time, code)
         }
-        self.due_frame(time, code)
     }
 
-    // The sender after a frame.
-    fn with_frame(self, time: u64, code: u32) -> Sender
-        ensures { result ≡ with_frame self time code }
+    // A frame has gone out: its time is the latest of the ten.
+    fn with_frame(&mut self, time: u64, code: u32)
+        ensures { self.new ≡ with_frame self.old time code }
     {
-        let before = self.times;
-        let times = latest_ten(before, time);
-        if WINDOW_FRAMES <= self.sent {
-            return Sender {
-                times,
-                asked: time,
-                code,
-                sent: self.sent,
-            };
-        }
-        Sender {
-            times,
-            asked: time,
-            code,
-            sent: self.sent + 1,
+        self.times.copy_within(..TENTH, 1);
+        self.times[0] = time;
+        self.asked = time;
+        self.code = code;
+        if self.sent < WINDOW_FRAMES {
+            self.sent += 1;
         }
     }
 
-    // The sender after an accepted question with its answer.
-    fn after(self, heartbeat: Heartbeat, time: u64, code: u32) -> Sender
-        ensures { result ≡ after_heartbeat heartbeat self time code }
+    // An accepted question has had its answer.
+    fn after(&mut self, heartbeat: Heartbeat, time: u64, code: u32)
+        ensures { self.new ≡ after_heartbeat heartbeat self.old time code }
     {
         match heartbeat {
-            Heartbeat::Information => self.with_frame(time, code),
-            Heartbeat::Event => self.with_frame(time, code),
-            Heartbeat::Nothing => {
-                let times = self.times;
-                Sender {
-                    times,
-                    asked: time,
-                    code: self.code,
-                    sent: self.sent,
-                }
-            }
-            Heartbeat::Refused(_) => self,
+            Heartbeat::Information | Heartbeat::Event => self.with_frame(time, code),
+            Heartbeat::Nothing => self.asked = time,
+            Heartbeat::Refused(_) => {}
         }
+    }
+
+    // The time of a port's last question: a port above 15 has no sender, and no last question.
+    fn last_asked(&self, port: u64) -> u64
+        ensures { result ≡ last_asked self.now port }
+    {
+        if LAST_PORT < port {
+            NEVER_ASKED
+        } else {
+            self.asked
+        }
+    }
+
+    // Asks one port's sender at a time, where the port has a code. An answered frame stands in the
+    // first 60 octets of `buffer`; all else in it is kept. A code above 15 is none, and is refused
+    // with 6 where nothing else refuses the question.
+    pub fn ask_one(
+        &mut self,
+        port: u64,
+        time: u64,
+        code: u8,
+        source: &[u8],
+        buffer: &mut [u8],
+    ) -> Heartbeat
+        ensures { AskOne self.old port time code source.now buffer.old
+            (one_with self.new result) buffer.new }
+    {
+        let asked = self.last_asked(port);
+        let number = question_number(asked, port, time, buffer.len(), source.len());
+        if number != ACCEPTED {
+            return Heartbeat::Refused(number);
+        }
+        if LARGEST_CODE < code {
+            return Heartbeat::Refused(ARGUMENT_OUT_OF_RANGE);
+        }
+        let heartbeat = self.heartbeat(time, code as u32);
+        self.after(heartbeat, time, code as u32);
+        send(heartbeat, code, source, buffer);
+        heartbeat
     }
 }
 
-// The last of the ports that have a sender: an array tells how many it holds, a struct doesn't.
-fn last_port(ports: [Sender; 16]) -> u64
-    ensures { (result ≡ last_input) × (length ports ≡ input_count) }
-{
-    LAST_PORT
+impl Senders {
+    // Sixteen senders: nothing sent, nothing asked.
+    pub fn fresh() -> Senders
+        ensures { result ≡ fresh_senders }
+    {
+        Senders {
+            ports: [Sender::FRESH; 16],
+        }
+    }
+
+    // Asks a port's sender at a time, with the selector's state in three lent arrays. An answered
+    // frame stands in the first 60 octets of `buffer`; all else in it is kept.
+    pub fn ask(
+        &mut self,
+        times: &[u64; TIMES],
+        small: &[u8; SMALL],
+        wider: &[u16; WIDER],
+        port: u64,
+        time: u64,
+        source: &[u8],
+        buffer: &mut [u8],
+    ) -> Heartbeat
+        ensures { AskSenders self.old
+            (question_of port time
+            (selector_at times.now small.now wider.now)
+            source.now buffer.old)
+            (answered_with self.new result) buffer.new }
+    {
+        // A port above 15 has no sender, and no last question.
+        if LAST_PORT < port {
+            let number = question_number(NEVER_ASKED, port, time, buffer.len(), source.len());
+            return Heartbeat::Refused(number);
+        }
+        let codes = codes_at(times, small, wider);
+        let code = codes[port as usize];
+        self.ports[port as usize].ask_one(port, time, code, source, buffer)
+    }
 }
 
 // The number that refuses a question, the smallest that applies; 0 where none does. `asked` is the
@@ -227,117 +255,4 @@ fn send(heartbeat: Heartbeat, code: u8, source: &[u8], buffer: &mut [u8])
     };
     // Code, source and room are right: no refusal comes back.
     let _ = write_frame(buffer, source, event, code);
-}
-
-// The time of a port's last question: a port above 15 has no sender, and no last question.
-fn last_asked(sender: Sender, port: u64) -> u64
-    ensures { result ≡ last_asked sender port }
-{
-    if LAST_PORT < port {
-        return NEVER_ASKED;
-    }
-    sender.asked
-}
-
-// Asks one port's sender at a time, where the port has a code. An answered frame stands in the first
-// 60 octets of `buffer`; all else in it is kept. A code above 15 is none, and is refused with 6 where
-// nothing else refuses the question.
-pub fn ask_one(
-    sender: Sender,
-    port: u64,
-    time: u64,
-    code: u8,
-    source: &[u8],
-    buffer: &mut [u8],
-) -> AskedOne
-    ensures { AskOne sender port time code source.now buffer.old result
-        buffer.new }
-{
-    let asked = last_asked(sender, port);
-    let number = question_number(asked, port, time, buffer.len(), source.len());
-    if number != ACCEPTED {
-        return AskedOne {
-            sender,
-            heartbeat: Heartbeat::Refused(number),
-        };
-    }
-    if LARGEST_CODE < code {
-        return AskedOne {
-            sender,
-            heartbeat: Heartbeat::Refused(ARGUMENT_OUT_OF_RANGE),
-        };
-    }
-    let heartbeat = sender.heartbeat(time, code as u32);
-    let after = sender.after(heartbeat, time, code as u32);
-    send(heartbeat, code, source, buffer);
-    AskedOne {
-        sender: after,
-        heartbeat,
-    }
-}
-
-impl Senders {
-    // Sixteen senders: nothing sent, nothing asked.
-    pub fn fresh() -> Senders
-        ensures { result ≡ fresh_senders }
-    {
-        let sender = Sender {
-            times: [0; 10],
-            asked: NEVER_ASKED,
-            code: 0,
-            sent: 0,
-        };
-        Senders {
-            ports: [sender; 16],
-        }
-    }
-
-    // Asks a port's sender at a time, with the selector's state in three lent arrays. An answered
-    // frame stands in the first 60 octets of `buffer`; all else in it is kept.
-    pub fn ask(
-        mut self,
-        times: &[u64; TIMES],
-        small: &[u8; SMALL],
-        wider: &[u16; WIDER],
-        port: u64,
-        time: u64,
-        source: &[u8],
-        buffer: &mut [u8],
-    ) -> Asked
-        ensures { AskSenders self
-            (question_of port time
-            (selector_at times.now small.now wider.now)
-            source.now buffer.old)
-            result buffer.new }
-    {
-        let ports = self.ports;
-        let last = last_port(ports);
-        // A port above 15 has no sender, and no last question.
-        if last < port {
-            let number = question_number(NEVER_ASKED, port, time, buffer.len(), source.len());
-            return Asked {
-                senders: self,
-                heartbeat: Heartbeat::Refused(number),
-            };
-        }
-        let at = port as usize;
-        let sender = self.ports[at];
-        let number = question_number(sender.asked, port, time, buffer.len(), source.len());
-        if number != ACCEPTED {
-            return Asked {
-                senders: self,
-                heartbeat: Heartbeat::Refused(number),
-            };
-        }
-        let codes = codes_at(times, small, wider);
-        let code = codes[at];
-        let heartbeat = sender.heartbeat(time, code as u32);
-        let after = sender.after(heartbeat, time, code as u32);
-        self.ports[at] = after;
-        send(heartbeat, code, source, buffer);
-        Asked {
-            senders: self,
-            heartbeat,
-        }
-    }
 }

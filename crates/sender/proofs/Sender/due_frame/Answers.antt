@@ -12,5 +12,5 @@ returns-then-code-self c = search heartbeatDue-laws
 pub returns-then-has_elapsed : goal.returns-then-has_elapsed
 returns-then-has_elapsed c = search heartbeatDue-laws
 
-pub returns : goal.returns
-returns c = search heartbeatDue-laws
+pub returns-else-has_elapsed : goal.returns-else-has_elapsed
+returns-else-has_elapsed c = search heartbeatDue-laws

@@ -1,7 +1,8 @@
--- `sender::ask_one` meets its contract. Assumes nothing.
-use Rattle.sender.proofs.SenderLaws.{lent-laws, one-refused, one_no_code, one-accepted}
+-- `sender::Sender::ask_one` meets its contract: each way is a law.
+-- Assumes nothing.
 use borrow.Author.Rules.{rules}
-use Rattle.sender.proofs.ask_one.Goals as goal
+use Rattle.sender.proofs.SenderLaws.{lent-laws, one-refused, one_no_code, one-accepted}
+use Rattle.sender.proofs.Sender.ask_one.Goals as goal
 
 pub returns-then-number-ne-ACCEPTED : goal.returns-then-number-ne-ACCEPTED
 returns-then-number-ne-ACCEPTED c = search one-refused
