@@ -12,7 +12,7 @@ use Rattle.sender.specs.declared.Heartbeat.{Heartbeat}
 use Rattle.sender.specs.declared.Heartbeat.TheVariants as H
 use Rattle.sender.specs.declared.Sender.{Sender}
 use Rattle.sender.specs.Heartbeat.{code_of_port}
-use Rattle.sender.specs.Sender.{AskedOne, AskOne}
+use Rattle.sender.specs.Sender.{one_with, AskedOne, AskOne}
 use Rattle.card.specs.Asking.{sender_times, sender_numbers, heartbeat_told, AskLent}
 
 -- ---- heartbeat_told
@@ -57,18 +57,18 @@ pub ruleset code_laws = (code-none, code-there)
 -- ---- a question, call by call
 
 pub asked-lent : (sender before : Sender) (state : Selector) (port time : ℕ) (source buffer : List ℕ) (code : ℕ)
-    (asked : AskedOne) (frames : List ℕ) (answer : ℕ) (after : List ℕ)
+    (next : Sender) (heartbeat : Heartbeat) (frames : List ℕ) (answer : ℕ) (after : List ℕ)
     → before ≡ sender
     → code ≡ code_of_port state port
-    → AskOne before port time code source buffer asked after
-    → frames ≡ sender_times asked.sender
-    → answer ≡ heartbeat_told asked.heartbeat
-    → AskLent sender state port time source buffer frames (sender_numbers asked.sender) answer after
-asked-lent sender before state port time source buffer code asked frames answer after b c a f t =
+    → AskOne before port time code source buffer (one_with next heartbeat) after
+    → frames ≡ sender_times next
+    → answer ≡ heartbeat_told heartbeat
+    → AskLent sender state port time source buffer frames (sender_numbers next) answer after
+asked-lent sender before state port time source buffer code next heartbeat frames answer after b c a f t =
     go (rw (b, c) at a)
   where
-    go : AskOne sender port time (code_of_port state port) source buffer asked after
-        → AskLent sender state port time source buffer frames (sender_numbers asked.sender) answer after
+    go : AskOne sender port time (code_of_port state port) source buffer (one_with next heartbeat) after
+        → AskLent sender state port time source buffer frames (sender_numbers next) answer after
     go one =
         record {
           times = f ∙ ap (λ (told : AskedOne). sender_times told.sender) one.answered;

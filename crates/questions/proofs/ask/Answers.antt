@@ -18,5 +18,5 @@ slice_bounds-ask-end c =
 pub returns : goal.returns
 returns c =
     let ask = c in
-    asked-put _ _ _ _ _ _ _ _ _ _ _ ask.lent_room-lent.ensures ask.ask-asked.ensures refl
+    asked-put _ _ _ _ _ _ _ _ _ _ _ ask.lent_room-lent.ensures ask.ask-heartbeat.ensures refl
     c.heartbeat_text.ensures
