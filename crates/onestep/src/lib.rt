@@ -77,10 +77,8 @@ fn at_its_moment(
         (selector_at times.old small.old wider.old).profile
         event) }
 {
-    let earlier = mode_at(small);
-    let mode = mode_after(event.kind, event.argument, earlier);
-    let before = switch_at(small);
-    let switch = commanded(event.kind, InputNumber(event.input), before);
+    let mode = mode_after(event.kind, event.argument, mode_at(small));
+    let switch = commanded(event.kind, InputNumber(event.input), switch_at(small));
     let profile = profile_at(small, wider);
     inputs_after(times, small, wider, profile, event, mode);
     put_command(small, mode, switch);
@@ -93,14 +91,12 @@ fn late_at(times: &[u64; TIMES], small: &[u8; SMALL], wider: &[u16; WIDER], even
         late_number (selector_at times.now small.now wider.now)
         event }
 {
-    if is_judged_late(event.kind) {
-        let own = candidate_at(times, small, wider, InputNumber(event.input));
-        let leader = leader_at(times, small, wider, None);
-        let best = leader.rank;
-        let switch = switch_at(small);
-        return late_refusal(own, best, switch, event.kind);
+    if !is_judged_late(event.kind) {
+        return ACCEPTED;
     }
-    ACCEPTED
+    let own = candidate_at(times, small, wider, InputNumber(event.input));
+    let best = leader_at(times, small, wider, None).rank;
+    late_refusal(own, best, switch_at(small), event.kind)
 }
 
 // One event on a state that has been ticked to its time: refused, or the event itself.
@@ -121,8 +117,7 @@ fn step_ticked(
     if late != ACCEPTED {
         return late;
     }
-    let recorded = recorded_event(event, read);
-    at_its_moment(times, small, wider, recorded);
+    at_its_moment(times, small, wider, recorded_event(event, read));
     ACCEPTED
 }
 
@@ -161,12 +156,12 @@ pub fn step_read(
         step_read (selector_at times.old small.old wider.old)
         event read }
 {
-    let input = input_at(times, small, wider, InputNumber(event.input));
-    let settings = input.settings;
-    let at = settings.kind;
+    let kind = input_at(times, small, wider, InputNumber(event.input))
+        .settings
+        .kind;
     let profile = profile_at(small, wider);
     let time = time_at(times);
-    let early = early_refusal(profile, time, at, event, read);
+    let early = early_refusal(profile, time, kind, event, read);
     if early != ACCEPTED {
         return StepTold {
             number: early,
@@ -189,6 +184,5 @@ pub fn step(
         step (selector_at times.old small.old wider.old)
         event frame.now }
 {
-    let read = read_code(frame);
-    step_read(times, small, wider, event, read)
+    step_read(times, small, wider, event, read_code(frame))
 }

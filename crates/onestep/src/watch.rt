@@ -2,7 +2,7 @@
 // and what was answered last, with how many due moments were served. Before that time an event that
 // commands nothing looks at its own input alone. State, answers and counts are those of the watch
 // of `quickstep`, which tells what is quick from what is not.
-ghost use Rattle.std.specs.Prelude.{ℕ, ◌≡◌, List, length, get_or, set};
+ghost use Rattle.std.specs.Prelude.{ℕ, ◌≡◌, List, get_or, set};
 ghost use Rattle.numbers.specs.Refusal.{accepted};
 ghost use Rattle.selector.specs.declared.Selector.{Selector};
 ghost use Rattle.selector.specs.State.{decided};
@@ -48,16 +48,6 @@ const ON: usize = 5;
 
 const COUNT: usize = 6;
 
-// An array that is lent does not tell a proof its length; one by value does. The copy is never
-// looked at.
-fn know_due(due: [u64; DUE])
-    ensures { length due ≡ 1 }
-{}
-
-fn know_told(told: [u8; TOLD])
-    ensures { length told ≡ 7 }
-{}
-
 // The answer that was told last.
 pub fn answer_in(told: &[u8; TOLD]) -> Answer
     ensures { result ≡ answer_in told.now }
@@ -86,8 +76,6 @@ pub fn put_number(due: &mut [u64; DUE], told: &mut [u8; TOLD], next: u64, number
         watch_held state due.new told.new ≡
         watch_of state next (numbered number (answer_in told.old)) 0 }
 {
-    know_due(*due);
-    know_told(*told);
     due[NEXT] = next;
     told[NUMBER] = number;
     told[COUNT] = 0;
@@ -100,8 +88,8 @@ pub fn refuse(due: &mut [u64; DUE], told: &mut [u8; TOLD], number: u8)
         watch_of state (get_or due.old 0 0)
         (numbered number (answer_in told.old)) 0 }
 {
-    let known = due[NEXT];
-    put_number(due, told, known, number);
+    let next = due[NEXT];
+    put_number(due, told, next, number);
 }
 
 // An answer stored, with how many moments were served and a time before which nothing is due.
@@ -109,8 +97,6 @@ pub fn tell(due: &mut [u64; DUE], told: &mut [u8; TOLD], next: u64, answer: Answ
     ensures { (state : Selector) →
         watch_held state due.new told.new ≡ watch_of state next answer count }
 {
-    know_due(*due);
-    know_told(*told);
     due[NEXT] = next;
     told[NUMBER] = answer.number;
     told[SELECTED] = answer.selected;
@@ -278,16 +264,14 @@ fn take(
     let mode = mode_at(small);
     let time = time_at(times);
     let own = own_step(before, profile, mode, time, next, event, read);
-    let input = own.input;
-    let left = own.left;
-    match left {
+    match own.left {
         Left::Nothing => {
-            put_own(times, small, wider, index, input, own.time);
+            put_own(times, small, wider, index, own.input, own.time);
             put_number(due, told, own.due, own.number);
             false
         }
         Left::Choice => {
-            put_own(times, small, wider, index, input, own.time);
+            put_own(times, small, wider, index, own.input, own.time);
             choose(times, small, wider, due, told, own.due, own.number);
             true
         }
@@ -329,9 +313,7 @@ pub fn step_watch(
         let time = time_at(times);
         if says_again(before, profile, time, known, event, read) {
             let own = again_own(before, known, event);
-            let input = own.input;
-            let heard = input.heard;
-            put_again(times, index, heard.framed, own.time);
+            put_again(times, index, own.input.heard.framed, own.time);
             put_number(due, told, own.due, own.number);
             return false;
         }

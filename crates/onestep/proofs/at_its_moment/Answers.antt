@@ -13,15 +13,15 @@ returns c = let args = c.args in
     (selector_at all.new.times c.make_choice.new.small all.new.wider)
     args.event
     c.profile_at-profile.result
-    c.mode_at-earlier.result
+    c.mode_at.result
     c.mode_after-mode.result
-    c.switch_at-before.result
+    c.switch_at.result
     c.commanded-switch.result
     (switch-on args.times.now args.small.now args.wider.now)
     c.requires
-    (c.mode_at-earlier.ensures args.times.now args.wider.now)
+    (c.mode_at.ensures args.times.now args.wider.now)
     c.mode_after-mode.ensures
-    (c.switch_at-before.ensures args.times.now args.wider.now)
+    (c.switch_at.ensures args.times.now args.wider.now)
     c.commanded-switch.ensures
     (c.profile_at-profile.ensures args.times.now)
     all.ensures

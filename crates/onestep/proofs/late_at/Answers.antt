@@ -5,18 +5,16 @@ use Rattle.inplace.specs.Lists.{selector_at}
 use Rattle.inplace.proofs.Turn.{inputs-length}
 use Rattle.onestep.proofs.late_at.Goals as goal
 
-pub returns-then-is_judged_late : goal.returns-then-is_judged_late
-returns-then-is_judged_late c =
-    let leader = c in
-    let own = leader in
-    let args = own.args in
-    late-judged (selector_at args.times.now args.small.now args.wider.now) args.event
-    c.switch_at-switch.result own.candidate_at-own.result leader.leader_at-leader.result c.late_refusal.result None
-    (c.switch_at-switch.ensures args.times.now args.wider.now)
-    own.candidate_at-own.ensures
-    leader.leader_at-leader.ensures
-    (inputs-length args.times.now args.small.now args.wider.now)
-    c.late_refusal.ensures
+pub returns-then-not-is_judged_late : goal.returns-then-not-is_judged_late
+returns-then-not-is_judged_late c = search late-never
 
 pub returns : goal.returns
-returns c = search late-never
+returns c =
+    let args = c.args in
+    late-judged (selector_at args.times.now args.small.now args.wider.now) args.event
+    c.switch_at.result c.candidate_at-own.result c.leader_at.result c.late_refusal.result None
+    (c.switch_at.ensures args.times.now args.wider.now)
+    c.candidate_at-own.ensures
+    c.leader_at.ensures
+    (inputs-length args.times.now args.small.now args.wider.now)
+    c.late_refusal.ensures

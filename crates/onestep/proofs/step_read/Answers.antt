@@ -11,11 +11,11 @@ returns-then-early-ne-ACCEPTED c = let args = c.args in
     (selector_at args.times.now args.small.now args.wider.now)
     args.event
     args.read
-    c.input_at-input.result
+    c.input_at.result
     c.profile_at-profile.result
     c.time_at-time.result
     c.early_refusal-early.result
-    c.input_at-input.ensures
+    c.input_at.ensures
     (c.profile_at-profile.ensures args.times.now)
     (c.time_at-time.ensures args.small.now args.wider.now)
     c.early_refusal-early.ensures
@@ -29,11 +29,11 @@ step_accepted-requires c = let args = c.args in
     (selector_at args.times.now args.small.now args.wider.now)
     args.event
     args.read
-    c.input_at-input.result
+    c.input_at.result
     c.profile_at-profile.result
     c.time_at-time.result
     c.early_refusal-early.result
-    c.input_at-input.ensures
+    c.input_at.ensures
     (c.profile_at-profile.ensures args.times.now)
     (c.time_at-time.ensures args.small.now args.wider.now)
     c.early_refusal-early.ensures

@@ -4,5 +4,5 @@ use Rattle.onestep.proofs.watch.put_number.Goals as goal
 
 pub returns : goal.returns
 returns c = let args = c.args in
-    told-number args.due.now args.told.now args.next args.number c.know_due.ensures
-    c.know_told.ensures
+    told-number args.due.now args.told.now args.next args.number c.told-due
+    c.told-told

@@ -5,5 +5,5 @@ use Rattle.onestep.proofs.watch.tell.Goals as goal
 pub returns : goal.returns
 returns c = let args = c.args in
     told-answer args.due.now args.told.now args.next args.answer args.count
-    c.know_due.ensures
-    c.know_told.ensures
+    c.told-due
+    c.told-told
