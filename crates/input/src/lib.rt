@@ -9,7 +9,7 @@
 ghost use Rattle.std.specs.Prelude.{◌≡◌};
 ghost use Rattle.numbers.specs.Quality.{not_told};
 ghost use Rattle.numbers.specs.Kind.{flag, kind_argument, kind_floor, kind_signal, kind_frame, kind_line_code, kind_priority, kind_lockout, kind_holdoff, kind_wait, kind_fixed_quality, kind_clear_wait, kind_sending, kind_input_kind};
-ghost use Rattle.input.specs.Record.{fresh_input, equal_count, line_after, forgotten, heard_after, quality_now, can_expire, forecast, input_at_moment, input_brought_to, after_event, passed_of};
+ghost use Rattle.input.specs.Record.{fresh_input, equal_count, forgotten, heard_after, quality_now, can_expire, forecast, input_at_moment, input_brought_to, after_event, passed_of};
 
 use numbers::Priority;
 use numbers::kind::{InputKind, takes_frames};
@@ -61,33 +61,6 @@ pub struct Input {
     pub settings: Settings,
 }
 
-// How many equal codes have come in a row, three for any more.
-#[tactic(auto, unfolding(crate::specs::Record::equal_count))]
-fn equal_count(code: u16, last: u16, reports: u8) -> u8
-    ensures { result ≡ equal_count code last reports }
-{
-    if code != last {
-        return 1;
-    }
-    if reports < REPORTS_NEEDED {
-        reports + 1
-    } else {
-        REPORTS_NEEDED
-    }
-}
-
-// What codes or words say, once one that says `said` has come `reports` times in a row.
-#[tactic(auto, unfolding(crate::specs::Record::line_after))]
-fn line_after(said: Quality, reports: u8, linequality: Quality) -> Quality
-    ensures { result ≡ line_after said reports linequality }
-{
-    if reports < REPORTS_NEEDED {
-        linequality
-    } else {
-        said
-    }
-}
-
 // The codes heard, the count of equal ones and the frames heard are forgotten.
 fn forgotten(signal: bool) -> Heard
     ensures { result ≡ forgotten signal }
@@ -102,7 +75,7 @@ fn forgotten(signal: bool) -> Heard
     }
 }
 
-#[tactic(auto, unfolding(crate::specs::Record::heard_after))]
+#[tactic(auto, unfolding(crate::specs::Record::heard_after, crate::specs::Record::line_after))]
 impl Heard {
     // A signal report. A repeated fail or good changes nothing.
     fn signal(mut self, fail: bool) -> Heard
@@ -115,14 +88,30 @@ impl Heard {
         self
     }
 
+    // How many equal codes have come in a row with one more, three for any more.
+    #[tactic(auto, unfolding(crate::specs::Record::equal_count))]
+    fn equal_count(self, code: u16) -> u8
+        ensures { result ≡ equal_count code self.last self.reports }
+    {
+        if code != self.last {
+            1
+        } else if self.reports < REPORTS_NEEDED {
+            self.reports + 1
+        } else {
+            REPORTS_NEEDED
+        }
+    }
+
     // A code or a word with what it says, recorded while the signal is good.
     fn counted(mut self, number: u16, said: Quality) -> Heard
         ensures { result ≡ heard_after self kind_line_code number said 0 }
     {
         if self.signal {
-            self.reports = equal_count(number, self.last, self.reports);
-            self.linequality = line_after(said, self.reports, self.linequality);
+            self.reports = self.equal_count(number);
             self.last = number;
+            if self.reports >= REPORTS_NEEDED {
+                self.linequality = said;
+            }
         }
         self
     }
@@ -137,35 +126,6 @@ impl Heard {
         }
         self
     }
-}
-
-// Raw quality now, but for a frame's age.
-#[tactic(auto, unfolding(crate::specs::Record::quality_now))]
-fn quality_now(heard: Heard, settings: Settings, mode: bool) -> Quality
-    ensures { result ≡ quality_now heard settings mode }
-{
-    if !heard.signal {
-        return FAILED;
-    }
-    if !mode {
-        return NOT_TOLD;
-    }
-    if settings.fixed != NOT_TOLD {
-        return settings.fixed;
-    }
-    if takes_frames(settings.kind) {
-        heard.frame
-    } else {
-        heard.linequality
-    }
-}
-
-// Whether raw quality is that of a frame, which expires.
-#[tactic(auto, unfolding(crate::specs::Record::can_expire))]
-fn can_expire(heard: Heard, settings: Settings, mode: bool) -> bool
-    ensures { result ≡ can_expire heard settings mode }
-{
-    heard.signal && mode && settings.fixed == NOT_TOLD && takes_frames(settings.kind)
 }
 
 #[tactic(auto, unfolding(crate::specs::Record::after_event, crate::specs::Record::heard_after, crate::specs::Record::settings_after, numbers::specs::Kind::input_kind_of))]
@@ -189,6 +149,38 @@ impl Input {
         }
     }
 
+    // Raw quality now, but for a frame's age.
+    #[tactic(auto, unfolding(crate::specs::Record::quality_now))]
+    fn quality_now(self, mode: bool) -> Quality
+        ensures { result ≡ quality_now self.heard self.settings mode }
+    {
+        if !self.heard.signal {
+            return FAILED;
+        }
+        if !mode {
+            return NOT_TOLD;
+        }
+        if self.settings.fixed != NOT_TOLD {
+            return self.settings.fixed;
+        }
+        if takes_frames(self.settings.kind) {
+            self.heard.frame
+        } else {
+            self.heard.linequality
+        }
+    }
+
+    // Whether raw quality is that of a frame, which expires.
+    #[tactic(auto, unfolding(crate::specs::Record::can_expire))]
+    fn can_expire(self, mode: bool) -> bool
+        ensures { result ≡ can_expire self.heard self.settings mode }
+    {
+        self.heard.signal
+            && mode
+            && self.settings.fixed == NOT_TOLD
+            && takes_frames(self.settings.kind)
+    }
+
     // How raw quality goes on if no event comes.
     #[tactic(auto, unfolding(crate::specs::Record::forecast))]
     pub fn forecast(self, mode: bool) -> Forecast
@@ -198,8 +190,8 @@ impl Input {
             framed: self.heard.framed,
             holdoff: self.settings.holdoff as u64,
             wait: self.settings.wait as u64 * MINUTE,
-            quality: quality_now(self.heard, self.settings, mode),
-            expires: can_expire(self.heard, self.settings, mode),
+            quality: self.quality_now(mode),
+            expires: self.can_expire(mode),
         }
     }
 

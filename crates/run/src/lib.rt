@@ -6,7 +6,7 @@
 #![tactic(auto)]
 
 ghost use Rattle.std.specs.Prelude.{◌≡◌, ◌+◌, leb};
-ghost use Rattle.run.specs.Run.{fresh_run, is_expired, raw_at, began_after, is_up_after, last_good, at_moment, up_before, brought_to, passed_quality};
+ghost use Rattle.run.specs.Run.{run_of, fresh_run, is_expired, raw_at, is_up_after, at_moment, brought_to, passed_quality};
 
 use numbers::FRAME_LIFE;
 use numbers::quality::{FAILED, Quality, is_failed};
@@ -37,49 +37,6 @@ pub fn has_elapsed(began: u64, length: u64, time: u64) -> bool
     ensures { result ≡ leb (began + length) time }
 {
     began <= time && length <= time - began
-}
-
-// Whether the last down or up moment before `end` was up, where a run that is not failed lasts from
-// `began` to `end`.
-#[tactic(auto, unfolding(crate::specs::Run::up_before))]
-fn up_before(up: bool, began: u64, wait: u64, end: u64) -> bool
-    ensures { result ≡ up_before up began wait end }
-{
-    up || (began < end && wait < end - began)
-}
-
-// When the run began that holds at a moment found `failed` or not.
-#[tactic(auto, unfolding(crate::specs::Run::began_after))]
-fn began_after(was: bool, began: u64, failed: bool, time: u64) -> u64
-    ensures { result ≡ began_after was began failed time }
-{
-    if failed == was { began } else { time }
-}
-
-// Whether the last down or up moment is up, once the moment at `time` has been judged.
-#[tactic(auto, unfolding(crate::specs::Run::is_up_after))]
-fn is_up_after(
-    up: bool,
-    failed: bool,
-    began: u64,
-    forecast: Forecast,
-    time: u64,
-    clears: bool,
-) -> bool
-    ensures { result ≡ is_up_after up failed began forecast time clears }
-{
-    if failed {
-        return up && !has_elapsed(began, forecast.holdoff, time);
-    }
-    up || clears || has_elapsed(began, forecast.wait, time)
-}
-
-// The last raw quality that was not failed.
-#[tactic(auto, unfolding(crate::specs::Run::last_good))]
-fn last_good(good: Quality, raw: Quality) -> Quality
-    ensures { result ≡ last_good good raw }
-{
-    if is_failed(raw) { good } else { raw }
 }
 
 impl Forecast {
@@ -116,43 +73,59 @@ impl Run {
         }
     }
 
+    // The run once its moment at a time has been judged, down or up; `clears` where the moment's
+    // event is a clear-wait on the input.
+    #[tactic(auto, unfolding(crate::specs::Run::is_up_after))]
+    fn judged(self, forecast: Forecast, time: u64, clears: bool) -> Run
+        ensures { result ≡ run_of self.began self.good self.failed
+            (is_up_after self.up self.failed self.began forecast time clears) }
+    {
+        let up = if self.failed {
+            self.up && !has_elapsed(self.began, forecast.holdoff, time)
+        } else {
+            self.up || clears || has_elapsed(self.began, forecast.wait, time)
+        };
+        Run { up, ..self }
+    }
+
     // The run once an event's own moment has been taken; `clears` where the event is a clear-wait
     // on the input.
-    #[tactic(auto, unfolding(crate::specs::Run::at_moment))]
+    #[tactic(auto, unfolding(crate::specs::Run::at_moment, crate::specs::Run::began_after, crate::specs::Run::last_good))]
     pub fn at_moment(self, forecast: Forecast, time: u64, clears: bool) -> Run
         ensures { result ≡ at_moment self forecast time clears }
     {
         let raw = forecast.raw_at(time);
         let failed = is_failed(raw);
-        let began = began_after(self.failed, self.began, failed, time);
-        Run {
-            began,
-            good: last_good(self.good, raw),
+        let run = Run {
+            began: if failed == self.failed {
+                self.began
+            } else {
+                time
+            },
+            good: if failed { self.good } else { raw },
             failed,
-            up: is_up_after(self.up, failed, began, forecast, time, clears),
-        }
+            up: self.up,
+        };
+        run.judged(forecast, time, clears)
     }
 
     // The run brought to a later time at which no event has come yet. A frame that expires on the
     // way comes first in its millisecond, so a wait that would end just then has not ended.
-    #[tactic(auto, unfolding(crate::specs::Run::brought_to))]
+    #[tactic(auto, unfolding(crate::specs::Run::brought_to, crate::specs::Run::up_before))]
     pub fn brought_to(self, forecast: Forecast, time: u64) -> Run
         ensures { result ≡ brought_to self forecast time }
     {
-        if !self.failed && forecast.is_expired(time) {
-            let end = forecast.framed + FRAME_LIFE;
-            let before = up_before(self.up, self.began, forecast.wait, end);
-            return Run {
-                began: end,
-                failed: true,
-                up: is_up_after(before, true, end, forecast, time, false),
-                ..self
-            };
+        if self.failed || !forecast.is_expired(time) {
+            return self.judged(forecast, time, false);
         }
-        Run {
-            up: is_up_after(self.up, self.failed, self.began, forecast, time, false),
+        let end = forecast.framed + FRAME_LIFE;
+        let run = Run {
+            began: end,
+            failed: true,
+            up: self.up || (self.began < end && forecast.wait < end - self.began),
             ..self
-        }
+        };
+        run.judged(forecast, time, false)
     }
 
     // What is passed on: 7 if the last down or up moment was down; otherwise raw quality, or in a
