@@ -33,7 +33,9 @@ class Function:
         indent, name = head.group("indent"), head.group("name")
         self.at, self.text = at, text
         # (a clause begins behind its brace, on the same line)
-        self.start, self.body = head.start(), head.start() + re.search(r"^[^\n]*\{$", text[head.start():], re.M).end()
+        # (an attribute above it is its own: the prover names what is not proved by the first of these lines)
+        self.start = re.search(r"(?:^ *#\[[^\n]*\]\n)*\Z", text[:head.start()], re.M).start()
+        self.body = head.start() + re.search(r"^[^\n]*\{$", text[head.start():], re.M).end()
         self.end = text.index(f"\n{indent}}}", self.body)
         module = [part for part in at.removesuffix(".rt").split("/")[1:] if part not in ("lib", "main", "mod")]
         self.path = [*module, *owner, name]
