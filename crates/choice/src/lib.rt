@@ -5,10 +5,9 @@
 #![tactic(auto)]
 
 ghost use Rattle.std.specs.Prelude.{◌≡◌};
-ghost use Rattle.numbers.specs.Truth.{alike};
 ghost use Rattle.choice.specs.Rank.{is_placed, rank_of, floor_rank};
 ghost use Rattle.choice.specs.Candidate.{is_usable, is_admitted, candidate_of, is_eligible, is_better, is_like};
-ghost use Rattle.choice.specs.Leader.{lead, no_leader, seed, best_of, is_passed, offer};
+ghost use Rattle.choice.specs.Leader.{lead, seed, best_of, is_passed, offer};
 
 use numbers::quality::{NOT_TOLD, PROV, Quality, is_failed};
 use numbers::{INPUT_COUNT, InputNumber, Priority};
@@ -24,7 +23,7 @@ pub struct Seen {
 }
 
 // What qualities are compared by, lower is better.
-#[derive(Clone, Copy)]
+#[derive(Clone, Copy, PartialEq, Eq)]
 pub struct Rank(pub u16);
 
 // The rank of all inputs with quality mode off.
@@ -59,6 +58,13 @@ pub struct Leader {
     pub priority: Priority,
 }
 
+// Nothing leads.
+const NO_LEADER: Leader = Leader {
+    selection: None,
+    rank: Rank(0),
+    priority: Priority(0),
+};
+
 // A number doubled, with room for it.
 fn doubled(number: u8) -> u16
     ensures { result ≡ floor_rank number }
@@ -67,16 +73,15 @@ fn doubled(number: u8) -> u16
 }
 
 // Whether a quality is PROV, and has a place.
+#[tactic(auto, unfolding(crate::specs::Rank::is_placed))]
 fn is_placed(provplace: u8, quality: Quality) -> bool
     ensures { result ≡ is_placed provplace quality }
 {
-    if quality.0 == PROV.0 {
-        return provplace != 0;
-    }
-    false
+    quality.0 == PROV.0 && provplace != 0
 }
 
 // The rank of a quality: twice its number, and PROV between two where it is placed.
+#[tactic(auto, unfolding(crate::specs::Rank::rank_of))]
 pub fn rank_of(provplace: u8, quality: Quality) -> Rank
     ensures { result ≡ rank_of provplace quality }
 {
@@ -87,54 +92,37 @@ pub fn rank_of(provplace: u8, quality: Quality) -> Rank
 }
 
 // Whether a passed quality is usable: not failed, and with quality mode on from 1 to the floor.
+#[tactic(auto, unfolding(crate::specs::Candidate::is_usable))]
 pub fn is_usable(mode: bool, floor: u8, rank: Rank, passed: Quality) -> bool
     ensures { result ≡ is_usable mode floor rank passed }
 {
-    if is_failed(passed) {
-        return false;
-    }
-    if mode {
-        if rank.0 < 1 {
-            return false;
-        }
-        return rank.0 <= doubled(floor);
-    }
-    true
+    !is_failed(passed) && (!mode || (1 <= rank.0 && rank.0 <= doubled(floor)))
 }
 
 // Whether an input is neither off nor locked.
+#[tactic(auto, unfolding(crate::specs::Candidate::is_admitted))]
 fn is_admitted(priority: Priority, locked: bool) -> bool
     ensures { result ≡ is_admitted priority locked }
 {
-    if priority.0 == 0 {
-        return false;
-    }
-    if locked {
-        return false;
-    }
-    true
+    priority.0 != 0 && !locked
 }
 
 impl Seen {
     // Whether a choice sees no difference, and so makes the same of both.
-    pub fn is_like(self, other: Seen) -> bool
+    #[tactic(auto, unfolding(crate::specs::Candidate::is_like))]
+    pub fn is_like(self, other: Self) -> bool
         ensures { result ≡ is_like self other }
     {
-        if self.passed.0 == other.passed.0 {
-            if self.priority.0 == other.priority.0 {
-                if self.floor == other.floor {
-                    return are_alike(self.locked, other.locked);
-                }
-                return false;
-            }
-            return false;
-        }
-        false
+        self.passed.0 == other.passed.0
+            && self.priority.0 == other.priority.0
+            && self.floor == other.floor
+            && self.locked == other.locked
     }
 }
 
 // An input as a choice sees it, where `provplace` is that of PROV and `floor` the one in force. With
 // quality mode off no quality is ranked: most of the work is for the other.
+#[tactic(auto, unfolding(crate::specs::Candidate::candidate_of, crate::specs::Candidate::ranked_quality, crate::specs::Rank::rank_of, crate::specs::Rank::is_placed))]
 pub fn candidate_of(
     provplace: u8,
     floor: u8,
@@ -168,81 +156,42 @@ pub fn candidate_of(
 }
 
 impl Candidate {
+    #[tactic(auto, unfolding(crate::specs::Candidate::is_eligible))]
     pub fn is_eligible(self) -> bool
         ensures { result ≡ is_eligible self }
     {
-        if self.admitted {
-            return self.usable;
-        }
-        false
+        self.admitted && self.usable
     }
 
     // Lower passed quality (mode on only), then lower priority number.
-    pub fn is_better(self, other: Candidate) -> bool
+    #[tactic(auto, unfolding(crate::specs::Candidate::is_better))]
+    pub fn is_better(self, other: Self) -> bool
         ensures { result ≡ is_better self other }
     {
-        if self.rank.0 < other.rank.0 {
-            return true;
+        self.rank.0 < other.rank.0 || self.rank == other.rank && self.priority.0 < other.priority.0
+    }
+
+    // It leads.
+    fn lead(self, number: InputNumber) -> Leader
+        ensures { result ≡ lead number self }
+    {
+        Leader {
+            selection: Some(number),
+            rank: self.rank,
+            priority: self.priority,
         }
-        if self.rank.0 == other.rank.0 {
-            return self.priority.0 < other.priority.0;
-        }
-        false
-    }
-}
-
-// Whether two tests give the same.
-fn are_alike(one: bool, other: bool) -> bool
-    ensures { result ≡ alike one other }
-{
-    if one {
-        return other;
-    }
-    !other
-}
-
-// A candidate leads.
-fn lead(number: InputNumber, candidate: Candidate) -> Leader
-    ensures { result ≡ lead number candidate }
-{
-    let selection = Some(number);
-    let rank = candidate.rank;
-    let priority = candidate.priority;
-    Leader {
-        selection,
-        rank,
-        priority,
-    }
-}
-
-// Nothing leads.
-fn no_leader() -> Leader
-    ensures { result ≡ no_leader }
-{
-    let selection = None;
-    Leader {
-        selection,
-        rank: Rank(0),
-        priority: Priority(0),
     }
 }
 
 // The input selected at the choice just before leads at first, if it is eligible; `candidate` is
 // what the choice sees of it.
+#[tactic(auto, unfolding(crate::specs::Leader::seed))]
 pub fn seed(before: Option<InputNumber>, candidate: Candidate) -> Leader
     ensures { result ≡ seed before candidate }
 {
     match before {
-        None => no_leader(),
-        Some(number) => {
-            if number.0 < INPUT_COUNT {
-                if candidate.is_eligible() {
-                    return lead(number, candidate);
-                }
-                return no_leader();
-            }
-            no_leader()
-        }
+        Some(number) if number.0 < INPUT_COUNT && candidate.is_eligible() => candidate.lead(number),
+        _ => NO_LEADER,
     }
 }
 
@@ -251,42 +200,32 @@ impl Leader {
     fn best(self) -> Candidate
         ensures { result ≡ best_of self }
     {
-        let rank = self.rank;
-        let priority = self.priority;
         Candidate {
             quality: NOT_TOLD,
-            rank,
-            priority,
+            rank: self.rank,
+            priority: self.priority,
             admitted: true,
             usable: true,
         }
     }
 
     // Whether a candidate passes the one that leads: nothing does, or it is strictly better.
+    #[tactic(auto, unfolding(crate::specs::Leader::is_passed))]
     fn is_passed(self, candidate: Candidate) -> bool
         ensures { result ≡ is_passed self.selection candidate (best_of self) }
     {
-        let selection = self.selection;
-        match selection {
-            None => true,
-            Some(_) => {
-                let best = self.best();
-                candidate.is_better(best)
-            }
-        }
+        self.selection.is_none() || candidate.is_better(self.best())
     }
 
     // The one that leads once an input has been offered: a strictly better one takes over. The
     // choice is the one that leads after all sixteen: the best of the eligible inputs; of full
     // equals the one selected just before, otherwise the lowest number.
-    pub fn offer(self, number: InputNumber, candidate: Candidate) -> Leader
+    #[tactic(auto, unfolding(crate::specs::Leader::offer))]
+    pub fn offer(self, number: InputNumber, candidate: Candidate) -> Self
         ensures { result ≡ offer self number candidate }
     {
-        if candidate.is_eligible() {
-            if self.is_passed(candidate) {
-                return lead(number, candidate);
-            }
-            return self;
+        if candidate.is_eligible() && self.is_passed(candidate) {
+            return candidate.lead(number);
         }
         self
     }

@@ -1,5 +1,5 @@
--- `OneChoiceLaws`: the code's definitions, way by way. `Standing`: the switch stands exactly as document 01 says.
--- `Selecting`: what is selected is right. `Again`: deciding again changes nothing.
+-- `OneChoiceLaws`: what a switch selects, and what a choice leaves. `Standing`: the switch stands exactly as document 01
+-- says. `Selecting`: what is selected is right. `Again`: deciding again changes nothing.
 pub mod OneChoiceLaws
 pub mod Scanned
 pub mod Standing
