@@ -14,7 +14,7 @@ use numbers::{INPUT_COUNT, InputNumber, Priority};
 
 // What a choice looks at of an input, the floor as it was set, 0 for none: with the profile and the
 // mode nothing else makes a candidate.
-#[derive(Clone, Copy)]
+#[derive(Clone, Copy, PartialEq, Eq)]
 pub struct Seen {
     pub passed: Quality,
     pub priority: Priority,
@@ -23,7 +23,7 @@ pub struct Seen {
 }
 
 // What qualities are compared by, lower is better.
-#[derive(Clone, Copy, PartialEq, Eq)]
+#[derive(Clone, Copy, PartialEq, Eq, PartialOrd, Ord)]
 pub struct Rank(pub u16);
 
 // The rank of all inputs with quality mode off.
@@ -77,7 +77,7 @@ fn doubled(number: u8) -> u16
 fn is_placed(provplace: u8, quality: Quality) -> bool
     ensures { result ≡ is_placed provplace quality }
 {
-    quality.0 == PROV.0 && provplace != 0
+    quality == PROV && provplace != 0
 }
 
 // The rank of a quality: twice its number, and PROV between two where it is placed.
@@ -113,10 +113,7 @@ impl Seen {
     pub fn is_like(self, other: Self) -> bool
         ensures { result ≡ is_like self other }
     {
-        self.passed.0 == other.passed.0
-            && self.priority.0 == other.priority.0
-            && self.floor == other.floor
-            && self.locked == other.locked
+        self == other
     }
 }
 
@@ -168,7 +165,7 @@ impl Candidate {
     pub fn is_better(self, other: Self) -> bool
         ensures { result ≡ is_better self other }
     {
-        self.rank.0 < other.rank.0 || self.rank == other.rank && self.priority.0 < other.priority.0
+        (self.rank, self.priority) < (other.rank, other.priority)
     }
 
     // It leads.

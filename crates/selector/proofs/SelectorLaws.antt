@@ -1,6 +1,6 @@
--- The definitions of `specs/`, a law for each way through the function that meets it. Assumes nothing.
+-- An element of a list, the selected candidate, and a turn of the loop over the ports. Assumes nothing.
 use Prim.Native.Nat.{ℕ, zero, suc, ◌+◌, ◌/◌, ◌%◌, ◌≤◌, ◌<◌}
-use mathlib.Core.Bool.{Bool, true, false, cond}
+use mathlib.Core.Bool.{Bool, cond}
 use mathlib.Core.List.{List, [], ◌∷◌}
 use mathlib.Core.Path.{◌≡◌, refl, sym, ◌∙◌, ap}
 use native.Mathlib.Omega.{arith}
@@ -10,19 +10,15 @@ use lib.ListN.{length, get_or, set}
 use Rattle.std.specs.Prelude.{Option, Some, None}
 use Rattle.numbers.specs.declared.InputNumber.{InputNumber}
 use Rattle.numbers.specs.declared.profile.Profile.{Profile}
-use Rattle.numbers.specs.declared.quality.Quality.{Quality}
-use Rattle.numbers.specs.Quality.{not_told}
 use Rattle.numbers.specs.Profile.{is_marked, halved}
 use Rattle.input.specs.declared.Input.{Input}
 use Rattle.input.specs.Record.{fresh_input}
 use Rattle.choice.specs.declared.Candidate.{Candidate}
 use Rattle.choice.specs.Candidate.{nobody}
-use Rattle.switch.specs.declared.Switch.{Switch}
-use Rattle.switch.specs.declared.Switch.TheVariants as W
 use Rattle.selector.specs.State.{candidate_for}
 use Rattle.selector.proofs.Filled.{filled, filled-turn}
 use Rattle.selector.proofs.Ports.{port-number}
-use Rattle.selector.specs.Answer.{no_input, free_run, holdover, locked, selected_candidate, clock_state, clock_quality, selected_number, switch_number, switch_input, sign_for, ports}
+use Rattle.selector.specs.Answer.{selected_candidate, sign_for, ports}
 
 -- ---- get_or
 
@@ -63,81 +59,6 @@ module _ (profile : Profile) (inputs : List Input) (mode : Bool) (selection : Op
   selected_candidate-at number input candidate s i c = c ∙ (rw (s, i))
 
 pub ruleset selectedCandidate-laws = (selected_candidate-nothing, selected_candidate-at)
-
--- ---- clock_state, clock_quality, outgoing_code
-
-module _ (is_clock_locked waslocked : Bool) where
-  pub clock_state-locked : is_clock_locked ≡ true → locked ≡ clock_state is_clock_locked waslocked
-  unfolding clock_state
-  clock_state-locked l = rw l
-
-  pub clock_state-holdover : is_clock_locked ≡ false → waslocked ≡ true → holdover ≡ clock_state is_clock_locked waslocked
-  unfolding clock_state
-  clock_state-holdover l h = rw (l, h)
-
-  pub clock_state-free : is_clock_locked ≡ false → waslocked ≡ false → free_run ≡ clock_state is_clock_locked waslocked
-  unfolding clock_state
-  clock_state-free l h = rw (l, h)
-
-pub ruleset clockState-laws = (clock_state-locked, clock_state-holdover, clock_state-free)
-
-module _ (own : Quality) (mode : Bool) (candidate : Candidate) where
-  pub clock_quality-off : mode ≡ false → not_told ≡ clock_quality own mode candidate
-  unfolding clock_quality
-  clock_quality-off m = rw m
-
-  pub clock_quality-locked : mode ≡ true → candidate.usable ≡ true
-      → candidate.quality ≡ clock_quality own mode candidate
-  unfolding clock_quality
-  clock_quality-locked m u = rw (m, u)
-
-  pub clock_quality-own : mode ≡ true → candidate.usable ≡ false → own ≡ clock_quality own mode candidate
-  unfolding clock_quality
-  clock_quality-own m u = rw (m, u)
-
-pub ruleset clockQuality-laws = (clock_quality-off, clock_quality-locked, clock_quality-own)
-
--- ---- selected_number, switch_number, switch_input
-
-pub selected_number-nothing : (selection : Option InputNumber) → selection ≡ None → no_input ≡ selected_number selection
-unfolding selected_number
-selected_number-nothing selection s = rw s
-
-pub selected_number-at : (selection : Option InputNumber) (number : InputNumber) → selection ≡ Some number
-    → number.0 ≡ selected_number selection
-unfolding selected_number
-selected_number-at selection number s = rw s
-
-pub ruleset selectedNumber-laws = (selected_number-nothing, selected_number-at)
-
-module _ (switch : Switch) where
-  pub switch_number-nothing : switch ≡ W.Nothing → 0 ≡ switch_number switch
-  unfolding switch_number
-  switch_number-nothing s = rw s
-
-  pub switch_number-forced : (on : InputNumber) → switch ≡ W.Forced on → 1 ≡ switch_number switch
-  unfolding switch_number
-  switch_number-forced on s = rw s
-
-  pub switch_number-manual : (on : InputNumber) → switch ≡ W.Manual on → 2 ≡ switch_number switch
-  unfolding switch_number
-  switch_number-manual on s = rw s
-
-  pub switch_input-nothing : switch ≡ W.Nothing → no_input ≡ switch_input switch
-  unfolding switch_input
-  switch_input-nothing s = rw s
-
-  pub switch_input-forced : (on : InputNumber) → switch ≡ W.Forced on → on.0 ≡ switch_input switch
-  unfolding switch_input
-  switch_input-forced on s = rw s
-
-  pub switch_input-manual : (on : InputNumber) → switch ≡ W.Manual on → on.0 ≡ switch_input switch
-  unfolding switch_input
-  switch_input-manual on s = rw s
-
-pub ruleset switchNumber-laws = (switch_number-nothing, switch_number-forced, switch_number-manual)
-
-pub ruleset switchInput-laws = (switch_input-nothing, switch_input-forced, switch_input-manual)
 
 -- ---- sign_for, for codes and for words
 

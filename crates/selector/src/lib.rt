@@ -55,29 +55,30 @@ pub struct Selector {
 pub fn seen_of(input: Input) -> Seen
     ensures { result ≡ seen_of input }
 {
-    let passed = input.passed_quality();
-    let settings = input.settings;
-    let priority = settings.priority;
     Seen {
-        passed,
-        priority,
-        floor: settings.floor,
-        locked: settings.locked,
+        passed: input.passed_quality(),
+        priority: input.settings.priority,
+        floor: input.settings.floor,
+        locked: input.settings.locked,
     }
 }
 
 // An input as a choice sees it.
+#[tactic(auto, unfolding(crate::specs::State::candidate_for))]
 pub fn candidate_for(profile: Profile, input: Input, mode: bool) -> Candidate
     ensures { result ≡ candidate_for profile mode input }
 {
     let seen = seen_of(input);
-    let passed = seen.passed;
-    let priority = seen.priority;
     let provplace = prov_place_of(profile);
-    let limits = limits_of(profile);
-    let own = limits.freerunning;
-    let floor = floor_in(own, seen.floor);
-    candidate_of(provplace, floor, passed, priority, seen.locked, mode)
+    let floor = floor_in(limits_of(profile).freerunning, seen.floor);
+    candidate_of(
+        provplace,
+        floor,
+        seen.passed,
+        seen.priority,
+        seen.locked,
+        mode,
+    )
 }
 
 // What a port says of a quality, a code or a word.
@@ -170,32 +171,35 @@ pub fn outgoing<T: Sign>(mode: bool, sending: bool, selected: bool, sign: T) -> 
 }
 
 // The clock state: locked, or whether it ever was.
+#[tactic(auto, unfolding(crate::specs::Clock::clock_state))]
 pub fn clock_state(locked: bool, waslocked: bool) -> u8
     ensures { result ≡ clock_state locked waslocked }
 {
     if locked {
-        return LOCKED;
+        LOCKED
+    } else if waslocked {
+        HOLDOVER
+    } else {
+        FREE_RUN
     }
-    if waslocked {
-        return HOLDOVER;
-    }
-    FREE_RUN
 }
 
 // 0 with mode off; the passed quality when locked; otherwise the clock's own.
+#[tactic(auto, unfolding(crate::specs::Clock::clock_quality))]
 pub fn clock_quality(own: Quality, mode: bool, candidate: Candidate) -> Quality
     ensures { result ≡ clock_quality own mode candidate }
 {
-    if mode {
-        if candidate.usable {
-            return candidate.quality;
-        }
-        return own;
+    if !mode {
+        NOT_TOLD
+    } else if candidate.usable {
+        candidate.quality
+    } else {
+        own
     }
-    NOT_TOLD
 }
 
 // The selected input, as an answer names it.
+#[tactic(auto, unfolding(crate::specs::Clock::selected_number))]
 pub fn selected_number(selection: Option<InputNumber>) -> u8
     ensures { result ≡ selected_number selection }
 {
@@ -206,6 +210,7 @@ pub fn selected_number(selection: Option<InputNumber>) -> u8
 }
 
 // The number of a switch.
+#[tactic(auto, unfolding(crate::specs::Clock::switch_number))]
 pub fn switch_number(switch: Switch) -> u8
     ensures { result ≡ switch_number switch }
 {
@@ -217,12 +222,12 @@ pub fn switch_number(switch: Switch) -> u8
 }
 
 // The input of a switch, as an answer names it.
+#[tactic(auto, unfolding(crate::specs::Clock::switch_input))]
 pub fn switch_input(switch: Switch) -> u8
     ensures { result ≡ switch_input switch }
 {
     match switch {
         Switch::Nothing => NO_INPUT,
-        Switch::Forced(on) => on.0,
-        Switch::Manual(on) => on.0,
+        Switch::Forced(on) | Switch::Manual(on) => on.0,
     }
 }
