@@ -1,18 +1,19 @@
 -- A program goes on from turn to turn, and ends: what was taken is all that its input is answered with, or the
 -- beginning of it. Assumes nothing.
-use Prim.Native.Nat.{ℕ, ◌+◌, ◌≤◌}
+use Prim.Native.Nat.{ℕ, zero, suc, ◌+◌, ◌≤◌}
 use mathlib.Core.Bool.{Bool, true, false, true≢false}
 use mathlib.Core.List.{List, [], ◌++◌, append_assoc, append-nil}
 use mathlib.Core.Path.{◌≡◌, refl, sym, ap, ◌∙◌}
 use native.Mathlib.Omega.{arith}
+use borrow.Author.Tests.{ne_eqb}
+use Rattle.std.specs.Prelude.{Option, Some, None, Result, Ok, Err}
 use lib.ListN.{length, take, drop, length-append, take-append-drop}
 use lib.Seq.{length-take-le}
 use Rattle.calls.specs.declared.Ending.{Ending}
 use Rattle.calls.specs.declared.Ending.TheVariants.{Whole, Unread, Unwritten, Closed}
 use Rattle.calls.specs.declared.Ended.{Ended}
-use Rattle.calls.specs.declared.Outcome.{Outcome}
-use Rattle.calls.specs.declared.Outcome.TheVariants.{Moved, Nothing, Interrupted, NoReader, Failed}
-use Rattle.calls.specs.Calls.{is_whole, read_ending, octets_moved, Delivered, Unsent, unwritten, closed, TextTaken}
+use Rattle.calls.specs.declared.Failure.{Failure}
+use Rattle.calls.specs.Calls.{is_whole, ended_by, read_ending, octets_moved, Delivered, Unsent, unwritten, closed, TextTaken}
 use Rattle.calls.specs.Answered.{
   Begins,
   GoesOn,
@@ -32,7 +33,7 @@ use Rattle.calls.proofs.CallsLaws.{delivered_within, is_whole_true, text-whole, 
 -- ---- a turn
 
 -- a piece was read behind an input
-module _ (input chunk : List ℕ) (octets before after : ℕ) (outcome : Outcome) (is : before ≡ length input)
+module _ (input chunk : List ℕ) (octets before after : ℕ) (outcome : Result ℕ Failure) (is : before ≡ length input)
     (delivered : Delivered (length chunk) before outcome after) (moved : octets ≡ octets_moved outcome) where
   pub piece-within : octets ≤ length chunk
   piece-within = omega (arith, delivered_within outcome delivered)
@@ -50,20 +51,18 @@ module _ (input chunk : List ℕ) (octets before after : ℕ) (outcome : Outcome
   piece-none none = omega (arith, delivered.read, ap length (append-nil input))
 
 -- where nothing was read, it was the input's end or a read that failed
-read_ending_false : (outcome : Outcome) → is_whole (read_ending outcome) ≡ false → read_ending outcome ≡ Unread
-read_ending_false (Moved octets) _ = refl
-read_ending_false Nothing ends = absurd (true≢false ends)
-read_ending_false Interrupted _ = refl
-read_ending_false NoReader _ = refl
-read_ending_false Failed _ = refl
+read_ending_false : (outcome : Result ℕ Failure) → is_whole (read_ending outcome) ≡ false → read_ending outcome ≡ Unread
+read_ending_false (Ok zero) ends = absurd (true≢false ends)
+read_ending_false (Ok (suc octets)) _ = rw (ne_eqb (suc octets) 0 (λ none. omega arith))
+read_ending_false (Err failure) _ = refl
 
 module _ {so_far whole : List ℕ → List ℕ} {Carried : List ℕ → Type 0} where
   -- a read failed
-  pub turn-unread : {Before : List ℕ → Type 0} (read sent : ℕ) (outcome : Outcome) (ending : Ending)
+  pub turn-unread : {Before : List ℕ → Type 0} (read sent : ℕ) (outcome : Result ℕ Failure) (ending : Ending)
       → GoesOn so_far Before read sent
       → ending ≡ read_ending outcome
       → is_whole ending ≡ false
-      → TurnEnded so_far whole Carried read sent false ending
+      → TurnEnded so_far whole Carried read sent (Some ending)
   turn-unread read sent outcome ending goes is ends =
       let unreadable : ending ≡ Unread = is ∙ read_ending_false outcome (sym (ap is_whole is) ∙ ends) in
       over ending
@@ -74,32 +73,40 @@ module _ {so_far whole : List ℕ → List ℕ} {Carried : List ℕ → Type 0} 
       (over-text : TextTaken (length text) before ending sent) where
     -- not all was taken
     pub turn_stopped : is_whole ending ≡ false → before + length text ≡ length (so_far input)
-        → TurnEnded so_far whole Carried read sent false ending
+        → TurnEnded so_far whole Carried read sent (Some ending)
     turn_stopped ends size =
         let less = text-less over-text ends in
         over ending
         (record { input = input; count = count; taken = stopped ending sent less.1 (omega (arith, less.0)) })
 
     -- the piece was answered
-    pub turn-taken : (more : Bool) → more ≡ is_whole ending → before + length text ≡ length (so_far input)
+    pub turn-taken : (ended : Option Ending) → ended ≡ ended_by ending → before + length text ≡ length (so_far input)
         → Carried input
-        → TurnEnded so_far whole Carried read sent more ending
-    turn-taken true is size carried =
-        rw (is_whole_true ending (sym is))
-        (on (record {
-          input = input;
-          carried = carried;
-          count = count;
-          taken = text-whole over-text (sym is) ∙ size;
-        }))
-    turn-taken false is size carried = turn_stopped (sym is) size
+        → TurnEnded so_far whole Carried read sent ended
+    turn-taken ended is size carried = rw is (go ending refl)
+      where
+        cut_short : (other : Ending) → ending ≡ other → is_whole other ≡ false
+            → TurnEnded so_far whole Carried read sent (Some other)
+        cut_short other same ends = rw (← same) (turn_stopped (ap is_whole same ∙ ends) size)
+
+        go : (other : Ending) → ending ≡ other → TurnEnded so_far whole Carried read sent (ended_by other)
+        go Whole same =
+            on (record {
+              input = input;
+              carried = carried;
+              count = count;
+              taken = text-whole over-text (ap is_whole same) ∙ size;
+            })
+        go Unread same = cut_short Unread same refl
+        go Unwritten same = cut_short Unwritten same refl
+        go Closed same = cut_short Closed same refl
 
     -- the input's end
     pub turn_last : before + length text ≡ length (whole input)
-        → TurnEnded so_far whole Carried read sent false ending
+        → TurnEnded so_far whole Carried read sent (Some ending)
     turn_last size = go (is_whole ending) refl
       where
-        go : (test : Bool) → is_whole ending ≡ test → TurnEnded so_far whole Carried read sent false ending
+        go : (test : Bool) → is_whole ending ≡ test → TurnEnded so_far whole Carried read sent (Some ending)
         go true test =
             rw (is_whole_true ending test, text-whole over-text test ∙ size)
             (over Whole (record { input = input; count = count; taken = all }))
@@ -108,17 +115,19 @@ module _ {so_far whole : List ℕ → List ℕ} {Carried : List ℕ → Type 0} 
             over ending
             (record { input = input; count = count; taken = cut ending sent less.1 (omega (arith, less.0)) })
 
-  pub turn_on : (read sent : ℕ) (more : Bool) (ending : Ending) → more ≡ true
-      → TurnEnded so_far whole Carried read sent more ending
+  pub turn_on : {read sent : ℕ} {ended : Option Ending} → ended ≡ None
+      → TurnEnded so_far whole Carried read sent ended
       → GoesOn so_far Carried read sent
-  turn_on read sent _ _ is (on goes) = goes
-  turn_on read sent _ _ is (over ending ended) = absurd (true≢false (sym is))
+  turn_on is (on goes) = goes
+  turn_on is (over ending answered) = absurd (cc)
 
-  pub turn-over : (read sent : ℕ) (more : Bool) (ending : Ending) → more ≡ false
-      → TurnEnded so_far whole Carried read sent more ending
+  pub turn-over : {read sent : ℕ} {ended : Option Ending} (ending : Ending) → ended ≡ Some ending
+      → TurnEnded so_far whole Carried read sent ended
       → Answered so_far whole (record { ending = ending; read = read; sent = sent })
-  turn-over read sent _ _ is (on goes) = absurd (true≢false is)
-  turn-over read sent _ _ is (over ending ended) = ended
+  turn-over ending is (on goes) = absurd (cc)
+  turn-over {read} {sent} ending is (over other answered) =
+      let same : other ≡ ending = cc in
+      rw (← same) answered
 
   -- the turns are used up: the input was not read to its end
   pub goes-unread : {read sent : ℕ} → GoesOn so_far Carried read sent

@@ -1,11 +1,12 @@
 -- What the definitions of `specs/Calls` come to, way by way. Assumes nothing.
-use Prim.Native.Nat.{ℕ, ◌+◌, ◌-◌, ◌≤◌, ◌<◌, min}
+use Prim.Native.Nat.{ℕ, zero, suc, ◌+◌, ◌-◌, ◌≤◌, ◌<◌, min}
 use mathlib.Core.Bool.{Bool, true, false, cond, true≢false}
 use mathlib.Core.List.{List}
 use mathlib.Core.Path.{◌≡◌, refl, sym, ap, ◌∙◌}
 use native.Mathlib.Omega.{arith}
 use borrow.Author.Tests.{ltb-true, eq-eqb, ne_eqb}
 use lib.Dec.{eqb}
+use Rattle.std.specs.Prelude.{Result, Ok, Err}
 use lib.IntN.{ℤ, pos, negsuc}
 use lib.ListN.{length, take, drop, length-drop}
 use lib.Seq.{take_all}
@@ -13,11 +14,10 @@ use lib.Signed.{lt_z}
 use mir.Syntax.{w32}
 use mir.Val.{SFits, of_z, to_z}
 use mir.Facts.{to_z-of_z}
-use Rattle.calls.specs.Calls.{clamp_len}
 use Rattle.calls.specs.declared.Ending.{Ending}
 use Rattle.calls.specs.declared.Ending.TheVariants.{Whole, Unread, Unwritten, Closed}
-use Rattle.calls.specs.declared.Outcome.{Outcome}
-use Rattle.calls.specs.declared.Outcome.TheVariants.{Moved, Nothing, Interrupted, NoReader, Failed}
+use Rattle.calls.specs.declared.Failure.{Failure}
+use Rattle.calls.specs.declared.Failure.TheVariants.{Interrupted, NoReader, Failed}
 use Rattle.calls.specs.Calls.{
   interrupted,
   no_reader,
@@ -57,71 +57,35 @@ unfolding failure_of
 failure_of-failed (pos error) neither nor = rw (ne_eqb error interrupted neither, ne_eqb error no_reader nor)
 failure_of-failed (negsuc error) neither nor = refl
 
--- ---- outcome_of
-
-pub outcome_of-failed : (answer error : ℤ) (size : ℕ) (outcome : Outcome) → lt_z answer (pos 0) ≡ true
-    → outcome ≡ failure_of error → outcome ≡ outcome_of answer error size
-unfolding outcome_of
-outcome_of-failed (pos octets) error size outcome below is = absurd (omega (arith, ltb-true octets 0 below))
-outcome_of-failed (negsuc below) error size outcome _ is = is
-
-pub outcome_of-nothing : (answer error : ℤ) (size octets : ℕ) → lt_z answer (pos 0) ≡ false
-    → octets ≡ clamp_len answer size → octets ≡ 0 → Nothing ≡ outcome_of answer error size
-unfolding outcome_of
-outcome_of-nothing (pos answer) error size octets _ is none = rw (eq-eqb (min answer size) 0 (sym is ∙ none))
-outcome_of-nothing (negsuc below) error size octets above is none = absurd (true≢false above)
-
-pub outcome_of-moved : (answer error : ℤ) (size octets : ℕ) → lt_z answer (pos 0) ≡ false
-    → octets ≡ clamp_len answer size → (octets ≡ 0 → ⊥) → Moved octets ≡ outcome_of answer error size
-unfolding outcome_of
-outcome_of-moved (pos answer) error size octets _ is some =
-    rw (ne_eqb (min answer size) 0 (λ none. some (is ∙ none))) (ap Moved is)
-outcome_of-moved (negsuc below) error size octets above is some = absurd (true≢false above)
-
 -- ---- what a call came to
 
-failure_of-moved : (error : ℤ) → octets_moved (failure_of error) ≡ 0
-unfolding failure_of
-failure_of-moved (pos error) = go (eqb error interrupted) (eqb error no_reader)
-  where
-    go : (signal unheard : Bool) → octets_moved (cond signal Interrupted (cond unheard NoReader Failed)) ≡ 0
-    go true unheard = refl
-    go false true = refl
-    go false false = refl
-failure_of-moved (negsuc error) = refl
-
-outcome_of-within : (answer error : ℤ) (size : ℕ) → octets_moved (outcome_of answer error size) ≤ size
-unfolding outcome_of
-outcome_of-within (pos answer) error size = go (eqb (min answer size) 0)
-  where
-    go : (none : Bool) → octets_moved (cond none Nothing (Moved (min answer size))) ≤ size
-    go true = omega arith
-    go false = omega arith
-outcome_of-within (negsuc below) error size = omega (arith, failure_of-moved error)
+outcome_of-within : (answer : Result ℕ ℤ) (size : ℕ) → octets_moved (outcome_of answer size) ≤ size
+outcome_of-within (Ok octets) size = omega arith
+outcome_of-within (Err error) size = omega arith
 
 -- no call moves more than it was lent
-came-within : (size : ℕ) (outcome : Outcome) → CameTo size outcome → octets_moved outcome ≤ size
-came-within size outcome came = rw came.is (outcome_of-within came.answer came.error size)
+came-within : (size : ℕ) (outcome : Result ℕ Failure) → CameTo size outcome → octets_moved outcome ≤ size
+came-within size outcome came = rw came.is (outcome_of-within came.answer size)
 
-pub moved-within : (answer error : ℤ) (size : ℕ) (outcome : Outcome) → outcome ≡ outcome_of answer error size
+pub moved-within : (answer : Result ℕ ℤ) (size : ℕ) (outcome : Result ℕ Failure) → outcome ≡ outcome_of answer size
     → octets_moved outcome ≤ size
-moved-within answer error size outcome is = rw is (outcome_of-within answer error size)
+moved-within answer size outcome is = rw is (outcome_of-within answer size)
 
 pub sum_is : (one other some more : ℕ) → one ≡ other → some ≡ more → one + some ≡ other + more
 sum_is one other some more is also = omega arith
 
 -- a call may have failed
-pub delivered_failed : (size before after : ℕ) → after ≡ before → Delivered size before Failed after
-unfolding outcome_of failure_of
+pub delivered_failed : (size before after : ℕ) → after ≡ before → Delivered size before (outcome_of (Err (pos 0)) size) after
+unfolding failure_of
 delivered_failed size before after is =
     record {
-      came = record { answer = negsuc 0; error = pos 0; is = refl };
+      came = record { answer = Err (pos 0); is = refl };
       settled = refl;
       read = omega arith;
     }
 
 -- what was read is within the chunk's buffer
-pub delivered_within : {size before after : ℕ} (outcome : Outcome) → Delivered size before outcome after
+pub delivered_within : {size before after : ℕ} (outcome : Result ℕ Failure) → Delivered size before outcome after
     → octets_moved outcome ≤ size
 delivered_within {size} outcome delivered = came-within size outcome delivered.came
 
@@ -139,12 +103,12 @@ part_none : {size before after : ℕ} {ending : Ending} → PartTaken size befor
 part_none {size} {before} taken ends =
     omega (arith, taken.sent, go taken.outcome (rw taken.ended at ends))
   where
-    go : (outcome : Outcome) → is_whole (write_ending outcome) ≡ false → octets_moved outcome ≡ 0
-    go (Moved octets) whole = absurd (true≢false whole)
-    go Nothing _ = refl
-    go Interrupted whole = absurd (true≢false whole)
-    go NoReader _ = refl
-    go Failed _ = refl
+    go : (outcome : Result ℕ Failure) → is_whole (write_ending outcome) ≡ false → octets_moved outcome ≡ 0
+    go (Ok zero) _ = refl
+    go (Ok (suc octets)) whole = absurd (true≢false (rw (ne_eqb (suc octets) 0 (λ none. omega arith)) at whole))
+    go (Err Interrupted) whole = absurd (true≢false whole)
+    go (Err NoReader) _ = refl
+    go (Err Failed) _ = refl
 
 -- and left something unsent
 part-unsent : {size before after : ℕ} {ending : Ending} → PartTaken size before ending after → is_whole ending ≡ false
@@ -152,12 +116,12 @@ part-unsent : {size before after : ℕ} {ending : Ending} → PartTaken size bef
 part-unsent taken ends =
     rw taken.ended (go taken.outcome (rw taken.ended at ends))
   where
-    go : (outcome : Outcome) → is_whole (write_ending outcome) ≡ false → Unsent (write_ending outcome)
-    go (Moved octets) whole = absurd (true≢false whole)
-    go Nothing _ = unwritten
-    go Interrupted whole = absurd (true≢false whole)
-    go NoReader _ = closed
-    go Failed _ = unwritten
+    go : (outcome : Result ℕ Failure) → is_whole (write_ending outcome) ≡ false → Unsent (write_ending outcome)
+    go (Ok zero) _ = unwritten
+    go (Ok (suc octets)) whole = absurd (true≢false (rw (ne_eqb (suc octets) 0 (λ none. omega arith)) at whole))
+    go (Err Interrupted) whole = absurd (true≢false whole)
+    go (Err NoReader) _ = closed
+    go (Err Failed) _ = unwritten
 
 -- ---- a text
 

@@ -2,7 +2,7 @@
 -- was taken is known by its count, since `write` is lent the right text alone, from where the last call stopped on
 -- (`NextPart`, and each program's premise above it).
 -- Assumes nothing.
-use Rattle.std.specs.Prelude.{ℕ, ◌<◌, Bool, true, false, List, ◌++◌, ◌≡◌, length}
+use Rattle.std.specs.Prelude.{ℕ, ◌<◌, Bool, true, false, Option, Some, None, List, ◌++◌, ◌≡◌, length}
 use Rattle.calls.specs.declared.Ending.{Ending}
 use Rattle.calls.specs.declared.Ending.TheVariants.{Whole, Unread}
 use Rattle.calls.specs.declared.Ended.{Ended}
@@ -41,12 +41,12 @@ pub record Answered (so_far whole : List ℕ → List ℕ) (ended : Ended) : Typ
   pub count : ended.read ≡ length input
   pub taken : TakenUntil so_far whole input ended.ending ended.sent
 
--- what a turn came to: the program goes on, or has ended
+-- what a turn came to: the program goes on, or has ended, and how
 pub data TurnEnded (so_far whole : List ℕ → List ℕ) (Carried : List ℕ → Type 0) (read sent : ℕ)
-    : Bool → Ending → Type 0 where
-  on : GoesOn so_far Carried read sent → TurnEnded so_far whole Carried read sent true Whole
+    : Option Ending → Type 0 where
+  on : GoesOn so_far Carried read sent → TurnEnded so_far whole Carried read sent None
   over : (ending : Ending) → Answered so_far whole (record { ending = ending; read = read; sent = sent })
-      → TurnEnded so_far whole Carried read sent false ending
+      → TurnEnded so_far whole Carried read sent (Some ending)
 
 -- ---- that this is right
 

@@ -1,10 +1,10 @@
 -- What a call of `read` or `write` came to, by its answer and errno; what `write` is lent of a text, call by call.
 -- Cited by `src/lib.rt`. Assumes nothing.
-use Rattle.std.specs.Prelude.{ℕ, ◌+◌, ◌-◌, ◌^◌, ◌≤◌, ◌<◌, min, Bool, true, false, cond, List, ◌≡◌, eqb, ℤ, pos, negsuc, length, drop}
+use Rattle.std.specs.Prelude.{ℕ, ◌+◌, ◌-◌, ◌^◌, ◌≤◌, ◌<◌, min, Bool, true, false, cond, List, ◌≡◌, eqb, ℤ, pos, negsuc, length, drop, Option, Some, None, Result, Ok, Err}
 use Rattle.calls.specs.declared.Ending.{Ending}
 use Rattle.calls.specs.declared.Ending.TheVariants.{Whole, Unread, Unwritten, Closed}
-use Rattle.calls.specs.declared.Outcome.{Outcome}
-use Rattle.calls.specs.declared.Outcome.TheVariants.{Moved, Nothing, Interrupted, NoReader, Failed}
+use Rattle.calls.specs.declared.Failure.{Failure}
+use Rattle.calls.specs.declared.Failure.TheVariants.{Interrupted, NoReader, Failed}
 use Rattle.calls.specs.declared.Stream.{Stream}
 use Rattle.calls.specs.declared.Stream.TheVariants.{Output, Error}
 
@@ -20,45 +20,35 @@ interrupted = 4
 abbrev pub no_reader : ℕ
 no_reader = 32
 
--- an answer, and no more than was lent: 0 where it is below 0
-abbrev pub clamp_len : ℤ → ℕ → ℕ
-clamp_len (pos octets) size = min octets size
-clamp_len (negsuc below) size = 0
-
 -- why a call failed, by errno
-unfoldable pub failure_of : ℤ → Outcome
+unfoldable pub failure_of : ℤ → Failure
 failure_of (pos error) = cond (eqb error interrupted) Interrupted (cond (eqb error no_reader) NoReader Failed)
 failure_of (negsuc error) = Failed
 
--- a call on so many octets answers how many it moved, or a number below 0 where it failed
-unfoldable pub outcome_of : ℤ → ℤ → ℕ → Outcome
-outcome_of (pos octets) error size = cond (eqb (min octets size) 0) Nothing (Moved (min octets size))
-outcome_of (negsuc below) error size = failure_of error
+-- a call on so many octets is answered with how many it moved, no more than was lent, or with errno where it failed
+abbrev pub outcome_of : Result ℕ ℤ → ℕ → Result ℕ Failure
+outcome_of (Ok octets) size = Ok (min octets size)
+outcome_of (Err error) size = Err (failure_of error)
 
--- what a call on so many octets came to, whatever it answered
-pub record CameTo (size : ℕ) (outcome : Outcome) : Type 0 where
-  pub answer : ℤ
-  pub error : ℤ
-  pub is : outcome ≡ outcome_of answer error size
+-- what a call on so many octets came to, whatever it was answered
+pub record CameTo (size : ℕ) (outcome : Result ℕ Failure) : Type 0 where
+  pub answer : Result ℕ ℤ
+  pub is : outcome ≡ outcome_of answer size
 
-abbrev pub is_interrupted : Outcome → Bool
-is_interrupted (Moved octets) = false
-is_interrupted Nothing = false
-is_interrupted Interrupted = true
-is_interrupted NoReader = false
-is_interrupted Failed = false
+abbrev pub is_interrupted : Result ℕ Failure → Bool
+is_interrupted (Ok octets) = false
+is_interrupted (Err Interrupted) = true
+is_interrupted (Err NoReader) = false
+is_interrupted (Err Failed) = false
 
 -- how many octets a call moved
-abbrev pub octets_moved : Outcome → ℕ
-octets_moved (Moved octets) = octets
-octets_moved Nothing = 0
-octets_moved Interrupted = 0
-octets_moved NoReader = 0
-octets_moved Failed = 0
+abbrev pub octets_moved : Result ℕ Failure → ℕ
+octets_moved (Ok octets) = octets
+octets_moved (Err failure) = 0
 
 -- what reading into so many octets came to, before and after which so many had been read: an interrupted read is
 -- repeated
-pub record Delivered (size before : ℕ) (outcome : Outcome) (after : ℕ) : Type 0 where
+pub record Delivered (size before : ℕ) (outcome : Result ℕ Failure) (after : ℕ) : Type 0 where
   pub came : CameTo size outcome
   pub settled : is_interrupted outcome ≡ false
   pub read : after ≡ before + octets_moved outcome
@@ -70,21 +60,24 @@ is_whole Unread = false
 is_whole Unwritten = false
 is_whole Closed = false
 
+-- how the turns have ended with a write; none where all of it was taken, and they go on
+abbrev pub ended_by : Ending → Option Ending
+ended_by Whole = None
+ended_by Unread = Some Unread
+ended_by Unwritten = Some Unwritten
+ended_by Closed = Some Closed
+
 -- how the turns ended where nothing was read: a failed read is not the log's end
-abbrev pub read_ending : Outcome → Ending
-read_ending (Moved octets) = Unread
-read_ending Nothing = Whole
-read_ending Interrupted = Unread
-read_ending NoReader = Unread
-read_ending Failed = Unread
+abbrev pub read_ending : Result ℕ Failure → Ending
+read_ending (Ok octets) = cond (eqb octets 0) Whole Unread
+read_ending (Err failure) = Unread
 
 -- whether to go on after a write, and otherwise how it ended: an interrupted one is repeated
-abbrev pub write_ending : Outcome → Ending
-write_ending (Moved octets) = Whole
-write_ending Nothing = Unwritten
-write_ending Interrupted = Whole
-write_ending NoReader = Closed
-write_ending Failed = Unwritten
+abbrev pub write_ending : Result ℕ Failure → Ending
+write_ending (Ok octets) = cond (eqb octets 0) Unwritten Whole
+write_ending (Err Interrupted) = Whole
+write_ending (Err NoReader) = Closed
+write_ending (Err Failed) = Unwritten
 
 -- the number by which the system knows where a text goes
 abbrev pub descriptor_of : Stream → ℤ
@@ -101,7 +94,7 @@ pub record NextPart (stream : Stream) (text : List ℕ) (start sent : ℕ) (file
 
 -- what a write of so many octets came to, before and after which so many had been taken
 pub record PartTaken (size before : ℕ) (ending : Ending) (after : ℕ) : Type 0 where
-  pub outcome : Outcome
+  pub outcome : Result ℕ Failure
   pub came : CameTo size outcome
   pub sent : after ≡ before + octets_moved outcome
   pub ended : ending ≡ write_ending outcome

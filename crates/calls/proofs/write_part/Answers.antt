@@ -7,13 +7,13 @@ use Rattle.calls.proofs.write_part.Goals as goal
 
 pub overflow_add-sent : goal.overflow_add-sent
 overflow_add-sent c =
-    omega (arith, c.requires.counted, c.octets_moved.ensures, moved-within _ _ _ _ c.outcome_of-outcome.ensures)
+    omega (arith, c.requires.counted, c.octets_moved.ensures, moved-within _ _ _ c.outcome_of-outcome.ensures)
 
 pub returns : goal.returns
 returns c =
     record {
       outcome = _;
-      came = record { answer = _; error = _; is = c.outcome_of-outcome.ensures };
+      came = record { answer = _; is = c.outcome_of-outcome.ensures };
       sent = sum_is _ _ _ _ refl c.octets_moved.ensures;
       ended = c.write_ending.ensures;
     }
