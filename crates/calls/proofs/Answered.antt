@@ -28,7 +28,7 @@ use Rattle.calls.specs.Answered.{
   over,
   EndedRight,
 }
-use Rattle.calls.proofs.CallsLaws.{delivered_within, is_whole_true, text-whole, text-less}
+use Rattle.calls.proofs.CallsLaws.{delivered_within, is_whole_true, ended_by_whole, ended_by_cut, text-whole, text-less}
 
 -- ---- a turn
 
@@ -83,23 +83,18 @@ module _ {so_far whole : List ℕ → List ℕ} {Carried : List ℕ → Type 0} 
     pub turn-taken : (ended : Option Ending) → ended ≡ ended_by ending → before + length text ≡ length (so_far input)
         → Carried input
         → TurnEnded so_far whole Carried read sent ended
-    turn-taken ended is size carried = rw is (go ending refl)
+    turn-taken ended is size carried = go (is_whole ending) refl
       where
-        cut_short : (other : Ending) → ending ≡ other → is_whole other ≡ false
-            → TurnEnded so_far whole Carried read sent (Some other)
-        cut_short other same ends = rw (← same) (turn_stopped (ap is_whole same ∙ ends) size)
-
-        go : (other : Ending) → ending ≡ other → TurnEnded so_far whole Carried read sent (ended_by other)
-        go Whole same =
-            on (record {
+        go : (test : Bool) → is_whole ending ≡ test → TurnEnded so_far whole Carried read sent ended
+        go true test =
+            rw (is ∙ ended_by_whole ending test)
+            (on (record {
               input = input;
               carried = carried;
               count = count;
-              taken = text-whole over-text (ap is_whole same) ∙ size;
-            })
-        go Unread same = cut_short Unread same refl
-        go Unwritten same = cut_short Unwritten same refl
-        go Closed same = cut_short Closed same refl
+              taken = text-whole over-text test ∙ size;
+            }))
+        go false test = rw (is ∙ ended_by_cut ending test) (turn_stopped test size)
 
     -- the input's end
     pub turn_last : before + length text ≡ length (whole input)

@@ -6,7 +6,7 @@ use mathlib.Core.Path.{◌≡◌, refl, sym, ap, ◌∙◌}
 use native.Mathlib.Omega.{arith}
 use borrow.Author.Tests.{ltb-true, eq-eqb, ne_eqb}
 use lib.Dec.{eqb}
-use Rattle.std.specs.Prelude.{Result, Ok, Err}
+use Rattle.std.specs.Prelude.{Some, None, Result, Ok, Err}
 use lib.IntN.{ℤ, pos, negsuc}
 use lib.ListN.{length, take, drop, length-drop}
 use lib.Seq.{take_all}
@@ -26,6 +26,7 @@ use Rattle.calls.specs.Calls.{
   CameTo,
   Delivered,
   is_whole,
+  ended_by,
   octets_moved,
   write_ending,
   PartTaken,
@@ -182,6 +183,19 @@ pub text-less : {size before after : ℕ} {ending : Ending} → TextTaken size b
     → (after < before + size) × Unsent ending
 text-less all ends = absurd (true≢false ends)
 text-less (part ending after from less unsent) ends = (less, unsent)
+
+-- the turns go on where all was taken, and otherwise end as the write did
+pub ended_by_whole : (ending : Ending) → is_whole ending ≡ true → ended_by ending ≡ None
+ended_by_whole Whole _ = refl
+ended_by_whole Unread whole = absurd (true≢false (sym whole))
+ended_by_whole Unwritten whole = absurd (true≢false (sym whole))
+ended_by_whole Closed whole = absurd (true≢false (sym whole))
+
+pub ended_by_cut : (ending : Ending) → is_whole ending ≡ false → ended_by ending ≡ Some ending
+ended_by_cut Whole ends = absurd (true≢false ends)
+ended_by_cut Unread _ = refl
+ended_by_cut Unwritten _ = refl
+ended_by_cut Closed _ = refl
 
 pub is_whole_true : (ending : Ending) → is_whole ending ≡ true → ending ≡ Whole
 is_whole_true Whole _ = refl

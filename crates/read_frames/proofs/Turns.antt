@@ -14,8 +14,9 @@ use Rattle.frametext.specs.Message.{message_line}
 use Rattle.calls.specs.declared.Ending.{Ending}
 use Rattle.calls.specs.declared.Ending.TheVariants.{Whole}
 use Rattle.calls.specs.declared.Ended.{Ended}
-use Rattle.calls.specs.declared.Outcome.{Outcome}
-use Rattle.calls.specs.Calls.{is_whole, read_ending, octets_moved, Delivered, TextTaken}
+use Rattle.calls.specs.declared.Failure.{Failure}
+use Rattle.std.specs.Prelude.{Option, Some, Result}
+use Rattle.calls.specs.Calls.{is_whole, ended_by, read_ending, octets_moved, Delivered, TextTaken}
 use Rattle.calls.specs.Answered.{Begins, Answered}
 use Rattle.calls.proofs.CallsLaws.{text-all}
 use Rattle.calls.proofs.Answered.{piece-within, piece-count, piece-none, turn-unread, turn-taken, turn_last, ended-right}
@@ -62,7 +63,7 @@ behind front text whole sent is split = rw (is, split) (sym (drop-append_seam fr
 
 module _ (line : List ℕ) (buffered read sent : ℕ) (goes : FramesGoOn line buffered read sent)
     (earlier chunk out : List ℕ) (room : FramesRoom earlier line out) (same : length chunk ≡ length earlier)
-    (count after : ℕ) (outcome : Outcome) (delivered : Delivered (length chunk) read outcome after)
+    (count after : ℕ) (outcome : Result ℕ Failure) (delivered : Delivered (length chunk) read outcome after)
     (moved : count ≡ octets_moved outcome) where
   pub read-within : count ≤ length chunk
   read-within = piece-within goes.input chunk count read after outcome goes.count delivered moved
@@ -105,13 +106,13 @@ module _ {chunk line out : List ℕ} {buffered read sent : ℕ} (piece : PieceRe
   pub chunk-handed : NextTold chunk sent (take told.written outAfter)
   chunk-handed = (piece.earlier, behind (told_so_far piece.earlier) _ _ _ piece.taken chunk-told)
 
-  pub chunk-turned : (after : ℕ) (ending : Ending) (more : Bool)
+  pub chunk-turned : (after : ℕ) (ending : Ending) (ended : Option Ending)
       → TextTaken (length (take told.written outAfter)) sent ending after
-      → more ≡ is_whole ending
-      → FramesTurned line_after read after (record { buffered = told.buffered; more = more; ending = ending })
-  chunk-turned after ending more over is =
+      → ended ≡ ended_by ending
+      → FramesTurned line_after read after (record { buffered = told.buffered; ended = ended })
+  chunk-turned after ending ended over is =
       turn-taken (piece.earlier ++ chunk) (take told.written outAfter) sent read after ending piece.count over
-      more is
+      ended is
       (omega (
         arith,
         piece.taken,
@@ -126,13 +127,13 @@ module _ {chunk line out : List ℕ} {buffered read sent : ℕ} (piece : PieceRe
 
 module _ (line : List ℕ) (buffered read sent : ℕ) (goes : FramesGoOn line buffered read sent) where
   -- a read failed
-  pub end-unread : (outcome : Outcome) (ending : Ending) → ending ≡ read_ending outcome → is_whole ending ≡ false
-      → FramesTurned line read sent (record { buffered = buffered; more = false; ending = ending })
+  pub end-unread : (outcome : Result ℕ Failure) (ending : Ending) → ending ≡ read_ending outcome → is_whole ending ≡ false
+      → FramesTurned line read sent (record { buffered = buffered; ended = Some ending })
   end-unread outcome ending is ends = turn-unread read sent outcome ending goes is ends
 
   -- no line is held
   pub end_none : buffered ≡ 0
-      → FramesTurned line read sent (record { buffered = buffered; more = false; ending = Whole })
+      → FramesTurned line read sent (record { buffered = buffered; ended = Some Whole })
   end_none none =
       let empty : unended [] goes.input ≡ [] = held-empty goes.carried none in
       let whole : frames_told goes.input ≡ told_so_far goes.input =
@@ -166,7 +167,7 @@ module _ (line : List ℕ) (buffered read sent : ℕ) (goes : FramesGoOn line bu
 
     pub last-turned : (after : ℕ) (ending : Ending)
         → TextTaken (length (take message.length message.text)) sent ending after
-        → FramesTurned line read after (record { buffered = buffered; more = false; ending = ending })
+        → FramesTurned line read after (record { buffered = buffered; ended = Some ending })
     last-turned after ending over =
         turn_last goes.input (take message.length message.text) sent read after ending goes.count over
         (omega (

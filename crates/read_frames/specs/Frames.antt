@@ -46,7 +46,7 @@ unfoldable pub held_of : List ℕ → ℕ
 held_of line = cond (leb (length line) longest_frame_line) (length line) (held_long line)
 
 -- the number after one character more, where the line buffer is full or a longer line is held
-unfoldable pub held_long_after : List ℕ → ℕ → ℕ → ℕ
+abbrev pub held_long_after : List ℕ → ℕ → ℕ → ℕ
 held_long_after buffer buffered character =
     cond (is_digit character)
     (cond (eqb buffered longest_frame_line) (cond (all_digits buffer) 3029 3031)

@@ -43,7 +43,7 @@ pub record LastTold (line : List ℕ) (buffered sent : ℕ) (text : List ℕ) : 
 -- what a turn came to
 abbrev pub FramesTurned : List ℕ → ℕ → ℕ → Turn → Type 0
 FramesTurned line read sent turn =
-    TurnEnded told_so_far frames_told (HeldAfter line turn.buffered) read sent turn.more turn.ending
+    TurnEnded told_so_far frames_told (HeldAfter line turn.buffered) read sent turn.ended
 
 -- what the program writes is right, however it ends
 abbrev pub FramesRight : Ended → Type 0

@@ -16,4 +16,4 @@ hand_told-ending-requires c = chunk-handed c.requires _ c.tell_chunk-told.ensure
 
 pub returns : goal.returns
 returns c =
-    chunk-turned c.requires _ c.tell_chunk-told.ensures.1 _ _ _ c.hand_told-ending.ensures c.is_whole.ensures
+    chunk-turned c.requires _ c.tell_chunk-told.ensures.1 _ _ _ c.hand_told-ending.ensures c.ended_by.ensures
