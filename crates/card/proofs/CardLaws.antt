@@ -22,17 +22,6 @@ use Rattle.quickstep.specs.Watch.{Watch, watch_of, fresh_watch, watch_step}
 use Rattle.sender.specs.Heartbeat.{code_of_port}
 use Rattle.card.specs.Lent.{with_number, names_option, start_lent, event_of, read_for, is_ranged, ranged_watch, event_lent, step_lent, number_of_write, WritePort}
 
--- ---- names_option
-
-module _ (option : ℕ) where
-  pub names_option-one : option ≡ option_one → true ≡ names_option option
-  unfolding names_option
-  names_option-one e = rw (eq-eqb _ option_one e)
-
-  pub names_option-other : (option ≡ option_one → ⊥) → eqb option option_two ≡ names_option option
-  unfolding names_option
-  names_option-other n = rw (ne_eqb _ option_one n)
-
 -- ---- start_lent
 
 module _ (watch : Watch) (option provplace marks : ℕ) (named : Bool) (is : named ≡ names_option option) where
@@ -41,12 +30,12 @@ module _ (watch : Watch) (option provplace marks : ℕ) (named : Bool) (is : nam
   unfolding start_lent
   start_neither kept other k = k ∙ (rw (← is, other))
 
-  module _ (chosen : named ≡ true) (profile : Profile) (p : profile ≡ profile_in option provplace marks) (number : ℕ)
-      (n : number ≡ start_number option provplace) where
-    pub start_fresh : (new : Watch) → number ≡ accepted → new ≡ fresh_watch profile
+  module _ (chosen : named ≡ true) (number : ℕ) (n : number ≡ start_number option provplace) where
+    pub start_fresh : (profile : Profile) → profile ≡ profile_in option provplace marks → (new : Watch)
+        → number ≡ accepted → new ≡ fresh_watch profile
         → new ≡ start_lent watch option provplace marks
     unfolding start_lent
-    start_fresh new a f =
+    start_fresh profile p new a f =
         f ∙
         ap fresh_watch p ∙
         (rw (← is, chosen, eq-eqb (start_number option provplace) accepted (sym n ∙ a)))

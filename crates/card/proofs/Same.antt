@@ -1,6 +1,6 @@
 -- Whether a card is sound, a law for each way through the functions that ask it. Assumes nothing.
 use Prim.Native.Nat.{ℕ, ◌+◌, ◌≤◌}
-use mathlib.Core.Bool.{Bool, true, false, ◌&&◌}
+use mathlib.Core.Bool.{Bool, true, false, ◌&&◌, beq}
 use mathlib.Core.List.{List}
 use mathlib.Core.Path.{◌≡◌, refl, ap, ◌∙◌}
 use native.Mathlib.Omega.{arith}
@@ -30,6 +30,13 @@ pub bool_byte_flag : (yes : Bool) → bool_byte yes ≡ flag yes
 bool_byte_flag true = refl
 bool_byte_flag false = refl
 
+-- two of them are the same as their numbers are
+same_flag : (one other : Bool) → beq one other ≡ eqb (flag one) (flag other)
+same_flag true true = refl
+same_flag true false = refl
+same_flag false true = refl
+same_flag false false = refl
+
 pub same_among-none : (ones others : List Input) → true ≡ same_among ones others 0
 unfolding same_among
 same_among-none ones others = refl
@@ -54,10 +61,10 @@ pub once_told : (one other : Selector) (ours theirs : Switch) (mine its : Option
     → waslocked ≡ one.waslocked → was ≡ other.waslocked
     → kind ≡ switch_number ours → sort ≡ switch_number theirs → on ≡ switch_input ours → at ≡ switch_input theirs
     → number ≡ selected_number mine → place ≡ selected_number its
-    → (eqb kind sort && eqb on at && eqb number place && eqb (bool_byte waslocked) (bool_byte was)) ≡ same_once one other
+    → (eqb kind sort && eqb on at && eqb number place && beq waslocked was) ≡ same_once one other
 unfolding same_once
 once_told one other ours theirs mine its waslocked was kind sort on at number place o t m i h w k s n a e p =
-    rw (k, s, n, a, e, p, o, t, m, i, h, w, bool_byte_flag one.waslocked, bool_byte_flag other.waslocked)
+    rw (k, s, n, a, e, p, o, t, m, i, h, w, same_flag one.waslocked other.waslocked)
 
 -- the whole, call by call
 pub sound-told : (watch : Watch) (time next count : ℕ) (answer : Answer) (again : Selector) (runs once told : Bool)

@@ -186,10 +186,8 @@ pub extern "C" fn nurrispane_input_status_in(
         (known.new ≡ input_known
         (selector_at times.now small.now wider.now) input) }
 {
-    let two = ends_at(times, small, wider, input);
-    let eight = known_at(times, small, wider, input);
-    *ends = two;
-    *known = eight;
+    *ends = ends_at(times, small, wider, input);
+    *known = known_at(times, small, wider, input);
 }
 
 // The codes that go out of the sixteen ports.
@@ -203,8 +201,7 @@ pub extern "C" fn nurrispane_outgoing_codes_in(
     ensures { codes.new ≡ outgoing_codes
         (selector_at times.now small.now wider.now) }
 {
-    let new = codes_at(times, small, wider);
-    *codes = new;
+    *codes = codes_at(times, small, wider);
 }
 
 // The words that go out of the sixteen ports, of a card of option II.
@@ -218,8 +215,7 @@ pub extern "C" fn nurrispane_outgoing_words_in(
     ensures { out.new ≡ outgoing_words
         (selector_at times.now small.now wider.now) }
 {
-    let new = words_at(times, small, wider);
-    *out = new;
+    *out = words_at(times, small, wider);
 }
 
 // Reads a lent frame: the number of its refusal or 0, its code, its event flag and its source
@@ -228,8 +224,7 @@ pub extern "C" fn nurrispane_outgoing_words_in(
 pub extern "C" fn nurrispane_read_frame_in(frame: &[u8], told: &mut [u8; 9])
     ensures { told.new ≡ frame_told frame.now }
 {
-    let new = card_frame(frame);
-    *told = new;
+    *told = card_frame(frame);
 }
 
 // Writes a frame with a port's outgoing code into the first 60 octets of `buffer` and keeps the

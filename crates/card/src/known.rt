@@ -45,16 +45,13 @@ pub fn known_at(
     }
     let profile = profile_at(small, wider);
     let status = input_status(times, small, wider, input);
-    let priority = status.priority;
-    let raw = paper_number(profile, status.raw);
-    let passed = paper_number(profile, status.passed);
     [
         ACCEPTED,
-        raw,
-        passed,
+        paper_number(profile, status.raw),
+        paper_number(profile, status.passed),
         status.eligible as u8,
         status.signal as u8,
-        priority.0,
+        status.priority.0,
         status.locked as u8,
         status.floor,
     ]

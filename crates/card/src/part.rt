@@ -36,9 +36,8 @@ fn tick_at(
         input: 0,
         argument: 0,
     };
-    let read = FrameRead::Code(0);
     make_ranged(times, small, wider, due, told);
-    step_watch(times, small, wider, due, told, event, read);
+    step_watch(times, small, wider, due, told, event, FrameRead::Code(0));
 }
 
 // How many moments a portion serves: one at least, so that each call comes further.
@@ -71,11 +70,12 @@ fn serve_part(
         (watch_at times.new small.new wider.new due.new
         told.new).state) }
 {
-    let mut count: u8 = 0;
     let mut next = next_due(times, small, wider);
-    while count < most && next <= time {
+    for _count in 0..most {
+        if time < next {
+            return next;
+        }
         tick_at(times, small, wider, due, told, next);
-        count += 1;
         next = next_due(times, small, wider);
     }
     next

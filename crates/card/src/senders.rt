@@ -64,13 +64,6 @@ fn times_of(sender: Sender) -> [u64; 11]
     ]
 }
 
-// An octet as a number of C's.
-fn wide(octet: u8) -> u32
-    ensures { result ≡ octet }
-{
-    octet as u32
-}
-
 // What a question was answered with, as a number.
 fn told_of(heartbeat: Heartbeat) -> u32
     ensures { result ≡ heartbeat_told heartbeat }
@@ -79,7 +72,7 @@ fn told_of(heartbeat: Heartbeat) -> u32
         Heartbeat::Information => INFORMATION_FRAME,
         Heartbeat::Event => EVENT_FRAME,
         Heartbeat::Nothing => NO_FRAME,
-        Heartbeat::Refused(number) => REFUSAL * wide(number),
+        Heartbeat::Refused(number) => REFUSAL * u32::from(number),
     }
 }
 
@@ -91,8 +84,7 @@ fn code_at(times: &[u64; TIMES], small: &[u8; SMALL], wider: &[u16; WIDER], port
     if LAST_INPUT < port {
         return 0;
     }
-    let codes = codes_at(times, small, wider);
-    codes[port as usize]
+    codes_at(times, small, wider)[port as usize]
 }
 
 // Makes a sender fresh, whatever its arrays held: nothing sent, nothing asked.

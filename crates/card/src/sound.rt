@@ -15,20 +15,14 @@ use inplace::{
 use input::Input;
 use numbers::refusal::ACCEPTED;
 use numbers::{Answer, INPUT_COUNT, InputNumber, TIME_LIMIT};
-use onestep::watch::{DUE, TOLD};
+use onestep::watch::{DUE, TOLD, answer_in};
 use selector::{selected_number, switch_input, switch_number};
 
 // Two inputs have the same run.
 fn same_run(one: Input, other: Input) -> bool
     ensures { result ≡ same_run one other }
 {
-    let ours = one.run;
-    let theirs = other.run;
-    let began = ours.began == theirs.began;
-    let good = ours.good.0 == theirs.good.0;
-    let failed = ours.failed as u8 == theirs.failed as u8;
-    let up = ours.up as u8 == theirs.up as u8;
-    began & good & failed & up
+    one.run == other.run
 }
 
 // One pair more of inputs. In line the loop below would be spread over vectors, which takes 800
@@ -37,8 +31,7 @@ fn same_run(one: Input, other: Input) -> bool
 fn also_same(same: bool, one: Input, other: Input) -> bool
     ensures { result ≡ (same && same_run one other) }
 {
-    let alike = same_run(one, other);
-    same & alike
+    same & same_run(one, other)
 }
 
 // The sixteen inputs have the same runs in two cards with the same `wider`.
@@ -54,12 +47,10 @@ fn same_runs(
         (selector_at later.now after.now wider.now).inputs }
 {
     let mut same = true;
-    let mut at: u8 = 0;
-    while at < INPUT_COUNT {
+    for at in 0..INPUT_COUNT {
         let one = input_at(times, small, wider, InputNumber(at));
         let other = input_at(later, after, wider, InputNumber(at));
         same = also_same(same, one, other);
-        at += 1;
     }
     same
 }
@@ -74,7 +65,7 @@ fn same_once(small: &[u8; SMALL], after: &[u8; SMALL]) -> bool
     let theirs = switch_at(after);
     let selected = selection_at(small);
     let other = selection_at(after);
-    let waslocked = was_locked_at(small) as u8 == was_locked_at(after) as u8;
+    let waslocked = was_locked_at(small) == was_locked_at(after);
     let kind = switch_number(ours) == switch_number(theirs);
     let on = switch_input(ours) == switch_input(theirs);
     let selection = selected_number(selected) == selected_number(other);
@@ -82,15 +73,13 @@ fn same_once(small: &[u8; SMALL], after: &[u8; SMALL]) -> bool
 }
 
 // What was answered last is an answer, but for the number.
+#[tactic(auto, unfolding(crate::specs::Sound::same_answer))]
 fn same_answer(told: &[u8; TOLD], answer: Answer) -> bool
     ensures { result ≡ same_answer (answer_in told.now) answer }
 {
-    let selected = told[1] == answer.selected;
-    let state = told[2] == answer.clockstate;
-    let quality = told[3] == answer.clockquality;
-    let switch = told[4] == answer.switchkind;
-    let on = told[5] == answer.switchinput;
-    selected & state & quality & switch & on
+    let told = answer_in(told);
+    let number = told.number;
+    told == Answer { number, ..answer }
 }
 
 // 1 where the card can have come from a fresh one, as far as is looked; 0 where not.

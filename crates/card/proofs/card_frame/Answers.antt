@@ -6,5 +6,5 @@ use Rattle.card.proofs.card_frame.Goals as goal
 pub returns : goal.returns
 unfolding frame_told
 returns c =
-    rw (c.number_of_read-number.ensures, c.code_of_read-code.ensures)
+    rw (c.number_of_read.ensures, c.code_of_read.ensures)
     (ap message_told c.read_frame-message.ensures)

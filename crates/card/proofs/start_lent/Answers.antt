@@ -6,7 +6,8 @@ use Rattle.card.proofs.start_lent.Goals as goal
 
 pub returns-then-not-names_option : goal.returns-then-not-names_option
 unfolding watch_at
-returns-then-not-names_option c = let args = c.args in
+returns-then-not-names_option c =
+    let args = c.args in
     start_neither
     (watch_at args.times.now args.small.now args.wider.now args.due.now args.told.now)
     args.option
@@ -14,13 +15,33 @@ returns-then-not-names_option c = let args = c.args in
     args.marks
     c.names_option.result
     c.names_option.ensures
-    (watch_at args.times.now args.small.now args.wider.now c.put_number.new.due c.put_number.new.told)
+    (watch_at args.times.now args.small.now args.wider.now c.refuse.new.due c.refuse.new.told)
     c.if-not-names_option.true
-    (c.put_number.ensures (selector_at args.times.now args.small.now args.wider.now))
+    (c.refuse.ensures (selector_at args.times.now args.small.now args.wider.now))
 
-pub returns-then-number-eq-ACCEPTED : goal.returns-then-number-eq-ACCEPTED
+pub returns-then-number-ne-ACCEPTED : goal.returns-then-number-ne-ACCEPTED
 unfolding watch_at
-returns-then-number-eq-ACCEPTED c = let args = c.args in
+returns-then-number-ne-ACCEPTED c =
+    let args = c.args in
+    let refused = c.refuse-then-number-ne-ACCEPTED in
+    start_refused
+    (watch_at args.times.now args.small.now args.wider.now args.due.now args.told.now)
+    args.option
+    args.provplace
+    args.marks
+    c.names_option.result
+    c.names_option.ensures
+    c.if-not-names_option.false
+    c.start_number-number.result
+    c.start_number-number.ensures
+    (watch_at args.times.now args.small.now args.wider.now refused.new.due refused.new.told)
+    c.if-number-ne-ACCEPTED.true
+    (refused.ensures (selector_at args.times.now args.small.now args.wider.now))
+
+pub returns : goal.returns
+unfolding watch_at
+returns c =
+    let args = c.args in
     let all = c.start_watch.new in
     start_fresh
     (watch_at args.times.now args.small.now args.wider.now args.due.now args.told.now)
@@ -30,29 +51,10 @@ returns-then-number-eq-ACCEPTED c = let args = c.args in
     c.names_option.result
     c.names_option.ensures
     c.if-not-names_option.false
-    c.profile_in-profile.result
-    c.profile_in-profile.ensures
     c.start_number-number.result
     c.start_number-number.ensures
+    c.profile_in-profile.result
+    c.profile_in-profile.ensures
     (watch_at all.times all.small all.wider all.due all.told)
-    c.if-number-eq-ACCEPTED.true
+    c.if-number-ne-ACCEPTED.false
     c.start_watch.ensures
-
-pub returns : goal.returns
-unfolding watch_at
-returns c = let args = c.args in
-    start_refused
-    (watch_at args.times.now args.small.now args.wider.now args.due.now args.told.now)
-    args.option
-    args.provplace
-    args.marks
-    c.names_option.result
-    c.names_option.ensures
-    c.if-not-names_option.false
-    c.profile_in-profile.result
-    c.profile_in-profile.ensures
-    c.start_number-number.result
-    c.start_number-number.ensures
-    (watch_at args.times.now args.small.now args.wider.now c.put_number-2.new.due c.put_number-2.new.told)
-    c.if-number-eq-ACCEPTED.false
-    (c.put_number-2.ensures (selector_at args.times.now args.small.now args.wider.now))

@@ -12,10 +12,10 @@ returns c = let args = c.args in
     input_known-known (selector_at args.times.now args.small.now args.wider.now) args.input
     c.profile_at-profile.result
     c.input_status-status.result
-    c.paper_number-raw.result
-    c.paper_number-passed.result
+    c.paper_number.result
+    c.paper_number-2.result
     (search rules)
     (c.profile_at-profile.ensures args.times.now)
     c.input_status-status.ensures
-    c.paper_number-raw.ensures
-    c.paper_number-passed.ensures
+    c.paper_number.ensures
+    c.paper_number-2.ensures

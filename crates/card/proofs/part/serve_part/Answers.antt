@@ -6,7 +6,7 @@ use Rattle.card.proofs.part.serve_part.Goals as goal
 
 pub loop-count-init : goal.loop-count-init
 unfolding watch_at
-loop-count-init c = (search rules, search rules, search parted_none)
+loop-count-init c = (search rules, search parted_none)
 
 pub loop-count-preserved : goal.loop-count-preserved
 unfolding watch_at
@@ -15,43 +15,42 @@ loop-count-preserved c =
     let loop = c.loop-count in
     let all = c.tick_at.new in (
       search rules,
-      search rules,
       parted_turn args.most
           (watch_at args.times.now args.small.now args.wider.now args.due.now args.told.now)
           args.time
           (watch_at loop.times loop.small loop.wider loop.due loop.told)
           (watch_at all.times all.small all.wider all.due all.told)
-          loop.count
+          loop._count
           loop.next
-          loop.invariant.2
           loop.invariant.1
-          c.if-next-time.true
+          loop.invariant.0
+          c.if-time-next.false
           c.loop-count-test.true
           c.tick_at.ensures,
     )
 
-pub returns-else-next-time : goal.returns-else-next-time
-returns-else-next-time c =
+pub returns-then-time-next : goal.returns-then-time-next
+returns-then-time-next c =
     let args = c.args in
     let loop = c.loop-count in (
       parted_late args.most (watch_at args.times.now args.small.now args.wider.now args.due.now args.told.now) args.time
           (watch_at loop.times loop.small loop.wider loop.due loop.told)
-          loop.count
+          loop._count
           loop.next
-          loop.invariant.2
           loop.invariant.1
-          c.if-next-time.false,
-      loop.invariant.1,
+          loop.invariant.0
+          c.if-time-next.true,
+      loop.invariant.0,
     )
 
-pub returns-after-loop-count : goal.returns-after-loop-count
-returns-after-loop-count c =
+pub returns : goal.returns
+returns c =
     let args = c.args in
     let loop = c.loop-count in (
       parted_full args.most (watch_at args.times.now args.small.now args.wider.now args.due.now args.told.now) args.time
           (watch_at loop.times loop.small loop.wider loop.due loop.told)
-          loop.count
-          loop.invariant.2
+          loop._count
+          loop.invariant.1
           c.loop-count-test.false,
-      loop.invariant.1,
+      loop.invariant.0,
     )

@@ -1,5 +1,4 @@
 -- `card::part::serve_part` meets its contract. Assumes nothing.
-use Prim.Native.Nat.{◌≤◌, ◌-◌}
 use mathlib.Core.Path.{◌≡◌}
 use Rattle.due.specs.Next.{next_due}
 use Rattle.onestep.specs.Watched.{watch_at}
@@ -8,8 +7,5 @@ use Rattle.card.proofs.part.serve_part.Given as goal
 
 abbrev pub invariant-loop-count : goal.invariant-loop-count
 invariant-loop-count l =
-    (l.count ≤ l.most) × (l.next ≡ next_due (watch_at l.times l.small l.wider l.due l.told).state)
-    × Parted l.most (watch_at l.initial.times l.initial.small l.initial.wider l.initial.due l.initial.told) l.time (watch_at l.times l.small l.wider l.due l.told) l.count
-
-abbrev pub decreases-loop-count : goal.decreases-loop-count
-decreases-loop-count l = l.most - l.count
+    (l.next ≡ next_due (watch_at l.times l.small l.wider l.due l.told).state)
+    × Parted l.most (watch_at l.initial.times l.initial.small l.initial.wider l.initial.due l.initial.told) l.time (watch_at l.times l.small l.wider l.due l.told) l._count

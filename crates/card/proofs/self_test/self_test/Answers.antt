@@ -1,48 +1,42 @@
 -- `card::self_test::self_test` meets its contract. Assumes nothing.
-use Prim.Native.Nat.{◌≤◌}
-use lib.ListN.{length}
+use Rattle.std.proofs.Common.{◌≡◌, List, length, ap, arith}
+use Rattle.card.specs.declared.self_test.TestLine.{TestLine}
 use Rattle.onestep.specs.Watched.{watch_at}
 use Rattle.card.proofs.Tested.{answered-none, answered-more, answered-all}
-use borrow.Author.Rules.{rules}
 use Rattle.card.proofs.self_test.self_test.Goals as goal
 
-pub loop-at-init : goal.loop-at-init
-loop-at-init c =
+pub loop-line-init : goal.loop-line-init
+loop-line-init c =
     let all = c.start_watch.new in (
-      search rules,
-      search rules,
-      c.test_lines-lines.ensures,
-      answered-none _ (watch_at all.times all.small all.wider all.due all.told)
-          c.start_watch.ensures,
+      c.test_lines.ensures,
+      answered-none _ (watch_at all.times all.small all.wider all.due all.told) c.start_watch.ensures,
     )
 
-pub loop-at-preserved : goal.loop-at-preserved
+pub loop-line-preserved : goal.loop-line-preserved
 unfolding watch_at
-loop-at-preserved c =
-    let loop = c.loop-at in
-    let inv = loop.invariant in
-    let all = c.test_line.new in (
-      search rules,
-      inv.1,
-      inv.2,
-      answered-more _ loop.at loop.right _
+loop-line-preserved c =
+    let loop = c.loop-line in
+    let all = c.test_line.new in
+    let lines = c.test_lines.result in
+    let long : length lines ≡ 18 = ap (λ (all : List TestLine). length all) loop.invariant.0 in (
+      loop.invariant.0,
+      answered-more lines loop.line-index loop.right c.is_told-right.result
           (watch_at loop.times loop.small loop.wider loop.due loop.told)
           (watch_at all.times all.small all.wider all.due all.told)
           _
-          inv.3
-          (search rules)
+          loop.invariant.1
+          (omega (arith, long, c.loop-line-test.true))
           c.test_line.ensures
-          c.is_told-same.ensures,
+          c.is_told-right.ensures,
     )
 
 pub returns : goal.returns
 returns c =
-    let loop = c.loop-at in
-    let inv = loop.invariant in
-    let lines = c.test_lines-lines.result in
-    let past : length lines ≤ loop.at = search rules in
-    answered-all lines loop.at loop.right
+    let loop = c.loop-line in
+    let lines = c.test_lines.result in
+    let long : length lines ≡ 18 = ap (λ (all : List TestLine). length all) loop.invariant.0 in
+    answered-all lines loop.line-index loop.right
     (watch_at loop.times loop.small loop.wider loop.due loop.told)
-    inv.3
-    past
-    inv.2
+    loop.invariant.1
+    (omega (arith, long, c.loop-line-test.false))
+    loop.invariant.0

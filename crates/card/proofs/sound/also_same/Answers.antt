@@ -2,4 +2,4 @@
 use Rattle.card.proofs.sound.also_same.Goals as goal
 
 pub returns : goal.returns
-returns c = rw c.same_run-alike.ensures
+returns c = rw c.same_run.ensures
