@@ -3,14 +3,13 @@ use Prim.Native.Nat.{ℕ, ◌≤◌, ◌<◌}
 use mathlib.Core.Bool.{Bool, true, false}
 use mathlib.Core.List.{List}
 use mathlib.Core.Path.{◌≡◌, sym, ◌∙◌, ap}
-use lib.Dec.{eqb}
 use lib.ListN.{get_or}
 use borrow.Author.Tests.{eq-eqb, ne_eqb, lt-ltb, le-ltb}
 use Rattle.numbers.specs.declared.Answer.{Answer}
 use Rattle.numbers.specs.declared.profile.Profile.{Profile}
 use Rattle.numbers.specs.Inputs.{last_input}
 use Rattle.numbers.specs.Kind.{kind_frame}
-use Rattle.numbers.specs.Profile.{option_one, option_two, start_number, profile_in}
+use Rattle.numbers.specs.Profile.{start_number, profile_in}
 use Rattle.numbers.specs.Refusal.{accepted, input_out_of_range, argument_out_of_range}
 use Rattle.frame.specs.declared.FrameRead.{FrameRead}
 use Rattle.frame.specs.declared.FrameRead.TheVariants.{Code}
