@@ -4,6 +4,8 @@ use mathlib.Core.Bool.{Bool, true, false, ◌||◌}
 use mathlib.Core.List.{[]}
 use mathlib.Core.Path.{◌≡◌, refl, ◌∙◌, ap}
 use lib.Dec.{leb, ltb}
+use denote.Enum.Bare.{sameb}
+use Rattle.unit.specs.contracts.Half.{the_type}
 use borrow.Author.Tests.{eq-eqb, ne_eqb, lt-leb, le-leb}
 use Rattle.numbers.specs.declared.Answer.{Answer}
 use Rattle.numbers.specs.declared.Event.{Event}
@@ -81,36 +83,25 @@ pub goes_to_both-word : (limits : Limits) (kind : ℕ) → kind ≡ kind_word �
 unfolding goes_to_both
 goes_to_both-word limits kind word = rw word (or_none limits.words)
 
--- ---- is_to, goes_to
+-- ---- goes_to
 
-module _ (to half : Half) where
-  pub is_to-equipment : to ≡ H.Equipment → half ≡ H.Equipment → true ≡ is_to to half
-  unfolding is_to
-  is_to-equipment t h = rw (t, h)
-
-  pub is_to_not_station : to ≡ H.Equipment → half ≡ H.Station → false ≡ is_to to half
-  unfolding is_to
-  is_to_not_station t h = rw (t, h)
-
-  pub is_to_not_equipment : to ≡ H.Station → half ≡ H.Equipment → false ≡ is_to to half
-  unfolding is_to
-  is_to_not_equipment t h = rw (t, h)
-
-  pub is_to-station : to ≡ H.Station → half ≡ H.Station → true ≡ is_to to half
-  unfolding is_to
-  is_to-station t h = rw (t, h)
-
-pub ruleset isTo-laws = (is_to-equipment, is_to_not_station, is_to_not_equipment, is_to-station)
+-- what is sent to one half is sent to that half alone
+is_to-same : (to half : Half) → sameb the_type to half ≡ is_to to half
+unfolding is_to
+is_to-same H.Equipment H.Equipment = refl
+is_to-same H.Equipment H.Station = refl
+is_to-same H.Station H.Equipment = refl
+is_to-same H.Station H.Station = refl
 
 module _ (limits : Limits) (kind : ℕ) (to half : Half) (both : Bool) where
-  pub goes_to-both : both ≡ goes_to_both limits kind → both ≡ true → true ≡ goes_to limits kind to half
+  pub goes_to-both : both ≡ goes_to_both limits kind → both ≡ true → both ≡ goes_to limits kind to half
   unfolding goes_to
   goes_to-both b t = rw (← b, t)
 
-  pub goes_to-one : (own : Bool) → both ≡ goes_to_both limits kind → both ≡ false → own ≡ is_to to half
+  pub goes_to-one : (own : Bool) → both ≡ goes_to_both limits kind → both ≡ false → own ≡ sameb the_type to half
       → own ≡ goes_to limits kind to half
   unfolding goes_to
-  goes_to-one own b f o = o ∙ rw (← b, f)
+  goes_to-one own b f o = o ∙ is_to-same to half ∙ rw (← b, f)
 
 pub ruleset goesTo-laws = (goes_to-both, goes_to-one)
 

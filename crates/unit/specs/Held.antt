@@ -5,7 +5,7 @@ use Rattle.inplace.specs.Lists.{selector_at}
 use Rattle.unit.specs.declared.held.StateHeld.{StateHeld}
 use Rattle.unit.specs.declared.held.UnitHeld.{UnitHeld}
 use Rattle.unit.specs.declared.held.UnitStartedHeld.{UnitStartedHeld}
-use Rattle.unit.specs.declared.held.UnitSteppedHeld.{UnitSteppedHeld}
+use Rattle.unit.specs.declared.held.UnitNumbers.{UnitNumbers}
 use Rattle.unit.specs.Kept.{Unit, UnitStarted, UnitStepped}
 
 -- a selector
@@ -21,7 +21,7 @@ unit_in held =
 abbrev pub started_in : UnitStartedHeld → UnitStarted
 started_in started = record { number = started.number; unit = unit_in started.unit }
 
--- after an event
-abbrev pub stepped_in : UnitSteppedHeld → UnitStepped
-stepped_in stepped =
-    record { equipment = stepped.equipment; station = stepped.station; unit = unit_in stepped.unit }
+-- after an event, with the numbers that it is answered with
+abbrev pub stepped_in : UnitHeld → UnitNumbers → UnitStepped
+stepped_in after numbers =
+    record { equipment = numbers.equipment; station = numbers.station; unit = unit_in after }

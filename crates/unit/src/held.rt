@@ -1,8 +1,8 @@
-// A unit by value, each selector's state in its three arrays, for who holds one among other things. A
-// step lends the arrays and takes them back: each half takes the step in place, and no other.
+// A unit by value, each selector's state in its three arrays, for who holds one among other things.
+// Each half takes a step in place.
 ghost use Rattle.std.specs.Prelude.{◌≡◌};
 ghost use Rattle.selector.specs.State.{fresh_selector};
-ghost use Rattle.unit.specs.Kept.{started_unit, step_unit_read};
+ghost use Rattle.unit.specs.Kept.{started_unit, half_step, step_unit_read};
 ghost use Rattle.unit.specs.Held.{state_in, unit_in, started_in, stepped_in};
 
 use crate::{Half, goes_to, half_step, is_minimum};
@@ -30,12 +30,11 @@ pub struct UnitHeld {
     pub minimum: Quality,
 }
 
-// What an event is answered with: a number of each selector's own, and the unit after it.
-#[derive(Clone, Copy)]
-pub struct UnitSteppedHeld {
+// What an event is answered with: a number of each selector's own.
+#[derive(Clone, Copy, PartialEq, Eq)]
+pub struct UnitNumbers {
     pub equipment: u8,
     pub station: u8,
-    pub unit: UnitHeld,
 }
 
 // A start of a unit: the number that it is answered with, and the unit. Beside 6 no unit has
@@ -46,18 +45,33 @@ pub struct UnitStartedHeld {
     pub unit: UnitHeld,
 }
 
-// A fresh state of a profile.
-fn fresh_state(profile: Profile) -> StateHeld
-    ensures { state_in result ≡ fresh_selector profile }
-{
-    let mut times = [0u64; TIMES];
-    let mut small = [0u8; SMALL];
-    let mut wider = [0u16; WIDER];
-    start(&mut times, &mut small, &mut wider, profile);
-    StateHeld {
-        times,
-        small,
-        wider,
+impl StateHeld {
+    // A fresh state of a profile.
+    fn fresh(profile: Profile) -> StateHeld
+        ensures { state_in result ≡ fresh_selector profile }
+    {
+        let mut held = StateHeld {
+            times: [0; TIMES],
+            small: [0; SMALL],
+            wider: [0; WIDER],
+        };
+        start(&mut held.times, &mut held.small, &mut held.wider, profile);
+        held
+    }
+
+    // The selector's own step of a half.
+    fn step(&mut self, goes: bool, event: Event, read: FrameRead) -> u8
+        ensures { (result ≡ (half_step (state_in self.old) goes event read).number)
+            × (state_in self.new ≡ (half_step (state_in self.old) goes event read).state) }
+    {
+        half_step(
+            &mut self.times,
+            &mut self.small,
+            &mut self.wider,
+            goes,
+            event,
+            read,
+        )
     }
 }
 
@@ -66,77 +80,34 @@ fn fresh_state(profile: Profile) -> StateHeld
 pub fn start_unit(profile: Profile, minimum: Quality) -> UnitStartedHeld
     ensures { started_in result ≡ started_unit profile minimum }
 {
-    let equipment = fresh_state(profile);
-    let station = fresh_state(profile);
-    if is_minimum(profile, minimum) {
-        return UnitStartedHeld {
-            number: ACCEPTED,
-            unit: UnitHeld {
-                equipment,
-                station,
-                minimum,
-            },
-        };
-    }
+    let equipment = StateHeld::fresh(profile);
+    let station = StateHeld::fresh(profile);
+    let (number, minimum) = if is_minimum(profile, minimum) {
+        (ACCEPTED, minimum)
+    } else {
+        (ARGUMENT_OUT_OF_RANGE, PRC)
+    };
     UnitStartedHeld {
-        number: ARGUMENT_OUT_OF_RANGE,
+        number,
         unit: UnitHeld {
             equipment,
             station,
-            minimum: PRC,
+            minimum,
         },
     }
 }
 
-// One event with its frame read, sent to a half: the number of each selector, and the unit after
-// it.
-pub fn step_unit(unit: UnitHeld, to: Half, event: Event, read: FrameRead) -> UnitSteppedHeld
-    ensures { stepped_in result ≡ step_unit_read (unit_in unit) to event read }
-{
-    let equipment = unit.equipment;
-    let station = unit.station;
-    let minimum = unit.minimum;
-    let mut times = equipment.times;
-    let mut small = equipment.small;
-    let mut wider = equipment.wider;
-    let mut station_times = station.times;
-    let mut station_small = station.small;
-    let mut station_words = station.wider;
-    let profile = profile_at(&small, &wider);
-    let limits = limits_of(profile);
-    let to_equipment = goes_to(limits, event.kind, to, Half::Equipment);
-    let to_station = goes_to(limits, event.kind, to, Half::Station);
-    let one = half_step(
-        &mut times,
-        &mut small,
-        &mut wider,
-        to_equipment,
-        event,
-        read,
-    );
-    let other = half_step(
-        &mut station_times,
-        &mut station_small,
-        &mut station_words,
-        to_station,
-        event,
-        read,
-    );
-    UnitSteppedHeld {
-        equipment: one,
-        station: other,
-        unit: UnitHeld {
-            equipment: StateHeld {
-                times,
-                small,
-                wider,
-            },
-            station: StateHeld {
-                times: station_times,
-                small: station_small,
-                wider: station_words,
-            },
-            minimum,
-        },
+impl UnitHeld {
+    // One event with its frame read, sent to a half: the number of each selector.
+    pub fn step_unit(&mut self, to: Half, event: Event, read: FrameRead) -> UnitNumbers
+        ensures { stepped_in self.new result ≡ step_unit_read (unit_in self.old) to event read }
+    {
+        let profile = profile_at(&self.equipment.small, &self.equipment.wider);
+        let limits = limits_of(profile);
+        let to_equipment = goes_to(limits, event.kind, to, Half::Equipment);
+        let to_station = goes_to(limits, event.kind, to, Half::Station);
+        let equipment = self.equipment.step(to_equipment, event, read);
+        let station = self.station.step(to_station, event, read);
+        UnitNumbers { equipment, station }
     }
 }

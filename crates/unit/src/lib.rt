@@ -9,7 +9,7 @@
 pub mod held;
 
 ghost use Rattle.std.specs.Prelude.{◌≡◌};
-ghost use Rattle.unit.specs.Unit.{is_minimum, unit_start_number, goes_to_both, is_to, goes_to};
+ghost use Rattle.unit.specs.Unit.{is_minimum, unit_start_number, goes_to_both, goes_to};
 ghost use Rattle.inplace.specs.Lists.{selector_at};
 ghost use Rattle.unit.specs.Kept.{half_step, squelched_by, source_by};
 
@@ -27,7 +27,7 @@ use onestep::step_read;
 use selector::{LOCKED, NO_INPUT};
 
 // The two selectors of a unit, by what they are for.
-#[derive(Clone, Copy)]
+#[derive(Clone, Copy, PartialEq, Eq)]
 pub enum Half {
     Equipment,
     Station,
@@ -37,11 +37,7 @@ pub enum Half {
 pub fn is_minimum(profile: Profile, minimum: Quality) -> bool
     ensures { result ≡ is_minimum profile minimum }
 {
-    let limits = limits_of(profile);
-    if minimum.0 < 1 {
-        return false;
-    }
-    minimum.0 as u16 <= limits.floor
+    1 <= minimum.0 && minimum.0 as u16 <= limits_of(profile).floor
 }
 
 // The number that a start with an option's number, a place's and a minimum is answered with: 6
@@ -50,40 +46,22 @@ pub fn unit_start_number(option: u8, provplace: u8, minimum: Quality) -> u8
     ensures { result ≡ unit_start_number option provplace minimum }
 {
     if is_minimum(profile_in(option, provplace, 0), minimum) {
-        return start_number(option, provplace);
+        start_number(option, provplace)
+    } else {
+        ARGUMENT_OUT_OF_RANGE
     }
-    ARGUMENT_OUT_OF_RANGE
 }
 
 // Whether events of a kind go to both selectors; any other is a command. A word is a report where
 // words come.
+#[tactic(auto, using(std::proofs::lemmas::Bool::Decides::nat_tests), unfolding(crate::specs::Unit::goes_to_both))]
 fn goes_to_both(limits: Limits, kind: u8) -> bool
     ensures { result ≡ goes_to_both limits kind }
 {
     match kind {
-        KIND_SIGNAL => true,
-        KIND_FRAME => true,
-        KIND_LINE_CODE => true,
+        KIND_SIGNAL | KIND_FRAME | KIND_LINE_CODE | KIND_INPUT_KIND | KIND_TICK => true,
         KIND_WORD => limits.words,
-        KIND_INPUT_KIND => true,
-        KIND_TICK => true,
         _ => false,
-    }
-}
-
-// Whether what is sent to one half is sent to another.
-fn is_to(to: Half, half: Half) -> bool
-    ensures { result ≡ is_to to half }
-{
-    match to {
-        Half::Equipment => match half {
-            Half::Equipment => true,
-            Half::Station => false,
-        },
-        Half::Station => match half {
-            Half::Equipment => false,
-            Half::Station => true,
-        },
     }
 }
 
@@ -91,10 +69,7 @@ fn is_to(to: Half, half: Half) -> bool
 pub fn goes_to(limits: Limits, kind: u8, to: Half, half: Half) -> bool
     ensures { result ≡ goes_to limits kind to half }
 {
-    if goes_to_both(limits, kind) {
-        return true;
-    }
-    is_to(to, half)
+    goes_to_both(limits, kind) || to == half
 }
 
 // One selector's own step: a tick at the event's time, and then the event itself where it goes
@@ -123,10 +98,10 @@ pub fn half_step(
     let none = FrameRead::Refused(FRAME_LENGTH);
     let ticked = step_read(times, small, wider, tick, none);
     if goes {
-        let after = step_read(times, small, wider, event, read);
-        return after.number;
+        step_read(times, small, wider, event, read).number
+    } else {
+        ticked.number
     }
-    ticked.number
 }
 
 // Whether an output squelches, which is to send AIS, by what its selector answers: nothing usable
@@ -135,24 +110,15 @@ pub fn half_step(
 pub fn squelches(answer: Answer, mode: bool, profile: Profile, minimum: Quality) -> bool
     ensures { result ≡ squelched_by answer mode profile minimum }
 {
-    if answer.clockstate != LOCKED {
-        return true;
-    }
-    if mode {
-        let provplace = prov_place_of(profile);
-        let worst = rank_of(provplace, minimum);
-        let passed = rank_of(provplace, Quality(answer.clockquality));
-        return worst.0 < passed.0;
-    }
-    false
+    let provplace = prov_place_of(profile);
+    let worst = rank_of(provplace, minimum);
+    let passed = rank_of(provplace, Quality(answer.clockquality));
+    answer.clockstate != LOCKED || mode && worst.0 < passed.0
 }
 
 // The source identifier of an output: none while it squelches, otherwise the selected input.
 pub fn source_by(squelched: bool, answer: Answer) -> u8
     ensures { result ≡ source_by squelched answer }
 {
-    if squelched {
-        return NO_INPUT;
-    }
-    answer.selected
+    if squelched { NO_INPUT } else { answer.selected }
 }

@@ -7,13 +7,13 @@ pub returns-then-goes : goal.returns-then-goes
 returns-then-goes c =
     let args = c.args in
     let tick = c.step_read-ticked in
-    let step = c.step_read-after in
+    let step = c.step_read in
     half-taken (selector_at args.times.now args.small.now args.wider.now) args.goes args.event args.read tick.result.number tick.result.count
     (selector_at tick.new.times tick.new.small tick.new.wider) tick.ensures step.result.number step.result.count
     (selector_at step.new.times step.new.small step.new.wider) c.if-goes.true step.ensures
 
-pub returns : goal.returns
-returns c =
+pub returns-else-goes : goal.returns-else-goes
+returns-else-goes c =
     let args = c.args in
     let tick = c.step_read-ticked in
     half-ticked (selector_at args.times.now args.small.now args.wider.now) args.goes args.event args.read tick.result.number tick.result.count

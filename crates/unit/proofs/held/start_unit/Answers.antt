@@ -1,9 +1,11 @@
 -- `unit::held::start_unit` meets its contract: each way is a law. Assumes nothing.
 use Rattle.unit.proofs.UnitLaws.{startedUnit-laws}
 use Rattle.unit.proofs.held.start_unit.Goals as goal
-
-pub returns-then-is_minimum : goal.returns-then-is_minimum
-returns-then-is_minimum c = search startedUnit-laws
+use Rattle.unit.proofs.held.start_unit.Goals.{then-is_minimum, else-is_minimum}
 
 pub returns : goal.returns
-returns c = search startedUnit-laws
+returns c =
+    elim c.if-is_minimum.branch [
+      | then-is_minimum w ↦ rw w.number-is (search startedUnit-laws)
+      | else-is_minimum w ↦ rw w.number-is (search startedUnit-laws)
+    ]
