@@ -7,11 +7,8 @@
 // public function has a `requires`.
 #![tactic(auto)]
 
-ghost use Rattle.std.specs.Prelude.{◌≡◌, ◌-◌, min, max};
-ghost use Rattle.lane.specs.Lane.{capped, bad_from, fresh_lane, wrong_from, wrong_until, goes_on, marked, first_after, told_lane, known_lane, over_at, shown_next, right_next, wrong_count};
-
-// The largest number of 64 bits.
-const LARGEST: u64 = u64::MAX;
+ghost use Rattle.std.specs.Prelude.{◌≡◌, ◌-◌};
+ghost use Rattle.lane.specs.Lane.{bad_from, fresh_lane, wrong_from, wrong_until, goes_on, marked, first_after, over_at, shown_next, right_next, wrong_count};
 
 // How late and how early a value may be shown, and the last millisecond that is judged.
 #[derive(Clone, Copy)]
@@ -57,125 +54,79 @@ const NONE: Stretch = Stretch {
     value: 0,
 };
 
-// A sum, or the largest number where it is larger.
-fn capped(one: u64, other: u64) -> u64
-    ensures { result ≡ capped one other }
-{
-    if other <= LARGEST - one {
-        return one + other;
+impl Stretch {
+    // How many milliseconds it has.
+    fn length(self) -> u64
+        ensures { result ≡ self.until - self.from }
+    {
+        self.until.saturating_sub(self.from)
     }
-    LARGEST
-}
 
-// The larger of two numbers.
-fn larger(one: u64, other: u64) -> u64
-    ensures { result ≡ max one other }
-{
-    if one <= other {
-        return other;
+    // Whether wrong milliseconds from here on go on with it.
+    #[tactic(auto, unfolding(crate::specs::Lane::goes_on))]
+    fn goes_on(self, from: u64) -> bool
+        ensures { result ≡ goes_on self from }
+    {
+        self.from < self.until && from <= self.until
     }
-    one
-}
-
-// The lesser of two numbers.
-fn lesser(one: u64, other: u64) -> u64
-    ensures { result ≡ min one other }
-{
-    if one <= other {
-        return one;
-    }
-    other
-}
-
-// A difference, 0 where it would be less.
-fn less(one: u64, other: u64) -> u64
-    ensures { result ≡ one - other }
-{
-    if other <= one {
-        return one - other;
-    }
-    0
 }
 
 // The first millisecond at which a value is not right any more, `late` after the last at which it
 // was: 0 where it never was.
+#[tactic(auto, unfolding(crate::specs::Lane::bad_from))]
 fn bad_from(late: u64, last: u64) -> u64
     ensures { result ≡ bad_from late last }
 {
     if last == 0 {
-        return 0;
+        0
+    } else {
+        last.saturating_add(late)
     }
-    capped(last, late)
 }
 
 // Where the wrong milliseconds from `start` on begin.
 fn wrong_from(tolerance: Tolerance, last: u64, start: u64) -> u64
     ensures { result ≡ wrong_from tolerance last start }
 {
-    let bad = bad_from(tolerance.late, last);
-    larger(start, bad)
+    start.max(bad_from(tolerance.late, last))
 }
 
 // Where they are over, at `limit` or behind the last that is judged.
 fn wrong_until(tolerance: Tolerance, limit: u64) -> u64
     ensures { result ≡ wrong_until tolerance limit }
 {
-    let behind = capped(tolerance.end, 1);
-    lesser(limit, behind)
-}
-
-// Whether wrong milliseconds from here on go on with a stretch.
-fn goes_on(stretch: Stretch, from: u64) -> bool
-    ensures { result ≡ goes_on stretch from }
-{
-    if stretch.from < stretch.until {
-        return from <= stretch.until;
-    }
-    false
+    limit.min(tolerance.end.saturating_add(1))
 }
 
 // A lane after wrong milliseconds from `from` to before `until`: they go on with the latest
 // stretch, or that one is over.
+#[tactic(auto, unfolding(crate::specs::Lane::marked))]
 fn marked(lane: Lane, from: u64, until: u64, value: u64) -> Judged
     ensures { result ≡ marked lane from until value }
 {
-    let stretch = lane.stretch;
     if until <= from {
         return Judged { lane, ended: NONE };
     }
-    if goes_on(stretch, from) {
-        let end = larger(stretch.until, until);
+    let stretch = lane.stretch;
+    if stretch.goes_on(from) {
         let longer = Stretch {
-            from: stretch.from,
-            until: end,
-            value: stretch.value,
-        };
-        let same = Lane {
-            first: lane.first,
-            after: lane.after,
-            value: lane.value,
-            reached: lane.reached,
-            stretch: longer,
-            wrongms: lane.wrongms,
+            until: stretch.until.max(until),
+            ..stretch
         };
         return Judged {
-            lane: same,
+            lane: Lane {
+                stretch: longer,
+                ..lane
+            },
             ended: NONE,
         };
     }
-    let length = less(stretch.until, stretch.from);
-    let wrongms = capped(lane.wrongms, length);
-    let latest = Stretch { from, until, value };
-    let next = Lane {
-        first: lane.first,
-        after: lane.after,
-        value: lane.value,
-        reached: lane.reached,
-        stretch: latest,
-        wrongms,
-    };
     Judged {
-        lane: next,
+        lane: Lane {
+            stretch: Stretch { from, until, value },
+            wrongms: wrong_count(lane),
+            ..lane
+        },
         ended: stretch,
     }
 }
@@ -195,84 +146,58 @@ pub fn fresh_lane() -> Lane
 }
 
 // The millisecond of the first thing shown, after one more.
+#[tactic(auto, unfolding(crate::specs::Lane::first_after))]
 fn first_after(lane: Lane, time: u64) -> u64
     ensures { result ≡ first_after lane time }
 {
-    if lane.after == 0 {
-        return time;
-    }
-    lane.first
-}
-
-// A lane after a value was shown, before that is judged.
-fn told_lane(lane: Lane, time: u64, after: u64, value: u64) -> Lane
-    ensures { result ≡ told_lane lane time after value }
-{
-    let first = first_after(lane, time);
-    let stretch = lane.stretch;
-    Lane {
-        first,
-        after,
-        value,
-        reached: lane.reached,
-        stretch,
-        wrongms: lane.wrongms,
-    }
+    if lane.after == 0 { time } else { lane.first }
 }
 
 // A lane after a value was shown, where it is known what is right up to `early` behind that time;
 // `last` is the shown value's.
+#[tactic(auto, unfolding(crate::specs::Lane::shown_next))]
 pub fn shown(tolerance: Tolerance, lane: Lane, last: u64, time: u64, value: u64) -> Judged
     ensures { result ≡ shown_next tolerance lane last time value }
 {
     let from = wrong_from(tolerance, last, time);
-    let after = capped(time, 1);
+    let after = time.saturating_add(1);
     let until = wrong_until(tolerance, after);
-    let told = told_lane(lane, time, after, value);
+    let told = Lane {
+        first: first_after(lane, time),
+        after,
+        value,
+        ..lane
+    };
     marked(told, from, until, value)
 }
 
-// A lane once it is known what is right up to `to`, before the value that stands is judged.
-fn known_lane(lane: Lane, to: u64) -> Lane
-    ensures { result ≡ known_lane lane to }
-{
-    let stretch = lane.stretch;
-    Lane {
-        first: lane.first,
-        after: lane.after,
-        value: lane.value,
-        reached: to,
-        stretch,
-        wrongms: lane.wrongms,
-    }
-}
-
 // Up to where the value that stands can be wrong: to where it is right itself.
+#[tactic(auto, unfolding(crate::specs::Lane::over_at))]
 fn over_at(standing: u64, from: u64, to: u64, value: u64) -> u64
     ensures { result ≡ over_at standing from to value }
 {
-    if standing == value {
-        return from;
-    }
-    to
+    if standing == value { from } else { to }
 }
 
 // A lane after it is known that `value` is right from `from` to `to`, both included; `last` is of
 // the value that stands.
+#[tactic(auto, unfolding(crate::specs::Lane::right_next))]
 pub fn right(tolerance: Tolerance, lane: Lane, last: u64, from: u64, to: u64, value: u64) -> Judged
     ensures { result ≡ right_next tolerance lane last from to value }
 {
-    let known = known_lane(lane, to);
+    let known = Lane {
+        reached: to,
+        ..lane
+    };
     if lane.after == 0 {
         return Judged {
             lane: known,
             ended: NONE,
         };
     }
-    let judged = less(lane.reached, tolerance.early);
-    let start = larger(lane.after, judged);
+    let start = lane.after.max(lane.reached.saturating_sub(tolerance.early));
     let over = over_at(lane.value, from, to, value);
-    let limit = less(over, tolerance.early);
+    let limit = over.saturating_sub(tolerance.early);
     let begin = wrong_from(tolerance, last, start);
     let until = wrong_until(tolerance, limit);
     marked(known, begin, until, lane.value)
@@ -282,7 +207,5 @@ pub fn right(tolerance: Tolerance, lane: Lane, last: u64, from: u64, to: u64, va
 pub fn wrong_count(lane: Lane) -> u64
     ensures { result ≡ wrong_count lane }
 {
-    let stretch = lane.stretch;
-    let length = less(stretch.until, stretch.from);
-    capped(lane.wrongms, length)
+    lane.wrongms.saturating_add(lane.stretch.length())
 }

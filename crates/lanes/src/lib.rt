@@ -5,7 +5,7 @@
 // answered for, no sum can wrap, and no public function has a `requires`.
 #![tactic(auto)]
 
-ghost use Rattle.std.specs.Prelude.{◌≡◌, ◌+◌, ◌-◌, min};
+ghost use Rattle.std.specs.Prelude.{◌≡◌, ◌-◌, min};
 ghost use Rattle.lanes.specs.Value.{Judging, answer_value, code_value, value_of, index_count, input_index, no_switch_index, switch_index, four_index, answer_index, code_index, value_index, Indexed};
 ghost use Rattle.inplace.specs.Lists.{selector_at};
 ghost use Rattle.lanes.specs.Span.{span_of, state_behind};
@@ -34,10 +34,7 @@ pub struct View {
 fn judged(test: bool, octet: u8) -> u64
     ensures { Judging test octet result }
 {
-    if test {
-        return octet as u64;
-    }
-    0
+    if test { octet as u64 } else { 0 }
 }
 
 // What is judged of the five octets of an answer, as one number.
@@ -53,16 +50,15 @@ pub fn answer_value(view: View, answer: Answer) -> u64
 }
 
 // The code of a port, as a value.
+#[tactic(auto, unfolding(crate::specs::Value::code_value))]
 fn code_value(codes: [u8; 16], lane: usize) -> u64
     ensures { result ≡ code_value codes lane }
 {
-    if lane < 16 {
-        return codes[lane] as u64;
-    }
-    0
+    if lane < 16 { codes[lane] as u64 } else { 0 }
 }
 
 // What a state shows in a lane.
+#[tactic(auto, unfolding(crate::specs::Value::value_of))]
 pub fn value_of(
     view: View,
     times: &[u64; TIMES],
@@ -75,74 +71,62 @@ pub fn value_of(
 {
     if view.codes {
         let codes = codes_at(times, small, wider);
-        return code_value(codes, lane);
+        code_value(codes, lane)
+    } else {
+        let answer = answer_at(times, small, wider, 0);
+        answer_value(view, answer)
     }
-    let answer = answer_at(times, small, wider, 0);
-    answer_value(view, answer)
 }
 
 // The index of a selected input among seventeen; 17 for any other number.
+#[tactic(auto, unfolding(crate::specs::Value::input_index))]
 fn input_index(number: u64) -> u64
     ensures { Indexed (input_index number) 17 result }
 {
-    if number == 255 {
-        return 16;
+    match number {
+        255 => 16,
+        0..=15 => number,
+        _ => 17,
     }
-    if number < 16 {
-        return number;
-    }
-    17
 }
 
 // The index of no switch, and of one that is not judged; 34 for any other number.
+#[tactic(auto, unfolding(crate::specs::Value::no_switch_index))]
 fn no_switch_index(on: u64) -> u64
     ensures { Indexed (no_switch_index on) 34 result }
 {
-    if on == 255 {
-        return 33;
+    match on {
+        255 => 33,
+        0 => 0,
+        _ => 34,
     }
-    if on == 0 {
-        return 0;
-    }
-    34
 }
 
 // The index of a switch with its input among 34; 34 for any other numbers.
+#[tactic(auto, unfolding(crate::specs::Value::switch_index))]
 fn switch_index(switch: u64, on: u64) -> u64
     ensures { Indexed (switch_index switch on) 34 result }
 {
-    if switch == 0 {
-        return no_switch_index(on);
+    match switch {
+        0 => no_switch_index(on),
+        1 | 2 if on < 16 => 1 + (switch - 1) * 16 + on,
+        _ => 34,
     }
-    if 2 < switch {
-        return 34;
-    }
-    if on < 16 {
-        return 1 + (switch - 1) * 16 + on;
-    }
-    34
 }
 
 // The index of four of them; the count of indexes for what is never right.
+#[tactic(auto, unfolding(crate::specs::Value::four_index))]
 fn four_index(selected: u64, state: u64, quality: u64, switch: u64) -> u64
     ensures { Indexed (four_index selected state quality switch) index_count result }
 {
-    if 16 < selected {
-        return INDEXES;
-    }
-    if 3 < state {
-        return INDEXES;
-    }
-    if 15 < quality {
-        return INDEXES;
-    }
-    if 33 < switch {
+    if 16 < selected || 3 < state || 15 < quality || 33 < switch {
         return INDEXES;
     }
     ((selected * 4 + state) * 16 + quality) * 34 + switch
 }
 
 // The index of what is judged of an answer.
+#[tactic(auto, unfolding(crate::specs::Value::answer_index))]
 fn answer_index(value: u64) -> u64
     ensures { Indexed (answer_index value) index_count result }
 {
@@ -152,54 +136,33 @@ fn answer_index(value: u64) -> u64
 }
 
 // The index of a port's code.
+#[tactic(auto, unfolding(crate::specs::Value::code_index))]
 fn code_index(lane: usize, value: u64) -> u64
     ensures { Indexed (code_index lane value) index_count result }
 {
-    if 15 < value {
-        return INDEXES;
-    }
-    if 15 < lane {
+    if 15 < value || 15 < lane {
         return INDEXES;
     }
     lane as u64 * 16 + value
 }
 
 // The index of a value of a lane; the count of indexes for a value that is never right.
+#[tactic(auto, unfolding(crate::specs::Value::value_index))]
 pub fn value_index(view: View, lane: usize, value: u64) -> usize
     ensures { Indexed (value_index view lane value) index_count result }
 {
     if view.codes {
-        return code_index(lane, value) as usize;
+        code_index(lane, value) as usize
+    } else {
+        answer_index(value) as usize
     }
-    answer_index(value) as usize
-}
-
-// The lesser of two times.
-fn lesser(one: u64, other: u64) -> u64
-    ensures { result ≡ min one other }
-{
-    if one <= other {
-        return one;
-    }
-    other
-}
-
-// A number less one; 0 of 0.
-fn one_less(number: u64) -> u64
-    ensures { result ≡ number - 1 }
-{
-    if number == 0 {
-        return 0;
-    }
-    number - 1
 }
 
 // When a span ends before what is next due, or with `until`.
 fn end_before(due: u64, until: u64) -> u64
     ensures { result ≡ min until (due - 1) }
 {
-    let before = one_less(due);
-    lesser(until, before)
+    until.min(due.saturating_sub(1))
 }
 
 // The end of the span that begins with a state: before the next due moment, or `until`.
@@ -209,16 +172,6 @@ pub fn span_end(times: &[u64; TIMES], small: &[u8; SMALL], wider: &[u16; WIDER],
 {
     let next = next_due(times, small, wider);
     end_before(next, until)
-}
-
-// The millisecond behind one.
-fn behind(time: u64) -> u64
-    ensures { result ≡ min (time + 1) 18446744073709551615 }
-{
-    if time == u64::MAX {
-        return time;
-    }
-    time + 1
 }
 
 // Brings a state on to behind a span's end, by the tick that is due there, and answers with the end
@@ -235,7 +188,7 @@ pub fn next_span(
         (result ≡ (span_of (selector_at times.new small.new wider.now)
         until).to) }
 {
-    let time = behind(to);
+    let time = to.saturating_add(1);
     let due = tick_once(times, small, wider, time);
     end_before(due, until)
 }

@@ -54,7 +54,7 @@ pub fn unit_start_number(option: u8, provplace: u8, minimum: Quality) -> u8
 
 // Whether events of a kind go to both selectors; any other is a command. A word is a report where
 // words come.
-#[tactic(auto, using(std::proofs::lemmas::Bool::Decides::nat_tests), unfolding(crate::specs::Unit::goes_to_both))]
+#[tactic(auto, unfolding(crate::specs::Unit::goes_to_both))]
 fn goes_to_both(limits: Limits, kind: u8) -> bool
     ensures { result ≡ goes_to_both limits kind }
 {

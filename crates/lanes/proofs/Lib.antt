@@ -1,2 +1,0 @@
--- Laws of what the code answers, one for each way through.
-pub mod LanesLaws
