@@ -4,6 +4,8 @@ use mathlib.Core.Bool.{Bool, true, false, ◌&&◌, ◌||◌, true≢false, fals
 use mathlib.Core.Logic.{◌⊎◌, inl, inr}
 use mathlib.Core.Path.{◌≡◌, refl, sym, ◌∙◌}
 use native.Mathlib.Omega.{arith}
+use Rattle.std.proofs.lemmas.Bool.{or_parts, and_parts}
+pub use Rattle.std.proofs.lemmas.Bool.{or_cases, or_left, or_right, and_from as and_both, or_from as neither, false_from_ne_true as is_false}
 use Rattle.numbers.specs.Kind.{flag}
 
 -- both cases of a test, with the equation
@@ -11,42 +13,17 @@ pub by_bool : {C : Type 0} (test : Bool) → (test ≡ true → C) → (test ≡
 by_bool true f g = f refl
 by_bool false f g = g refl
 
-pub is_false : (test : Bool) → (test ≡ true → ⊥) → test ≡ false
-is_false true f = absurd (f refl)
-is_false false f = refl
-
 pub or_first : (a b : Bool) → (a || b) ≡ false → a ≡ false
-or_first true b e = absurd (true≢false e)
-or_first false b e = refl
+or_first a b e = (or_parts a b e).0
 
 pub or_second : (a b : Bool) → (a || b) ≡ false → b ≡ false
-or_second true b e = absurd (true≢false e)
-or_second false b e = e
-
-pub and_both : (a b : Bool) → a ≡ true → b ≡ true → (a && b) ≡ true
-and_both a b x y = rw (x, y)
+or_second a b e = (or_parts a b e).1
 
 pub both_first : (a b : Bool) → (a && b) ≡ true → a ≡ true
-both_first true b e = refl
-both_first false b e = e
+both_first a b e = (and_parts a b e).0
 
 pub both-second : (a b : Bool) → (a && b) ≡ true → b ≡ true
-both-second true b e = e
-both-second false b e = absurd (false≢true e)
-
-pub or_cases : (a b : Bool) → (a || b) ≡ true → (a ≡ true) ⊎ (b ≡ true)
-or_cases true b e = inl refl
-or_cases false b e = inr e
-
-pub or_left : (a b : Bool) → a ≡ true → (a || b) ≡ true
-or_left a b e = rw e
-
-pub or_right : (a b : Bool) → b ≡ true → (a || b) ≡ true
-or_right true b e = refl
-or_right false b e = e
-
-pub neither : (a b : Bool) → a ≡ false → b ≡ false → (a || b) ≡ false
-neither a b e k = rw (e, k)
+both-second a b e = (and_parts a b e).1
 
 -- a test is not both
 pub contra : {A : Type 0} {test : Bool} → test ≡ true → test ≡ false → A
