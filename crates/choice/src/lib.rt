@@ -12,8 +12,8 @@ ghost use Rattle.choice.specs.Leader.{lead, seed, best_of, is_passed, offer};
 use numbers::quality::{NOT_TOLD, PROV, Quality, is_failed};
 use numbers::{INPUT_COUNT, InputNumber, Priority};
 
-// What a choice looks at of an input, the floor as it was set, 0 for none: with the profile and the
-// mode nothing else makes a candidate.
+// What a choice looks at of an input, the floor as it was set, 0 for none, or the one in force: with
+// the profile and the mode nothing else makes a candidate.
 #[derive(Clone, Copy, PartialEq, Eq)]
 pub struct Seen {
     pub passed: Quality,
@@ -69,7 +69,7 @@ const NO_LEADER: Leader = Leader {
 fn doubled(number: u8) -> u16
     ensures { result ≡ floor_rank number }
 {
-    2 * (number as u16)
+    2 * u16::from(number)
 }
 
 // Whether a quality is PROV, and has a place.
@@ -86,9 +86,9 @@ pub fn rank_of(provplace: u8, quality: Quality) -> Rank
     ensures { result ≡ rank_of provplace quality }
 {
     if is_placed(provplace, quality) {
-        return Rank(2 * (provplace as u16) + 1);
+        return Rank(doubled(provplace) + 1);
     }
-    Rank(2 * (quality.0 as u16))
+    Rank(doubled(quality.0))
 }
 
 // Whether a passed quality is usable: not failed, and with quality mode on from 1 to the floor.
@@ -115,40 +115,27 @@ impl Seen {
     {
         self == other
     }
-}
 
-// An input as a choice sees it, where `provplace` is that of PROV and `floor` the one in force. With
-// quality mode off no quality is ranked: most of the work is for the other.
-#[tactic(auto, unfolding(crate::specs::Candidate::candidate_of, crate::specs::Candidate::ranked_quality, crate::specs::Rank::rank_of, crate::specs::Rank::is_placed))]
-pub fn candidate_of(
-    provplace: u8,
-    floor: u8,
-    passed: Quality,
-    priority: Priority,
-    locked: bool,
-    mode: bool,
-) -> Candidate
-    ensures { result ≡ candidate_of provplace floor passed priority locked mode }
-{
-    let admitted = is_admitted(priority, locked);
-    if mode {
-        let rank = rank_of(provplace, passed);
-        let usable = is_usable(mode, floor, rank, passed);
-        return Candidate {
-            quality: passed,
-            rank,
-            priority,
-            admitted,
-            usable,
+    // The input as a choice sees it, where the floor is the one in force and `provplace` that of PROV.
+    // With quality mode off no quality is ranked: most of the work is for the other.
+    #[tactic(auto, unfolding(crate::specs::Candidate::candidate_of, crate::specs::Candidate::ranked_quality, crate::specs::Rank::rank_of, crate::specs::Rank::is_placed))]
+    pub fn candidate(self, provplace: u8, mode: bool) -> Candidate
+        ensures { result ≡
+            candidate_of provplace self.floor self.passed self.priority
+            self.locked mode }
+    {
+        let (quality, rank) = if mode {
+            (self.passed, rank_of(provplace, self.passed))
+        } else {
+            (NOT_TOLD, UNRANKED)
         };
-    }
-    let usable = is_usable(mode, floor, UNRANKED, passed);
-    Candidate {
-        quality: NOT_TOLD,
-        rank: UNRANKED,
-        priority,
-        admitted,
-        usable,
+        Candidate {
+            quality,
+            rank,
+            priority: self.priority,
+            admitted: is_admitted(self.priority, self.locked),
+            usable: is_usable(mode, self.floor, rank, self.passed),
+        }
     }
 }
 

@@ -12,7 +12,7 @@ ghost use Rattle.numbers.specs.Codes.{code_dnu, word_stu, word_dus, code_of_qual
 ghost use Rattle.selector.specs.State.{seen_of, candidate_for};
 ghost use Rattle.selector.specs.Answer.{selected_number, switch_number, switch_input, clock_state, clock_quality, outgoing_code, outgoing_word};
 
-use choice::{Candidate, Seen, candidate_of};
+use choice::{Candidate, Seen};
 use input::Input;
 use numbers::InputNumber;
 use numbers::profile::{Profile, floor_in, limits_of, prov_place_of};
@@ -68,17 +68,9 @@ pub fn seen_of(input: Input) -> Seen
 pub fn candidate_for(profile: Profile, input: Input, mode: bool) -> Candidate
     ensures { result ≡ candidate_for profile mode input }
 {
-    let seen = seen_of(input);
-    let provplace = prov_place_of(profile);
-    let floor = floor_in(limits_of(profile).freerunning, seen.floor);
-    candidate_of(
-        provplace,
-        floor,
-        seen.passed,
-        seen.priority,
-        seen.locked,
-        mode,
-    )
+    let mut seen = seen_of(input);
+    seen.floor = floor_in(limits_of(profile).freerunning, seen.floor);
+    seen.candidate(prov_place_of(profile), mode)
 }
 
 // What a port says of a quality, a code or a word.
