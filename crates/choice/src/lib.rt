@@ -124,17 +124,23 @@ impl Seen {
             candidate_of provplace self.floor self.passed self.priority
             self.locked mode }
     {
-        let (quality, rank) = if mode {
-            (self.passed, rank_of(provplace, self.passed))
-        } else {
-            (NOT_TOLD, UNRANKED)
-        };
+        let admitted = is_admitted(self.priority, self.locked);
+        if mode {
+            let rank = rank_of(provplace, self.passed);
+            return Candidate {
+                quality: self.passed,
+                rank,
+                priority: self.priority,
+                admitted,
+                usable: is_usable(mode, self.floor, rank, self.passed),
+            };
+        }
         Candidate {
-            quality,
-            rank,
+            quality: NOT_TOLD,
+            rank: UNRANKED,
             priority: self.priority,
-            admitted: is_admitted(self.priority, self.locked),
-            usable: is_usable(mode, self.floor, rank, self.passed),
+            admitted,
+            usable: is_usable(mode, self.floor, UNRANKED, self.passed),
         }
     }
 }
