@@ -149,8 +149,7 @@ pub extern "C" fn nurrispane_unit_step_in(
     };
     let to = half_in(half);
     let read = read_for(kind, frame);
-    let profile = profile_at(small, wider);
-    let limits = limits_of(profile);
+    let limits = limits_of(profile_at(small, wider));
     let to_equipment = goes_to(limits, kind, to, Half::Equipment);
     let to_station = goes_to(limits, kind, to, Half::Station);
     step_half(times, small, wider, due, told, to_equipment, event, read);

@@ -117,7 +117,5 @@ fn send(
     let mode = mode_at(small);
     let profile = profile_at(small, wider);
     let squelched = squelches(answer, mode, profile, Quality(minimum));
-    let source = source_by(squelched, answer);
-    let new = [minimum, squelched as u8, source];
-    *sent = new;
+    *sent = [minimum, squelched as u8, source_by(squelched, answer)];
 }

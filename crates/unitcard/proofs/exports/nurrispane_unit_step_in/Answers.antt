@@ -33,14 +33,14 @@ returns c =
     (event_of args.kind args.time args.input args.argument)
     c.read_for-read.result
     c.half_in-to.result
-    c.profile_at-profile.result
+    c.profile_at.result
     c.limits_of-limits.result
     c.goes_to-to_equipment.result
     c.goes_to-to_station.result
     refl
     c.read_for-read.ensures
     c.half_in-to.ensures
-    (c.profile_at-profile.ensures args.times.now)
+    (c.profile_at.ensures args.times.now)
     c.limits_of-limits.ensures
     c.goes_to-to_equipment.ensures
     c.goes_to-to_station.ensures
