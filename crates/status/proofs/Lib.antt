@@ -1,3 +1,2 @@
--- A law for each way through a function; what the code says of an input is what has happened.
-pub mod StatusLaws
+-- What the code says of an input is what has happened.
 pub mod WhatHappened

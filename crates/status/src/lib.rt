@@ -11,7 +11,7 @@ ghost use Rattle.inplace.specs.Lists.{selector_at};
 ghost use Rattle.status.specs.Status.{end_ahead};
 ghost use Rattle.status.specs.Kept.{timer_ahead, frame_ahead, status_of, input_status};
 
-use due::NEVER;
+use due::sum_or_never;
 use inplace::{SMALL, TIMES, WIDER, input_at, mode_at, profile_at, time_at};
 use input::{Heard, Input};
 use numbers::kind::InputKind;
@@ -39,70 +39,55 @@ pub struct Status {
 }
 
 // When a time of `length` ms from `began` is over, if that is later than `time`; otherwise 0.
+#[tactic(auto, unfolding(crate::specs::Status::end_ahead))]
 fn end_ahead(began: u64, length: u64, time: u64) -> u64
     ensures { result ≡ end_ahead began length time }
 {
-    if length <= NEVER - began {
-        if time < began + length {
-            return began + length;
-        }
-        return 0;
-    }
-    if time < NEVER {
-        return NEVER;
-    }
-    0
+    let end = sum_or_never(began, length);
+    if time < end { end } else { 0 }
 }
 
+#[tactic(auto, unfolding(crate::specs::Kept::timer_ahead))]
 fn timer_ahead(run: Run, forecast: Forecast, time: u64) -> u64
     ensures { result ≡ timer_ahead run forecast time }
 {
     if run.failed {
-        return end_ahead(run.began, forecast.holdoff, time);
+        end_ahead(run.began, forecast.holdoff, time)
+    } else {
+        end_ahead(run.began, forecast.wait, time)
     }
-    end_ahead(run.began, forecast.wait, time)
 }
 
+#[tactic(auto, unfolding(crate::specs::Kept::frame_ahead))]
 fn frame_ahead(heard: Heard, time: u64) -> u64
     ensures { result ≡ frame_ahead heard time }
 {
-    let frame = heard.frame;
-    if is_failed(frame) {
-        return 0;
+    if is_failed(heard.frame) {
+        0
+    } else {
+        end_ahead(heard.framed, FRAME_LIFE, time)
     }
-    end_ahead(heard.framed, FRAME_LIFE, time)
 }
 
 // What is known of an input's record at a time, in a profile and a quality mode.
+#[tactic(auto, unfolding(crate::specs::Kept::status_of))]
 pub fn status_of(profile: Profile, input: Input, mode: bool, time: u64) -> Status
     ensures { result ≡ status_of profile input mode time }
 {
     let forecast = input.forecast(mode);
-    let run = input.run;
     let heard = input.heard;
     let settings = input.settings;
-    let priority = settings.priority;
-    let kind = settings.kind;
-    let limits = limits_of(profile);
-    let own = limits.freerunning;
-    let floor = floor_in(own, settings.floor);
-    let candidate = candidate_for(profile, input, mode);
-    let raw = forecast.raw_at(time);
-    let passed = input.passed_quality();
-    let eligible = candidate.is_eligible();
-    let timer = timer_ahead(run, forecast, time);
-    let frame = frame_ahead(heard, time);
     Status {
-        raw,
-        passed,
-        eligible,
-        timer,
-        frame,
+        raw: forecast.raw_at(time),
+        passed: input.passed_quality(),
+        eligible: candidate_for(profile, input, mode).is_eligible(),
+        timer: timer_ahead(input.run, forecast, time),
+        frame: frame_ahead(heard, time),
         signal: heard.signal,
-        kind,
-        priority,
+        kind: settings.kind,
+        priority: settings.priority,
         locked: settings.locked,
-        floor,
+        floor: floor_in(limits_of(profile).freerunning, settings.floor),
     }
 }
 
