@@ -1,18 +1,17 @@
--- The definitions of `specs/`, a law for each way through the function that meets it. Assumes nothing.
-use Prim.Native.Nat.{ℕ, ◌+◌, ◌≤◌, ◌<◌}
-use mathlib.Core.Bool.{Bool, true, false, not}
+-- The definitions of `specs/`, a law for each way through where it takes more than they say. Assumes nothing.
+use Prim.Native.Nat.{ℕ, ◌≤◌, ◌<◌}
+use mathlib.Core.Bool.{Bool, true, false}
 use mathlib.Core.List.{List, [], ◌∷◌, ◌++◌, append-nil}
 use mathlib.Core.Path.{◌≡◌, refl, sym, ◌∙◌, ap}
 use native.Mathlib.Omega.{arith}
-use lib.Dec.{eqb, leb, ltb}
+use lib.Dec.{eqb, ltb}
 use lib.ListN.{length, get_or, set, take, drop}
 use lib.Seq.{drop-length}
 use Rattle.std.specs.List.{copy_within}
 use Rattle.std.proofs.lemmas.List.{set-get_or}
-use borrow.Author.Tests.{eq-eqb, ne_eqb, lt-ltb, le-ltb, le-leb, lt-leb, eqb-true, leb-false, ltb-false, not-false}
+use borrow.Author.Tests.{eq-eqb, ne_eqb, lt-ltb, le-ltb, eqb-true, leb-false, ltb-false, not-false}
 use Rattle.numbers.specs.Inputs.{last_input, input_count, time_limit}
-use Rattle.numbers.specs.Refusal.{accepted, time_too_large, time_before_state, input_out_of_range, argument_out_of_range, buffer_too_short, source_not_six}
-use Rattle.numbers.specs.Rows.{first_that_applies}
+use Rattle.numbers.specs.Refusal.{accepted, time_too_large, argument_out_of_range}
 use Rattle.numbers.proofs.Rows.{none-exact}
 use Rattle.numbers.proofs.Truth.{by_bool}
 use Rattle.frame.specs.Write.{Writing, written_length, source_length, largest_code, WriteFrame}
@@ -24,8 +23,8 @@ use Rattle.sender.specs.declared.Heartbeat.{Heartbeat}
 use Rattle.sender.specs.declared.Heartbeat.TheVariants as H
 use Rattle.sender.specs.declared.Sender.{Sender}
 use Rattle.sender.specs.declared.Senders.{Senders}
-use Rattle.sender.specs.Heartbeat.{Question, question_of, question_rows, code_asked, question_number, period, window, window_frames, content_by}
-use Rattle.sender.specs.Sender.{Asked, AskedOne, tenth, fresh_sender, is_full, heartbeat_due, heartbeat_of, with_frame, with_question, after_heartbeat, sender_at, asked_number, with_sender, answered_with, asked, AskSenders, last_asked, one_number, one_with, asked_one, AskOne}
+use Rattle.sender.specs.Heartbeat.{Question, question_of, question_rows, code_asked, question_number, content_by}
+use Rattle.sender.specs.Sender.{Asked, AskedOne, fresh_sender, heartbeat_of, after_heartbeat, sender_at, asked_number, with_sender, answered_with, asked, AskSenders, last_asked, one_number, one_with, asked_one, AskOne}
 use Rattle.sender.proofs.Codes.{code_of_port-small}
 
 -- ---- ten times
@@ -40,142 +39,6 @@ latest_ten (x ∷ rest) moved time size is =
     rw is
     (ap (λ (tail : List ℕ). time ∷ (take 9 (x ∷ rest) ++ tail)) none
     ∙ ap (λ (tail : List ℕ). time ∷ tail) (append-nil (take 9 (x ∷ rest))))
-
--- ---- is_full
-
-module _ (sender : Sender) (time : ℕ) where
-  pub is_full-few : sender.sent < window_frames → leb window_frames sender.sent ≡ is_full sender time
-  unfolding is_full
-  is_full-few few = rw (lt-leb _ _ few)
-
-  pub is_full-ten : (elapsed : Bool) → window_frames ≤ sender.sent
-      → elapsed ≡ leb (get_or sender.times tenth 0 + window) time
-      → not elapsed ≡ is_full sender time
-  unfolding is_full
-  is_full-ten elapsed ten test = rw (le-leb _ _ ten, ← test)
-
-pub ruleset isFull-laws = (is_full-few, is_full-ten)
-
--- ---- dueOf, heartbeat_of
-
-module _ (sender : Sender) (time code : ℕ) where
-  pub heartbeat_due-first : sender.sent ≡ 0 → H.Information ≡ heartbeat_due sender time code
-  unfolding heartbeat_due
-  heartbeat_due-first none = rw (eq-eqb _ _ none)
-
-  pub heartbeat_due-event : (sender.sent ≡ 0 → ⊥) → (code ≡ sender.code → ⊥) → H.Event ≡ heartbeat_due sender time code
-  unfolding heartbeat_due
-  heartbeat_due-event some differs = rw (ne_eqb _ _ some, ne_eqb _ _ differs)
-
-  pub heartbeat_due-period : (elapsed : Bool) → (sender.sent ≡ 0 → ⊥) → code ≡ sender.code
-      → elapsed ≡ leb (get_or sender.times 0 0 + period) time → elapsed ≡ true
-      → H.Information ≡ heartbeat_due sender time code
-  unfolding heartbeat_due
-  heartbeat_due-period elapsed some same test passed = rw (ne_eqb _ _ some, eq-eqb _ _ same, ← test, passed)
-
-  pub heartbeat_due-nothing : (elapsed : Bool) → (sender.sent ≡ 0 → ⊥) → code ≡ sender.code
-      → elapsed ≡ leb (get_or sender.times 0 0 + period) time → elapsed ≡ false
-      → H.Nothing ≡ heartbeat_due sender time code
-  unfolding heartbeat_due
-  heartbeat_due-nothing elapsed some same test left = rw (ne_eqb _ _ some, eq-eqb _ _ same, ← test, left)
-
-  pub heartbeat_of_full : (full : Bool) → full ≡ is_full sender time → full ≡ true
-      → H.Nothing ≡ heartbeat_of sender time code
-  unfolding heartbeat_of
-  heartbeat_of_full full test passed = rw (← test, passed)
-
-  pub heartbeat_of-due : (full : Bool) (answer : Heartbeat) → full ≡ is_full sender time → full ≡ false
-      → answer ≡ heartbeat_due sender time code
-      → answer ≡ heartbeat_of sender time code
-  unfolding heartbeat_of
-  heartbeat_of-due full answer test left due = rw (← test, left) due
-
-  -- ---- with_frame, after_heartbeat
-
-  pub with_frame-few : (times : List ℕ) → times ≡ take 10 (time ∷ sender.times) → sender.sent < window_frames
-      → record { times = times; asked = time; code = code; sent = sender.sent + 1 } ≡ with_frame sender time code
-  unfolding with_frame
-  with_frame-few times ten few = rw (ten, lt-ltb _ _ few)
-
-  pub with_frame-ten : (times : List ℕ) → times ≡ take 10 (time ∷ sender.times) → window_frames ≤ sender.sent
-      → record { times = times; asked = time; code = code; sent = sender.sent } ≡ with_frame sender time code
-  unfolding with_frame
-  with_frame-ten times ten many = rw (ten, le-ltb _ _ many)
-
-  module _ (heartbeat : Heartbeat) where
-    pub after-information : (answer : Sender) → heartbeat ≡ H.Information → answer ≡ with_frame sender time code
-        → answer ≡ after_heartbeat heartbeat sender time code
-    unfolding after_heartbeat
-    after-information answer case frame = rw case frame
-
-    pub after-event : (answer : Sender) → heartbeat ≡ H.Event → answer ≡ with_frame sender time code
-        → answer ≡ after_heartbeat heartbeat sender time code
-    unfolding after_heartbeat
-    after-event answer case frame = rw case frame
-
-    pub after_nothing : heartbeat ≡ H.Nothing
-        → with_question sender time ≡ after_heartbeat heartbeat sender time code
-    unfolding after_heartbeat
-    after_nothing case = rw case
-
-    pub after-refused : (number : ℕ) → heartbeat ≡ H.Refused number
-        → sender ≡ after_heartbeat heartbeat sender time code
-    unfolding after_heartbeat
-    after-refused number case = rw case
-
-pub ruleset heartbeatDue-laws = (heartbeat_due-first, heartbeat_due-event, heartbeat_due-period, heartbeat_due-nothing)
-
-pub ruleset heartbeatOf-laws = (heartbeat_of_full, heartbeat_of-due)
-
-pub ruleset withFrame-laws = (with_frame-few, with_frame-ten)
-
-pub ruleset after-laws = (after-information, after-event, after_nothing, after-refused)
-
--- ---- question_number
-
-module _ (asked port time room octets : ℕ) where
-  pub question_number_limit : time_limit ≤ time → time_too_large ≡ question_number (ltb time asked) port time room octets
-  unfolding question_number first_that_applies
-  question_number_limit late = rw (le-leb _ _ late)
-
-  pub question_number-early : time < time_limit → time < asked
-      → time_before_state ≡ question_number (ltb time asked) port time room octets
-  unfolding question_number first_that_applies
-  question_number-early in_time_lem early = rw (lt-leb _ _ in_time_lem, lt-ltb _ _ early)
-
-  pub question_number-port : time < time_limit → asked ≤ time → last_input < port
-      → input_out_of_range ≡ question_number (ltb time asked) port time room octets
-  unfolding question_number first_that_applies
-  question_number-port in_time_lem after past = rw (lt-leb _ _ in_time_lem, le-ltb _ _ after, lt-ltb _ _ past)
-
-  pub question_number-buffer : time < time_limit → asked ≤ time → port ≤ last_input → room < written_length
-      → buffer_too_short ≡ question_number (ltb time asked) port time room octets
-  unfolding question_number first_that_applies
-  question_number-buffer in_time_lem after inside short =
-      rw (lt-leb _ _ in_time_lem, le-ltb _ _ after, le-ltb _ _ inside, lt-ltb _ _ short)
-
-  pub question_number-source : time < time_limit → asked ≤ time → port ≤ last_input → written_length ≤ room
-      → (octets ≡ source_length → ⊥)
-      → source_not_six ≡ question_number (ltb time asked) port time room octets
-  unfolding question_number first_that_applies
-  question_number-source in_time_lem after inside long other =
-      rw (lt-leb _ _ in_time_lem, le-ltb _ _ after, le-ltb _ _ inside, le-ltb _ _ long, ne_eqb _ _ other)
-
-  pub question_number-accepted : time < time_limit → asked ≤ time → port ≤ last_input → written_length ≤ room
-      → octets ≡ source_length
-      → accepted ≡ question_number (ltb time asked) port time room octets
-  unfolding question_number first_that_applies
-  question_number-accepted in_time_lem after inside long six =
-      rw (lt-leb _ _ in_time_lem, le-ltb _ _ after, le-ltb _ _ inside, le-ltb _ _ long, eq-eqb _ _ six)
-
-pub ruleset questionNumber-laws = (
-  question_number_limit,
-  question_number-early,
-  question_number-port,
-  question_number-buffer,
-  question_number-source,
-  question_number-accepted,
-)
 
 -- ---- content_by
 
@@ -229,22 +92,11 @@ module _ (asked port time room octets number : ℕ)
 
 pub ruleset lent-laws = (source-six, buffer-long)
 
-pub code-small : (state : Selector) (codes : List ℕ) (port : ℕ) → codes ≡ outgoing_codes state
-    → get_or codes port 0 ≤ largest_code
-code-small state codes port told = rw told (code_of_port-small state port)
-
 -- ---- one sender by itself
 
-module _ (sender : Sender) (port : ℕ) where
-  pub last_asked-none : last_input < port → 0 ≡ last_asked sender port
-  unfolding last_asked
-  last_asked-none past = rw (lt-ltb _ _ past)
-
-  pub last_asked-port : port ≤ last_input → sender.asked ≡ last_asked sender port
-  unfolding last_asked
-  last_asked-port inside = rw (le-ltb _ _ inside)
-
-pub ruleset lastAsked-laws = (last_asked-none, last_asked-port)
+pub last_asked-port : (sender : Sender) (port : ℕ) → port ≤ last_input → sender.asked ≡ last_asked sender port
+unfolding last_asked
+last_asked-port sender port inside = rw (le-ltb _ _ inside)
 
 module _ (sender : Sender) (port time code : ℕ) (source before : List ℕ) (last number : ℕ)
     (l : last ≡ last_asked sender port)

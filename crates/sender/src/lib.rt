@@ -81,6 +81,7 @@ impl Sender {
     };
 
     // Whether ten frames carry times later than 1,000 ms before a time: the tenth last does.
+    #[tactic(auto, unfolding(crate::specs::Sender::is_full))]
     fn is_full(&self, time: u64) -> bool
         ensures { result ≡ is_full self.now time }
     {
@@ -88,6 +89,7 @@ impl Sender {
     }
 
     // The frame that is due, where the window is not full.
+    #[tactic(auto, unfolding(crate::specs::Sender::heartbeat_due))]
     fn due_frame(&self, time: u64, code: u32) -> Heartbeat
         ensures { result ≡ heartbeat_due self.now time code }
     {
@@ -103,6 +105,7 @@ impl Sender {
     }
 
     // What an accepted question is answered with.
+    #[tactic(auto, unfolding(crate::specs::Sender::heartbeat_of))]
     fn heartbeat(&self, time: u64, code: u32) -> Heartbeat
         ensures { result ≡ heartbeat_of self.now time code }
     {
@@ -114,6 +117,7 @@ impl Sender {
     }
 
     // A frame has gone out: its time is the latest of the ten.
+    #[tactic(auto, using(crate::proofs::SenderLaws::latest_ten), unfolding(crate::specs::Sender::with_frame))]
     fn with_frame(&mut self, time: u64, code: u32)
         ensures { self.new ≡ with_frame self.old time code }
     {
@@ -127,6 +131,7 @@ impl Sender {
     }
 
     // An accepted question has had its answer.
+    #[tactic(auto, unfolding(crate::specs::Sender::after_heartbeat))]
     fn after(&mut self, heartbeat: Heartbeat, time: u64, code: u32)
         ensures { self.new ≡ after_heartbeat heartbeat self.old time code }
     {
@@ -138,6 +143,7 @@ impl Sender {
     }
 
     // The time of a port's last question: a port above 15 has no sender, and no last question.
+    #[tactic(auto, unfolding(crate::specs::Sender::last_asked))]
     fn last_asked(&self, port: u64) -> u64
         ensures { result ≡ last_asked self.now port }
     {
@@ -219,6 +225,7 @@ impl Senders {
 // The number that refuses a question, the smallest that applies; 0 where none does. `asked` is the
 // time of the port's last accepted question, `room` the length of the lent buffer and `octets` that
 // of the lent source address.
+#[tactic(auto, unfolding(crate::specs::Heartbeat::question_number, numbers::specs::Rows::first_that_applies))]
 fn question_number(asked: u64, port: u64, time: u64, room: usize, octets: usize) -> u8
     ensures { result ≡ question_number (ltb time asked) port time room octets }
 {

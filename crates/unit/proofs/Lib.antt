@@ -1,4 +1,4 @@
--- `UnitLaws`: the code's definitions, way by way. `Ticks`: a tick and an event of one selector. `Halves`, `Times`,
+-- `UnitLaws`: what a tick comes with. `Ticks`: a tick and an event of one selector. `Halves`, `Times`,
 -- `Output`, `Runs`, `Agree`, `Cases`: the theorems.
 pub mod UnitLaws
 pub mod Ticks

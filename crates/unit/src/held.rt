@@ -77,6 +77,7 @@ impl StateHeld {
 
 // A start of a profile with a minimum: two fresh selectors, and the minimum. One that is out of
 // range is refused with 6.
+#[tactic(auto, unfolding(crate::specs::Kept::started_unit))]
 pub fn start_unit(profile: Profile, minimum: Quality) -> UnitStartedHeld
     ensures { started_in result ≡ started_unit profile minimum }
 {
@@ -99,6 +100,7 @@ pub fn start_unit(profile: Profile, minimum: Quality) -> UnitStartedHeld
 
 impl UnitHeld {
     // One event with its frame read, sent to a half: the number of each selector.
+    #[tactic(auto, unfolding(crate::specs::Kept::step_unit_read))]
     pub fn step_unit(&mut self, to: Half, event: Event, read: FrameRead) -> UnitNumbers
         ensures { stepped_in self.new result ≡ step_unit_read (unit_in self.old) to event read }
     {

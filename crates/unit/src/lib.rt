@@ -42,6 +42,7 @@ pub fn is_minimum(profile: Profile, minimum: Quality) -> bool
 
 // The number that a start with an option's number, a place's and a minimum is answered with: 6
 // where the minimum or the place of PROV is out of range, and then there is none.
+#[tactic(auto, unfolding(crate::specs::Unit::unit_start_number))]
 pub fn unit_start_number(option: u8, provplace: u8, minimum: Quality) -> u8
     ensures { result ≡ unit_start_number option provplace minimum }
 {
@@ -66,6 +67,7 @@ fn goes_to_both(limits: Limits, kind: u8) -> bool
 }
 
 // Whether an event goes to a half.
+#[tactic(auto, unfolding(crate::specs::Unit::goes_to, crate::specs::Unit::is_to))]
 pub fn goes_to(limits: Limits, kind: u8, to: Half, half: Half) -> bool
     ensures { result ≡ goes_to limits kind to half }
 {
@@ -74,6 +76,7 @@ pub fn goes_to(limits: Limits, kind: u8, to: Half, half: Half) -> bool
 
 // One selector's own step: a tick at the event's time, and then the event itself where it goes
 // there. A tick has no frame, and none is looked at for it.
+#[tactic(auto, using(crate::proofs::UnitLaws::read_code_none), unfolding(crate::specs::Kept::half_step))]
 pub fn half_step(
     times: &mut [u64; TIMES],
     small: &mut [u8; SMALL],
