@@ -25,10 +25,10 @@ use Rattle.sender.proofs.Agrees.{asked-refused}
 use Rattle.questions.specs.declared.LineText.{LineText}
 use Rattle.questions.specs.declared.QuestionAnswer.{QuestionAnswer}
 use Rattle.questions.specs.declared.QuestionRead.{QuestionRead}
-use Rattle.questions.specs.declared.QuestionRead.TheVariants as Q
+use Rattle.std.specs.Prelude.{None, Some}
 use Rattle.questions.specs.Line.{part_length, first_part, has_more, other_parts, number_said, is_source, has_mark, is_number_part, read_question}
 use Rattle.questions.specs.Answer.{longest_question, asked_in, frame_text, nothing_text, no_question_text, heartbeat_text, lent_room, put_question}
-use Rattle.questions.specs.Asked.{padded, held_line, LentAlike, answered_asked, answered_read, answered_question}
+use Rattle.questions.specs.Asked.{padded, held_line, LentAlike, answered_none, answered_asked, answered_read, answered_question}
 use Rattle.questions.proofs.Texts.{lent_room-fits}
 
 -- ---- a question that is put
@@ -180,7 +180,7 @@ source-at line =
           ),
     )
 
-module _ (line : List ℕ) (port time room start : ℕ) (is : read_question line ≡ Q.Question port time room start) where
+module _ (line : List ℕ) (read : QuestionRead) (told : Some read ≡ read_question line) where
   abbrev first : List ℕ
   first = other_parts line
 
@@ -194,7 +194,7 @@ module _ (line : List ℕ) (port time room start : ℕ) (is : read_question line
   source = other_parts third
 
   record Starts : Type 0 where
-    place : start ≡ length line - length source
+    place : read.start ≡ length line - length source
     address : is_source source ≡ true
 
   starts : Starts
@@ -204,22 +204,23 @@ module _ (line : List ℕ) (port time room start : ℕ) (is : read_question line
       has_mark line && has_more line && is_number_part first && is_number_part second && is_number_part third in
       by_bool (parts && is_source source)
       (λ yes.
-      let same : Q.Question (number_said (first_part first)) (number_said (first_part second))
-      (number_said (first_part third))
-      (length line - length source)
-      ≡ Q.Question port time room start = rw yes at is in
+      let same : Some read ≡ Some
+      (record {
+        port = number_said (first_part first);
+        time = number_said (first_part second);
+        room = number_said (first_part third);
+        start = length line - length source;
+      }) = rw yes at told in
       record { place = cc; address = both-second parts (is_source source) yes })
-      (λ no.
-      let wrong : Q.Nothing ≡ Q.Question port time room start = rw no at is in
-      absurd (let other : ◌≡◌ {A = ℕ} 0 1 = cc in omega arith))
+      (λ no. let wrong : Some read ≡ None = rw no at told in cc)
 
-  pub start_within : start ≤ length line
+  pub start_within : read.start ≤ length line
   start_within = omega (arith, starts.place)
 
-  pub start_source : is_source (drop start line) ≡ true
+  pub start_source : is_source (drop read.start line) ≡ true
   start_source =
       let at = source-at line in
-      let here : drop start line ≡ source =
+      let here : drop read.start line ≡ source =
       ap (λ (n : ℕ). drop n line) starts.place
       ∙ ap (λ (text : List ℕ). drop (length line - length text) line) at.1
       ∙ drop-back line at.0
@@ -233,16 +234,9 @@ rest_of line start = take (length line - start) (drop start line)
 rest_all : (line : List ℕ) (start : ℕ) → rest_of line start ≡ drop start line
 rest_all line start = take_all (length line - start) (drop start line) (omega (arith, length-drop start line))
 
-pub source-lent : (line : List ℕ) (read : QuestionRead) (port time room start : ℕ) → read ≡ read_question line
-    → read ≡ Q.Question port time room start
-    → is_source (rest_of line start) ≡ true
-source-lent line read port time room start told is =
-    ap is_source (rest_all line start) ∙ start_source line port time room start (sym told ∙ is)
-
-pub start_lent_lem : (line : List ℕ) (read : QuestionRead) (port time room start : ℕ) → read ≡ read_question line
-    → read ≡ Q.Question port time room start
-    → start ≤ length line
-start_lent_lem line read port time room start told is = start_within line port time room start (sym told ∙ is)
+pub source-lent : (line : List ℕ) (read : QuestionRead) → Some read ≡ read_question line
+    → is_source (rest_of line read.start) ≡ true
+source-lent line read told = ap is_source (rest_all line read.start) ∙ start_source line read told
 
 pub octets-lent : (octets text : List ℕ) (count : ℕ) → octets ≡ padded 32 (octets_of text)
     → count ≡ length (octets_of text)
@@ -253,34 +247,32 @@ octets-lent octets text count holds size =
 -- ---- answered_question
 
 module _ (senders : Senders) (state : Selector) (line : List ℕ) where
-  pub answered-long : (text : LineText) → longest_question < length line → text ≡ held_line no_question_text
-      → record { senders = senders; text = text } ≡ answered_question senders state line
+  pub answered-long : longest_question < length line → answered_none senders ≡ answered_question senders state line
   unfolding answered_read asked_in
-  answered-long text long is = rw (is, lt-ltb longest_question (length line) long)
+  answered-long long = rw (lt-ltb longest_question (length line) long)
 
-  module _ (read : QuestionRead) (short : length line ≤ longest_question) (told : read ≡ read_question line) where
-    asked_in_lem : read ≡ asked_in line
+  module _ (short : length line ≤ longest_question) where
+    asked_in_lem : read_question line ≡ asked_in line
     unfolding asked_in
-    asked_in_lem = told ∙ (rw (le-ltb longest_question (length line) short))
+    asked_in_lem = rw (le-ltb longest_question (length line) short)
 
-    pub answered-nothing : (text : LineText) → read ≡ Q.Nothing → text ≡ held_line no_question_text
-        → record { senders = senders; text = text } ≡ answered_question senders state line
+    pub answered-nothing : None ≡ read_question line → answered_none senders ≡ answered_question senders state line
     unfolding answered_read
-    answered-nothing text none is = rw (is, ← asked_in_lem, none)
+    answered-nothing none = rw (← asked_in_lem, ← none)
 
-    pub answered-asked : (port time room start count : ℕ) (octets : List ℕ) (answer : QuestionAnswer)
-        → read ≡ Q.Question port time room start
-        → octets ≡ padded 32 (octets_of (rest_of line start))
-        → count ≡ length (octets_of (rest_of line start))
-        → answer ≡ answered_asked senders (put_question state port time room (take count octets))
+    pub answered-asked : (read : QuestionRead) (count : ℕ) (octets : List ℕ) (answer : QuestionAnswer)
+        → Some read ≡ read_question line
+        → octets ≡ padded 32 (octets_of (rest_of line read.start))
+        → count ≡ length (octets_of (rest_of line read.start))
+        → answer ≡ answered_asked senders (put_question state read.port read.time read.room (take count octets))
         → answer ≡ answered_question senders state line
     unfolding answered_read
-    answered-asked port time room start count octets answer is holds size asks =
-        let source : take count octets ≡ octets_of (drop start line) =
+    answered-asked read count octets answer told holds size asks =
+        let source : take count octets ≡ octets_of (drop read.start line) =
         ap (λ (n : ℕ). take n octets) size
-        ∙ ap (take (length (octets_of (rest_of line start)))) holds
-        ∙ take_at (octets_of (rest_of line start)) _ (length (octets_of (rest_of line start))) refl
-        ∙ ap octets_of (rest_all line start) in
+        ∙ ap (take (length (octets_of (rest_of line read.start)))) holds
+        ∙ take_at (octets_of (rest_of line read.start)) _ (length (octets_of (rest_of line read.start))) refl
+        ∙ ap octets_of (rest_all line read.start) in
         asks
-        ∙ ap (λ (text : List ℕ). answered_asked senders (put_question state port time room text)) source
-        ∙ ap (answered_read senders state line) (sym is ∙ asked_in_lem)
+        ∙ ap (λ (text : List ℕ). answered_asked senders (put_question state read.port read.time read.room text)) source
+        ∙ ap (answered_read senders state line) (told ∙ asked_in_lem)

@@ -14,11 +14,9 @@ use borrow.Author.Tests.{eqb-true, eqb-false, leb-true, leb-false, eq-eqb, ne_eq
 use Rattle.digits.specs.Decimal.{decimal_value}
 use Rattle.digits.specs.Digits.{all_digits, space}
 use Rattle.numbers.proofs.Truth.{by_bool}
-use Rattle.text.specs.declared.NumberRead.{NumberRead}
-use Rattle.text.specs.declared.NumberRead.TheVariants as N
+use Rattle.std.specs.Prelude.{Option, None, Some}
 use Rattle.text.specs.Text.{read_number}
-use Rattle.questions.specs.declared.PartRead.TheVariants as P
-use Rattle.questions.specs.Line.{dash, part_length, first_part, has_more, number_said, is_number, is_source, part_end, read_part}
+use Rattle.questions.specs.Line.{dash, part_length, first_part, has_more, number_said, is_number, is_source, part_end, part_at, read_part}
 
 -- ---- part_end
 
@@ -82,7 +80,7 @@ pub ruleset isSource-laws = (is_source-dash, is_source-short, is_source-long, is
 abbrev largest : ℕ
 largest = 18446744073709551615
 
-abbrev read_into : List ℕ → NumberRead
+abbrev read_into : List ℕ → Option ℕ
 read_into part = read_number part largest
 
 some_tests : (count : ℕ) → ltb 0 count ≡ not (eqb count 0)
@@ -98,33 +96,31 @@ small_tests value =
     (λ over. over ∙ sym (le-ltb value (2 ^ 64) (omega (arith, leb-false value largest over))))
 
 -- a number that is read is one by the paper, and no other is
-number_read : (part : List ℕ) → read_into part ≡ cond (is_number part) (N.Number (number_said part)) N.NoNumber
+number_read : (part : List ℕ) → read_into part ≡ cond (is_number part) (Some (number_said part)) None
 unfolding read_number is_number
 number_read part = rw (some_tests (length part), small_tests (decimal_value 0 part))
 
-number-nothing : (value : ℕ) → N.Number value ≡ N.NoNumber → ⊥
-number-nothing value same = let wrong : ◌≡◌ {A = ℕ} 0 1 = cc in omega arith
-
-is_number_not : (part : List ℕ) → read_into part ≡ N.NoNumber → is_number part ≡ false
+is_number_not : (part : List ℕ) → None ≡ read_into part → is_number part ≡ false
 is_number_not part none =
     by_bool (is_number part)
-    (λ is. let wrong : N.Number (number_said part) ≡ N.NoNumber = rw (number_read part, is) at none in absurd (number-nothing _ wrong))
+    (λ is. let wrong : None ≡ Some (number_said part) = rw (number_read part, is) at none in cc)
     (λ not. not)
 
 pub record Says (part : List ℕ) (value : ℕ) : Type 0 where
   pub number : is_number part ≡ true
   pub decimal : value ≡ number_said part
 
-is_number_is : (part : List ℕ) (value : ℕ) → read_into part ≡ N.Number value → Says part value
+is_number_is : (part : List ℕ) (value : ℕ) → Some value ≡ read_into part → Says part value
 is_number_is part value told =
     by_bool (is_number part)
     (λ is.
-    let same : N.Number (number_said part) ≡ N.Number value = rw (number_read part, is) at told in record { number = is; decimal = cc })
-    (λ other. let wrong : N.NoNumber ≡ N.Number value = rw (number_read part, other) at told in absurd (number-nothing value (sym wrong)))
+    let same : Some value ≡ Some (number_said part) = rw (number_read part, is) at told in
+    record { number = is; decimal = cc })
+    (λ other. let wrong : Some value ≡ None = rw (number_read part, other) at told in cc)
 
 module _ (line : List ℕ) (start : ℕ) (inside : start ≤ length line) where
   -- a part that no space ends
-  pub read_part-last : (end : ℕ) → end ≡ part_end line start → end ≡ length line → P.Nothing ≡ read_part line start
+  pub read_part-last : (end : ℕ) → end ≡ part_end line start → end ≡ length line → None ≡ read_part line start
   unfolding read_part
   read_part-last end found over =
       let all : length (drop start line) ≤ part_length (drop start line) = omega (arith, length-drop start line) in
@@ -132,9 +128,7 @@ module _ (line : List ℕ) (start : ℕ) (inside : start ≤ length line) where
       (go (is_number (first_part (drop start line))))
     where
       go : (test : Bool)
-          → P.Nothing
-          ≡ cond (test && false) (P.Number (number_said (first_part (drop start line))) (part_end line start + 1))
-          P.Nothing
+          → None ≡ cond (test && false) (Some (part_at line start)) None
       go true = refl
       go false = refl
 
@@ -159,19 +153,15 @@ module _ (line : List ℕ) (start : ℕ) (inside : start ≤ length line) where
         lt-ltb (part_length (drop start line)) (length (drop start line))
         (omega (arith, length-drop start line, part_end_le line start inside))
 
-    module _ (part : List ℕ) (is : part ≡ take (end - start) (drop start line)) (read : NumberRead)
-        (told : read ≡ read_into part) where
-      first-told : read_into (first_part (drop start line)) ≡ read
-      first-told = ap read_into (sym (is ∙ part-is)) ∙ sym told
+    pub read_part-other : None ≡ read_into (take (end - start) (drop start line)) → None ≡ read_part line start
+    unfolding read_part
+    read_part-other none = rw (is_number_not (first_part (drop start line)) (none ∙ ap read_into part-is))
 
-      pub read_part-other : read ≡ N.NoNumber → P.Nothing ≡ read_part line start
-      unfolding read_part
-      read_part-other none = rw (is_number_not (first_part (drop start line)) (first-told ∙ none))
+    pub read_part-number : (value : ℕ) → Some value ≡ read_into (take (end - start) (drop start line))
+        → Some (record { value = value; next = end + 1 }) ≡ read_part line start
+    unfolding read_part
+    read_part-number value number =
+        let says = is_number_is (first_part (drop start line)) value (number ∙ ap read_into part-is) in
+        rw (says.number, has_more_lem, says.decimal, found)
 
-      pub read_part-number : (value : ℕ) → read ≡ N.Number value → P.Number value (end + 1) ≡ read_part line start
-      unfolding read_part
-      read_part-number value number =
-          let says = is_number_is (first_part (drop start line)) value (first-told ∙ number) in
-          rw (says.number, has_more_lem, says.decimal, found)
-
-pub ruleset readPart-laws = (read_part-last, part-within, next_small, read_part-other, read_part-number)
+pub ruleset readPart-laws = (read_part-last, part-within, next_small)

@@ -11,58 +11,48 @@ use borrow.Author.Tests.{eq-eqb, ne_eqb, lt-ltb, le-ltb, eqb-true, ltb-true}
 use Rattle.digits.specs.Digits.{space}
 use Rattle.numbers.proofs.Truth.{by_bool, both-second}
 use Rattle.questions.specs.declared.PartRead.{PartRead}
-use Rattle.questions.specs.declared.PartRead.TheVariants as P
-use Rattle.questions.specs.declared.QuestionRead.TheVariants as Q
-use Rattle.questions.specs.Line.{mark, part_length, first_part, has_more, other_parts, number_said, is_number, is_source, has_mark, is_number_part, part_end, read_part, read_question}
+use Rattle.std.specs.Prelude.{None, Some}
+use Rattle.questions.specs.Line.{mark, part_length, first_part, has_more, other_parts, number_said, is_number, is_source, has_mark, is_number_part, part_end, part_at, read_part, read_question}
 
 -- ---- what a part that was read says
 
-part-nothing : (value next : ℕ) → P.Number value next ≡ P.Nothing → ⊥
-part-nothing value next same = let wrong : ◌≡◌ {A = ℕ} 0 1 = cc in omega arith
-
-module _ (line : List ℕ) (start : ℕ) (read : PartRead) (told : read ≡ read_part line start) where
-  part_not : read ≡ P.Nothing → is_number_part (drop start line) ≡ false
+module _ (line : List ℕ) (start : ℕ) where
+  part_not : None ≡ read_part line start → is_number_part (drop start line) ≡ false
   unfolding read_part
   part_not none =
       by_bool (is_number_part (drop start line))
-      (λ is.
-      let wrong : P.Number (number_said (first_part (drop start line))) (part_end line start + 1) ≡ P.Nothing =
-      rw is at (sym told ∙ none) in
-      absurd (part-nothing _ _ wrong))
+      (λ is. let wrong : None ≡ Some (part_at line start) = rw is at none in cc)
       (λ other. other)
 
-  record Part (value next : ℕ) : Type 0 where
+  record Part (part : PartRead) : Type 0 where
     number : is_number_part (drop start line) ≡ true
-    decimal : value ≡ number_said (first_part (drop start line))
-    place : next ≡ part_end line start + 1
+    is : part ≡ part_at line start
 
-  part-is : (value next : ℕ) → read ≡ P.Number value next → Part value next
+  part-is : (part : PartRead) → Some part ≡ read_part line start → Part part
   unfolding read_part
-  part-is value next number =
+  part-is part read =
       by_bool (is_number_part (drop start line))
-      (λ is.
-      let same : P.Number (number_said (first_part (drop start line))) (part_end line start + 1) ≡ P.Number value next =
-      rw is at (sym told ∙ number) in
-      record { number = is; decimal = cc; place = cc })
-      (λ other.
-      let wrong : P.Nothing ≡ P.Number value next = rw other at (sym told ∙ number) in
-      absurd (part-nothing value next (sym wrong)))
+      (λ is. let same : Some part ≡ Some (part_at line start) = rw is at read in record { number = is; is = cc })
+      (λ other. let wrong : Some part ≡ None = rw other at read in cc)
 
-  module _ (inside : start ≤ length line) (value next : ℕ) (number : read ≡ P.Number value next) where
-    part : Part value next
-    part = part-is value next number
+  module _ (inside : start ≤ length line) (read : PartRead) (told : Some read ≡ read_part line start) where
+    part : Part read
+    part = part-is read told
 
-    pub next-inside : next ≤ length line
+    place : read.next ≡ part_end line start + 1
+    place = ap (λ (one : PartRead). one.next) part.is
+
+    pub next-inside : read.next ≤ length line
     next-inside =
         let more : has_more (drop start line) ≡ true =
         both-second (is_number (first_part (drop start line))) (has_more (drop start line)) part.number in
         let short : part_length (drop start line) < length (drop start line) = ltb-true _ _ more in
-        omega (arith, part.place, length-drop start line)
+        omega (arith, place, length-drop start line)
 
-    rest-is : drop next line ≡ other_parts (drop start line)
+    rest-is : drop read.next line ≡ other_parts (drop start line)
     rest-is =
-        let place : next ≡ start + suc (part_length (drop start line)) = omega (arith, part.place) in
-        ap (λ (one : ℕ). drop one line) place ∙ sym (drop-drop (suc (part_length (drop start line))) start line)
+        let behind : read.next ≡ start + suc (part_length (drop start line)) = omega (arith, place) in
+        ap (λ (one : ℕ). drop one line) behind ∙ sym (drop-drop (suc (part_length (drop start line))) start line)
 
 -- ---- how a question begins
 
@@ -91,11 +81,11 @@ module _ (line : List ℕ) where
       go true = refl
       go false = refl
 
-  pub question-short : length line < 2 → Q.Nothing ≡ read_question line
+  pub question-short : length line < 2 → None ≡ read_question line
   unfolding read_question
   question-short short = rw (short-begins short)
 
-  pub question-unmarked : 2 ≤ length line → (get_or line 0 0 ≡ mark → ⊥) → Q.Nothing ≡ read_question line
+  pub question-unmarked : 2 ≤ length line → (get_or line 0 0 ≡ mark → ⊥) → None ≡ read_question line
   unfolding read_question
   question-unmarked long other = rw (unmarked-begins other)
 
@@ -110,7 +100,7 @@ two-long (a ∷ []) long = absurd (omega arith)
 two-long (a ∷ b ∷ rest) long = refl
 
 module _ (line : List ℕ) (long : 2 ≤ length line) (marked : get_or line 0 0 ≡ mark) where
-  pub question-joined : (get_or line 1 0 ≡ space → ⊥) → Q.Nothing ≡ read_question line
+  pub question-joined : (get_or line 1 0 ≡ space → ⊥) → None ≡ read_question line
   unfolding read_question has_mark
   question-joined other =
       let two : eqb (part_length line) 1 ≡ false =
@@ -130,99 +120,102 @@ module _ (line : List ℕ) (long : 2 ≤ length line) (marked : get_or line 0 0 
     first-is : other_parts line ≡ drop 2 line
     first-is = rw one-part
 
-    module _ (first : PartRead) (one : first ≡ read_part line 2) where
-      pub question_no_port : first ≡ P.Nothing → Q.Nothing ≡ read_question line
+    pub question_no_port : None ≡ read_part line 2 → None ≡ read_question line
+    unfolding read_question
+    question_no_port none = rw (marked-begins, first-is, part_not line 2 none)
+
+    module _ (port : PartRead) (one : Some port ≡ read_part line 2) where
+      pub second-inside : port.next ≤ length line
+      second-inside = next-inside line 2 long port one
+
+      port-part : Part line 2 port
+      port-part = part-is line 2 port one
+
+      second_is : other_parts (drop 2 line) ≡ drop port.next line
+      second_is = sym (rest-is line 2 long port one)
+
+      pub question_no_time : None ≡ read_part line port.next → None ≡ read_question line
       unfolding read_question
-      question_no_port none = rw (marked-begins, first-is, part_not line 2 first one none)
+      question_no_time none =
+          rw (marked-begins, first-is, port-part.number, second_is, part_not line port.next none)
 
-      module _ (port second : ℕ) (isPort : first ≡ P.Number port second) where
-        pub second-inside : second ≤ length line
-        second-inside = next-inside line 2 first one long port second isPort
+      module _ (time : PartRead) (two : Some time ≡ read_part line port.next) where
+        pub third-inside : time.next ≤ length line
+        third-inside = next-inside line port.next second-inside time two
 
-        port-part : Part line 2 first one port second
-        port-part = part-is line 2 first one port second isPort
+        time-part : Part line port.next time
+        time-part = part-is line port.next time two
 
-        second_is : other_parts (drop 2 line) ≡ drop second line
-        second_is = sym (rest-is line 2 first one long port second isPort)
+        third-is : other_parts (drop port.next line) ≡ drop time.next line
+        third-is = sym (rest-is line port.next second-inside time two)
 
-        module _ (other : PartRead) (two : other ≡ read_part line second) where
-          pub question_no_time : other ≡ P.Nothing → Q.Nothing ≡ read_question line
+        pub question_no_room : None ≡ read_part line time.next → None ≡ read_question line
+        unfolding read_question
+        question_no_room none =
+            rw (
+              marked-begins,
+              first-is,
+              port-part.number,
+              second_is,
+              time-part.number,
+              third-is,
+              part_not line time.next none,
+            )
+
+        module _ (room : PartRead) (three : Some room ≡ read_part line time.next) where
+          pub start_inside : room.next ≤ length line
+          start_inside = next-inside line time.next third-inside room three
+
+          room-part : Part line time.next room
+          room-part = part-is line time.next room three
+
+          source_is : other_parts (drop time.next line) ≡ drop room.next line
+          source_is = sym (rest-is line time.next third-inside room three)
+
+          -- the rest of the line, as the code takes it
+          rest-whole : take (length line - room.next) (drop room.next line) ≡ drop room.next line
+          rest-whole =
+              take_all (length line - room.next) (drop room.next line) (omega (arith, length-drop room.next line))
+
+          pub question_no_source : is_source (take (length line - room.next) (drop room.next line)) ≡ false
+              → None ≡ read_question line
           unfolding read_question
-          question_no_time none =
-              rw (marked-begins, first-is, port-part.number, second_is, part_not line second other two none)
+          question_no_source none =
+              rw (
+                marked-begins,
+                first-is,
+                port-part.number,
+                second_is,
+                time-part.number,
+                third-is,
+                room-part.number,
+                source_is,
+                ap is_source (sym rest-whole) ∙ none,
+              )
 
-          module _ (time third : ℕ) (is_time : other ≡ P.Number time third) where
-            pub third-inside : third ≤ length line
-            third-inside = next-inside line second other two second-inside time third is_time
-
-            time-part : Part line second other two time third
-            time-part = part-is line second other two time third is_time
-
-            third-is : other_parts (drop second line) ≡ drop third line
-            third-is = sym (rest-is line second other two second-inside time third is_time)
-
-            module _ (last : PartRead) (three : last ≡ read_part line third) where
-              pub question_no_room : last ≡ P.Nothing → Q.Nothing ≡ read_question line
-              unfolding read_question
-              question_no_room none =
-                  rw (
-                    marked-begins,
-                    first-is,
-                    port-part.number,
-                    second_is,
-                    time-part.number,
-                    third-is,
-                    part_not line third last three none,
-                  )
-
-              module _ (room start : ℕ) (is_room : last ≡ P.Number room start) where
-                pub start_inside : start ≤ length line
-                start_inside = next-inside line third last three third-inside room start is_room
-
-                room-part : Part line third last three room start
-                room-part = part-is line third last three room start is_room
-
-                source_is : other_parts (drop third line) ≡ drop start line
-                source_is = sym (rest-is line third last three third-inside room start is_room)
-
-                -- the rest of the line, as the code takes it
-                rest-whole : take (length line - start) (drop start line) ≡ drop start line
-                rest-whole = take_all (length line - start) (drop start line) (omega (arith, length-drop start line))
-
-                pub question_no_source : (source : Bool)
-                    → source ≡ is_source (take (length line - start) (drop start line))
-                    → source ≡ false
-                    → Q.Nothing ≡ read_question line
-                unfolding read_question
-                question_no_source source judged none =
-                    rw (
-                      marked-begins,
-                      first-is,
-                      port-part.number,
-                      second_is,
-                      time-part.number,
-                      third-is,
-                      room-part.number,
-                      source_is,
-                      ap is_source (sym rest-whole) ∙ sym judged ∙ none,
-                    )
-
-                pub question-is : (source : Bool) → source ≡ is_source (take (length line - start) (drop start line))
-                    → source ≡ true
-                    → Q.Question port time room start ≡ read_question line
-                unfolding read_question
-                question-is source judged right =
-                    let size : start ≡ length line - length (drop start line) =
-                    omega (arith, length-drop start line, start_inside) in
-                    rw (
-                      marked-begins,
-                      first-is,
-                      port-part.number,
-                      second_is,
-                      time-part.number,
-                      third-is,
-                      room-part.number,
-                      source_is,
-                      ap is_source (sym rest-whole) ∙ sym judged ∙ right,
-                    )
-                    (λ j. Q.Question (port-part.decimal j) (time-part.decimal j) (room-part.decimal j) (size j))
+          pub question-is : is_source (take (length line - room.next) (drop room.next line)) ≡ true
+              → Some (record { port = port.value; time = time.value; room = room.value; start = room.next })
+              ≡ read_question line
+          unfolding read_question
+          question-is right =
+              let size : room.next ≡ length line - length (drop room.next line) =
+              omega (arith, length-drop room.next line, start_inside) in
+              rw (
+                marked-begins,
+                first-is,
+                port-part.number,
+                second_is,
+                time-part.number,
+                third-is,
+                room-part.number,
+                source_is,
+                ap is_source (sym rest-whole) ∙ right,
+              )
+              (λ j.
+              Some
+              (record {
+                port = (port-part.is j).value;
+                time = (time-part.is j).value;
+                room = (room-part.is j).value;
+                start = size j;
+              }))

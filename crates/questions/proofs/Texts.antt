@@ -9,7 +9,7 @@ use native.Mathlib.Omega.{arith}
 use lib.Dec.{eqb, leb, ltb}
 use lib.ListN.{length, get_or, set, take, drop, replicate, length-append, length-replicate}
 use lib.Seq.{set_at, take-suc, length-take-le, take_all, take-length, append_snoc}
-use borrow.Author.Tests.{lt-ltb, le-ltb, ltb-true, leb-true, eqb-true}
+use borrow.Author.Tests.{lt-ltb, le-ltb, ltb-true, leb-true, eqb-true, eq-eqb, ne_eqb}
 use Rattle.digits.specs.Digits.{all_digits, digit_value, octets_of, upper_digit, lower_digit, digits_of}
 use Rattle.digits.proofs.Runs.{and_parts}
 use Rattle.digits.proofs.Values.{octets_of-length}
@@ -62,17 +62,20 @@ number_digits number upper lower isUpper is_lower = rw (isUpper, is_lower)
 
 -- ---- is_asked
 
-pub is_asked-none : (line : List ℕ) → length line ≡ 0 → false ≡ is_asked line
+pub is_asked-none : (line : List ℕ) → length line < 1 → false ≡ is_asked line
 unfolding is_asked
 is_asked-none [] none = refl
 is_asked-none (character ∷ rest) none = absurd (omega arith)
 
-pub is_asked-first : (line : List ℕ) → (length line ≡ 0 → ⊥) → eqb (get_or line 0 0) mark ≡ is_asked line
+pub is_asked-mark : (line : List ℕ) → 1 ≤ length line → get_or line 0 0 ≡ mark → true ≡ is_asked line
 unfolding is_asked
-is_asked-first [] some = absurd (some refl)
-is_asked-first (character ∷ rest) some = refl
+is_asked-mark [] some is = absurd (omega arith)
+is_asked-mark (character ∷ rest) some is = sym (eq-eqb character mark is)
 
-pub ruleset isAsked-laws = (is_asked-none, is_asked-first)
+pub is_asked-other : (line : List ℕ) → 1 ≤ length line → (get_or line 0 0 ≡ mark → ⊥) → false ≡ is_asked line
+unfolding is_asked
+is_asked-other [] some other = absurd (omega arith)
+is_asked-other (character ∷ rest) some other = sym (ne_eqb character mark other)
 
 -- ---- digits_of
 

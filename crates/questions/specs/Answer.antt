@@ -1,6 +1,6 @@
 -- The question that a line says, and the line that answers it: the paper of readings of document 02, "Programs".
 -- `Asked` has what the code does. Assumes nothing.
-use Rattle.std.specs.Prelude.{ℕ, cond, List, [], ◌∷◌, ◌++◌, ltb, length, drop, replicate}
+use Rattle.std.specs.Prelude.{ℕ, cond, Option, None, List, [], ◌∷◌, ◌++◌, ltb, length, drop, replicate}
 use Rattle.digits.specs.Digits.{digits_of, octets_of}
 use Rattle.reader.specs.Lines.{line_feed}
 use Rattle.eventlog.specs.Line.{longest_new_line}
@@ -10,7 +10,6 @@ use Rattle.sender.specs.declared.Heartbeat.{Heartbeat}
 use Rattle.sender.specs.declared.Heartbeat.TheVariants as H
 use Rattle.sender.specs.Heartbeat.{Question, question_of}
 use Rattle.questions.specs.declared.QuestionRead.{QuestionRead}
-use Rattle.questions.specs.declared.QuestionRead.TheVariants as Q
 use Rattle.questions.specs.Line.{mark, dash, read_question}
 
 -- ---- the text
@@ -41,8 +40,8 @@ abbrev pub longest_question : ℕ
 longest_question = longest_new_line
 
 -- what a line that begins with `?` says
-unfoldable pub asked_in : List ℕ → QuestionRead
-asked_in line = cond (ltb longest_question (length line)) Q.Nothing (read_question line)
+unfoldable pub asked_in : List ℕ → Option QuestionRead
+asked_in line = cond (ltb longest_question (length line)) None (read_question line)
 
 -- "LENGTH is that of the lent buffer"; no more than a frame needs is lent, since a longer buffer is answered alike
 -- (`LentAlike`)
@@ -54,5 +53,6 @@ abbrev pub put_question : Selector → ℕ → ℕ → ℕ → List ℕ → Ques
 put_question state port time room source = question_of port time state source (replicate (lent_room room) 0)
 
 -- the question that a line says, of its numbers and the place where SOURCE starts
-abbrev pub line_question : Selector → List ℕ → ℕ → ℕ → ℕ → ℕ → Question
-line_question state line port time room start = put_question state port time room (octets_of (drop start line))
+abbrev pub line_question : Selector → List ℕ → QuestionRead → Question
+line_question state line read =
+    put_question state read.port read.time read.room (octets_of (drop read.start line))

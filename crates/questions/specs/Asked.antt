@@ -1,6 +1,6 @@
 -- What the code makes of a line that begins with `?`, by the senders that it keeps. Cited by `src/lib.rt`; `Answer` has
 -- the texts. Assumes nothing.
-use Rattle.std.specs.Prelude.{ℕ, ◌-◌, List, ◌++◌, ◌≡◌, length, replicate}
+use Rattle.std.specs.Prelude.{ℕ, ◌-◌, Option, None, Some, List, ◌++◌, ◌≡◌, length, replicate}
 use Rattle.selector.specs.declared.Selector.{Selector}
 use Rattle.sender.specs.declared.Senders.{Senders}
 use Rattle.sender.specs.Heartbeat.{Question, question_of}
@@ -8,7 +8,6 @@ use Rattle.sender.specs.Sender.{asked, content_of}
 use Rattle.questions.specs.declared.LineText.{LineText}
 use Rattle.questions.specs.declared.QuestionAnswer.{QuestionAnswer}
 use Rattle.questions.specs.declared.QuestionRead.{QuestionRead}
-use Rattle.questions.specs.declared.QuestionRead.TheVariants as Q
 use Rattle.questions.specs.Answer.{no_question_text, heartbeat_text, put_question, line_question, asked_in}
 
 -- a buffer of any length is answered as the one that is lent for it
@@ -37,11 +36,14 @@ answered_asked senders question =
       text = held_line (heartbeat_text (asked senders question).heartbeat (content_of senders question));
     }
 
+-- what a line comes to that says no question
+abbrev pub answered_none : Senders → QuestionAnswer
+answered_none senders = record { senders = senders; text = held_line no_question_text }
+
 -- what a line that was read comes to
-unfoldable pub answered_read : Senders → Selector → List ℕ → QuestionRead → QuestionAnswer
-answered_read senders state line Q.Nothing = record { senders = senders; text = held_line no_question_text }
-answered_read senders state line (Q.Question port time room start) =
-    answered_asked senders (line_question state line port time room start)
+unfoldable pub answered_read : Senders → Selector → List ℕ → Option QuestionRead → QuestionAnswer
+answered_read senders state line None = answered_none senders
+answered_read senders state line (Some read) = answered_asked senders (line_question state line read)
 
 -- what a line that begins with `?` comes to
 abbrev pub answered_question : Senders → Selector → List ℕ → QuestionAnswer

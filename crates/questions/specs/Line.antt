@@ -1,12 +1,10 @@
 -- A question as a line of text, `? PORT TIME LENGTH SOURCE`: the paper of readings of document 02, "Programs". Cited by
 -- `src/lib.rt`. A character is its number in ASCII. Assumes nothing.
-use Rattle.std.specs.Prelude.{ℕ, suc, ◌+◌, ◌-◌, ◌%◌, ◌^◌, Bool, false, not, ◌&&◌, cond, List, [], ◌∷◌, eqb, leb, ltb, length, get_or, take, drop}
+use Rattle.std.specs.Prelude.{ℕ, suc, ◌+◌, ◌-◌, ◌%◌, ◌^◌, Bool, false, not, ◌&&◌, cond, Option, None, Some, List, [], ◌∷◌, eqb, leb, ltb, length, get_or, take, drop}
 use Rattle.digits.specs.Decimal.{decimal_value}
 use Rattle.digits.specs.Digits.{all_digits, space, all_numerals}
 use Rattle.questions.specs.declared.PartRead.{PartRead}
-use Rattle.questions.specs.declared.PartRead.TheVariants as P
 use Rattle.questions.specs.declared.QuestionRead.{QuestionRead}
-use Rattle.questions.specs.declared.QuestionRead.TheVariants as Q
 
 -- the mark that a question begins with
 abbrev pub mark : ℕ
@@ -61,7 +59,7 @@ abbrev pub is_number_part : List ℕ → Bool
 is_number_part text = is_number (first_part text) && has_more text
 
 -- "Any other line that begins with `?`" is none
-unfoldable pub read_question : List ℕ → QuestionRead
+unfoldable pub read_question : List ℕ → Option QuestionRead
 read_question line =
     let first = other_parts line in
     let second = other_parts first in
@@ -70,9 +68,14 @@ read_question line =
     cond
     (has_mark line && has_more line && is_number_part first && is_number_part second && is_number_part third
     && is_source source)
-    (Q.Question (number_said (first_part first)) (number_said (first_part second)) (number_said (first_part third))
-    (length line - length source))
-    Q.Nothing
+    (Some
+    (record {
+      port = number_said (first_part first);
+      time = number_said (first_part second);
+      room = number_said (first_part third);
+      start = length line - length source;
+    }))
+    None
 
 -- ---- the code's parts of it
 
@@ -80,8 +83,10 @@ read_question line =
 abbrev pub part_end : List ℕ → ℕ → ℕ
 part_end text start = start + part_length (drop start text)
 
--- the number from a place that a space ends, and the place after the space
-unfoldable pub read_part : List ℕ → ℕ → PartRead
-read_part line start =
-    cond (is_number_part (drop start line)) (P.Number (number_said (first_part (drop start line))) (part_end line start + 1))
-    P.Nothing
+-- the number that the part from a place says, and the place after the space that ends it
+abbrev pub part_at : List ℕ → ℕ → PartRead
+part_at line start = record { value = number_said (first_part (drop start line)); next = part_end line start + 1 }
+
+-- the number from a place that a space ends, if there is one
+unfoldable pub read_part : List ℕ → ℕ → Option PartRead
+read_part line start = cond (is_number_part (drop start line)) (Some (part_at line start)) None

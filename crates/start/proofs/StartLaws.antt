@@ -16,8 +16,7 @@ use Rattle.numbers.proofs.Truth.{by_bool}
 use Rattle.digits.specs.Digits.{numeral0, numeral9, is_between, is_numeral, all_digits, digit_value, all_numerals}
 use Rattle.digits.specs.Decimal.{decimal_value}
 use Rattle.digits.proofs.Runs.{and_parts}
-use Rattle.text.specs.declared.NumberRead.{NumberRead}
-use Rattle.text.specs.declared.NumberRead.TheVariants.{Number, NoNumber}
+use Rattle.std.specs.Prelude.{None, Some}
 use Rattle.text.specs.Text.{read_number}
 use Rattle.start.specs.declared.StartRead.{StartRead}
 use Rattle.start.specs.declared.StartRead.TheVariants.{Started, Refused, NoStart}
@@ -119,46 +118,38 @@ start_of_above : (provplace marks : ℕ) → last_prov_place < provplace → Ref
 unfolding start_of start_number
 start_of_above provplace marks above = rw (lt-ltb last_prov_place provplace above)
 
-number-none : (value : ℕ) → Number value ≡ NoNumber → ⊥
-number-none value same = let wrong : ◌≡◌ {A = ℕ} 0 1 = cc in omega arith
-
 module _ (provplace : List ℕ) (marks most : ℕ) (decimal : is_decimal provplace ≡ true) where
   -- a number that is not read is too large
-  pub number-above : (read : NumberRead) → read ≡ read_number provplace most → read ≡ NoNumber
-      → most < decimal_value 0 provplace
+  pub number-above : None ≡ read_number provplace most → most < decimal_value 0 provplace
   unfolding read_number is_decimal
-  number-above read is none =
+  number-above none =
       by_bool (leb (decimal_value 0 provplace) most)
       (λ fits.
       let parts = and_parts (ltb 0 (length provplace)) (all_numerals provplace) decimal in
-      absurd (number-none (decimal_value 0 provplace) (rw (parts.0, parts.1, fits) at (sym is ∙ none))))
+      let wrong : None ≡ Some (decimal_value 0 provplace) = rw (parts.0, parts.1, fits) at none in
+      cc)
       (λ over. leb-false (decimal_value 0 provplace) most over)
 
-  pub place-above : (read : NumberRead) → read ≡ read_number provplace most → read ≡ NoNumber → last_prov_place ≤ most
+  pub place-above : None ≡ read_number provplace most → last_prov_place ≤ most
       → Refused ≡ start_of (decimal_value 0 provplace) marks
-  place-above read is none enough =
-      start_of_above (decimal_value 0 provplace) marks (omega (arith, number-above read is none))
+  place-above none enough = start_of_above (decimal_value 0 provplace) marks (omega (arith, number-above none))
 
-  pub place_is : (read : NumberRead) (number : ℕ) → read ≡ read_number provplace most → read ≡ Number number
-      → number ≡ decimal_value 0 provplace
+  pub place_is : (number : ℕ) → Some number ≡ read_number provplace most → number ≡ decimal_value 0 provplace
   unfolding read_number is_decimal
-  place_is read number reads told =
-      let is = sym reads ∙ told in
+  place_is number reads =
       let parts = and_parts (ltb 0 (length provplace)) (all_numerals provplace) decimal in
       by_bool (leb (decimal_value 0 provplace) most)
       (λ fits.
-      let same : Number (decimal_value 0 provplace) ≡ Number number = rw (parts.0, parts.1, fits) at is in
+      let same : Some number ≡ Some (decimal_value 0 provplace) = rw (parts.0, parts.1, fits) at reads in
       cc)
       (λ over.
-      let same : NoNumber ≡ Number number = rw (parts.0, parts.1, over) at is in
-      absurd (number-none number (sym same)))
+      let wrong : Some number ≡ None = rw (parts.0, parts.1, over) at reads in
+      cc)
 
-  pub place_start : (start : StartRead) (read : NumberRead) (number : ℕ) → read ≡ read_number provplace most
-      → read ≡ Number number
+  pub place_start : (start : StartRead) (number : ℕ) → Some number ≡ read_number provplace most
       → start ≡ start_of number marks
       → start ≡ start_of (decimal_value 0 provplace) marks
-  place_start start read number reads told is =
-      is ∙ ap (λ (value : ℕ). start_of value marks) (place_is read number reads told)
+  place_start start number reads is = is ∙ ap (λ (value : ℕ). start_of value marks) (place_is number reads)
 
 -- ---- start_in
 

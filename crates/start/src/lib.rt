@@ -16,7 +16,6 @@ ghost use Rattle.start.specs.Said.{start_stream, start_said};
 use calls::{Ending, Stream, argument, write_alone};
 use numbers::profile::{OPTION_TWO, ProvPlace, prov_place_in, start_number};
 use numbers::refusal::ACCEPTED;
-use text::NumberRead;
 
 // The words of `2 PLACE MARKS`.
 const ARGUMENTS: usize = 3;
@@ -111,8 +110,7 @@ fn start_at(provplace: &[u8], marks: u16) -> StartRead
     requires { is_decimal provplace.now ≡ true }
     ensures { result ≡ start_of (decimal_value 0 provplace.now) marks }
 {
-    let read = text::read_number(provplace, LARGEST);
-    let NumberRead::Number(number) = read else {
+    let Some(number) = text::read_number(provplace, LARGEST) else {
         return StartRead::Refused;
     };
     start_of(number as u8, marks)

@@ -15,8 +15,7 @@ use Rattle.digits.specs.declared.decimal.DecimalText.{DecimalText}
 use Rattle.digits.specs.Digits.{upper_digit, lower_digit, digits_of, numeral0, numeral9, is_between, is_numeral, space, all_numerals}
 use Rattle.digits.specs.Decimal.{decimal_places, decimal_of, decimal, decimal_value}
 use Rattle.digits.proofs.Decimals.{places-enough, decimal_of-length}
-use Rattle.text.specs.declared.NumberRead.{NumberRead}
-use Rattle.text.specs.declared.NumberRead.TheVariants.{Number, NoNumber}
+use Rattle.std.specs.Prelude.{Option, None, Some}
 use Rattle.text.specs.Text.{widest_number, spaced_numbers, numbers_text, with_text, has_room, roomed_text, PutNumbers, read_number}
 use Rattle.text.specs.PutAt.{next_text, Put}
 
@@ -217,9 +216,6 @@ put_start numbers place before =
 module _ {numbers : List ℕ} {place : ℕ} {before : List ℕ} {taken end : ℕ} {after : List ℕ}
     (so_far : PutSoFar numbers place before taken end after)
     (room : place + widest_number * length numbers ≤ length before) where
-  pub put-room : taken < length numbers → end + widest_number ≤ length after
-  put-room more = omega (arith, so_far.short, so_far.size)
-
   pub put_next : (next : ℕ) (later : List ℕ) → taken < length numbers
       → get_or numbers taken 0 < 18446744073709551616
       → Put (next_text (ltb 0 taken) (get_or numbers taken 0)) end after next later
@@ -275,12 +271,12 @@ put-none numbers place before tight =
 -- ---- read_number
 
 -- what reading the rest comes to, once a value has been passed
-unfoldable pub read_on : ℕ → List ℕ → ℕ → NumberRead
+unfoldable pub read_on : ℕ → List ℕ → ℕ → Option ℕ
 read_on value rest most =
-    cond (all_numerals rest && leb (decimal_value value rest) most) (Number (decimal_value value rest))
-    NoNumber
+    cond (all_numerals rest && leb (decimal_value value rest) most) (Some (decimal_value value rest))
+    None
 
-pub read_number-none : (text : List ℕ) (most : ℕ) → length text ≡ 0 → NoNumber ≡ read_number text most
+pub read_number-none : (text : List ℕ) (most : ℕ) → length text ≡ 0 → None ≡ read_number text most
 unfolding read_number
 read_number-none [] most none = refl
 read_number-none (c ∷ cs) most none = absurd (omega arith)
@@ -303,17 +299,17 @@ module _ (text : List ℕ) (most value passed : ℕ) (inside : passed < length t
   rest = drop (suc passed) text
 
   -- a character that is no numeral
-  pub read_on_low : character < numeral0 → NoNumber ≡ read_on value (drop passed text) most
+  pub read_on_low : character < numeral0 → None ≡ read_on value (drop passed text) most
   unfolding read_on all_numerals is_numeral is_between
   read_on_low low = rw (drop-cons text passed 0 inside, lt-leb numeral0 character low)
 
-  pub read_on_high : numeral9 < character → NoNumber ≡ read_on value (drop passed text) most
+  pub read_on_high : numeral9 < character → None ≡ read_on value (drop passed text) most
   unfolding read_on all_numerals is_numeral is_between
   read_on_high high =
       rw (drop-cons text passed 0 inside, lt-leb character numeral9 high, and-false (leb numeral0 character))
 
   -- too large a value
-  pub read_on_over : most < value * 10 + (character - numeral0) → NoNumber ≡ read_on value (drop passed text) most
+  pub read_on_over : most < value * 10 + (character - numeral0) → None ≡ read_on value (drop passed text) most
   unfolding read_on decimal_value
   read_on_over over =
       let large : most < decimal_value (value * 10 + (character - numeral0)) rest =
@@ -338,18 +334,18 @@ pub record Reading (text : List ℕ) (most value passed : ℕ) : Type 0 where
   pub rest : read_number text most ≡ read_on value (drop passed text) most
 
 pub read_on_end : (text : List ℕ) (most value passed : ℕ) → length text ≤ passed → value ≤ most
-    → Number value ≡ read_on value (drop passed text) most
+    → Some value ≡ read_on value (drop passed text) most
 unfolding read_on all_numerals decimal_value
 read_on_end text most value passed over fits = rw (drop_of_length-le text over, le-leb value most fits)
 
 -- a number that was read is no larger than the largest
-pub read_number-most : (text : List ℕ) (most number : ℕ) → Number number ≡ read_number text most → number ≤ most
+pub read_number-most : (text : List ℕ) (most number : ℕ) → Some number ≡ read_number text most → number ≤ most
 unfolding read_number
 read_number-most text most number is =
     go (ltb 0 (length text) && all_numerals text) (leb (decimal_value 0 text) most) refl is
   where
     go : (formed fits : Bool) → leb (decimal_value 0 text) most ≡ fits
-        → Number number ≡ cond (formed && fits) (Number (decimal_value 0 text)) NoNumber → number ≤ most
+        → Some number ≡ cond (formed && fits) (Some (decimal_value 0 text)) None → number ≤ most
     go true true fits is =
         let value : number ≡ decimal_value 0 text = cc in
         omega (arith, leb-true (decimal_value 0 text) most fits)

@@ -1,10 +1,8 @@
 -- Numbers as the tools write them and read them. Cited by `src/lib.rt`. A character is its number in ASCII.
 -- Assumes nothing.
-use Rattle.std.specs.Prelude.{ℕ, ◌+◌, ◌*◌, ◌≤◌, Bool, cond, ◌&&◌, List, [], ◌∷◌, ◌++◌, ◌≡◌, leb, ltb, length, take, drop}
+use Rattle.std.specs.Prelude.{ℕ, ◌+◌, ◌*◌, ◌≤◌, Bool, cond, Option, None, Some, ◌&&◌, List, [], ◌∷◌, ◌++◌, ◌≡◌, leb, ltb, length, take, drop}
 use Rattle.digits.specs.Digits.{space, all_numerals}
 use Rattle.digits.specs.Decimal.{decimal_of, decimal_value}
-use Rattle.text.specs.declared.NumberRead.{NumberRead}
-use Rattle.text.specs.declared.NumberRead.TheVariants.{Number, NoNumber}
 
 -- a space and 20 digits hold every number of 64 bits
 abbrev pub widest_number : ℕ
@@ -39,7 +37,7 @@ pub record PutNumbers (numbers : List ℕ) (place : ℕ) (before : List ℕ) (en
   pub content : after ≡ with_text place (roomed_text numbers place before) before
 
 -- a number up to a largest one, in decimal digits, of which there is at least one
-unfoldable pub read_number : List ℕ → ℕ → NumberRead
+unfoldable pub read_number : List ℕ → ℕ → Option ℕ
 read_number text most =
-    cond (ltb 0 (length text) && all_numerals text && leb (decimal_value 0 text) most) (Number (decimal_value 0 text))
-    NoNumber
+    cond (ltb 0 (length text) && all_numerals text && leb (decimal_value 0 text) most) (Some (decimal_value 0 text))
+    None

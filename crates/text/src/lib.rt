@@ -15,13 +15,6 @@ use digits::decimal::decimal;
 // A space and 20 digits hold every number of 64 bits.
 const WIDEST_NUMBER: usize = 21;
 
-// What an argument says: a number, or that it is none, or too large a one.
-#[derive(Clone, Copy)]
-pub enum NumberRead {
-    Number(u64),
-    NoNumber,
-}
-
 // Writes a number from a place of `out`, and answers the place behind it.
 fn put_decimal(out: &mut [u8], place: usize, number: u64) -> usize
     requires { place + length (decimal_of number) ≤ length out.old }
@@ -52,10 +45,8 @@ fn put_all(numbers: &[u64], out: &mut [u8], place: usize) -> usize
     ensures { PutNumbers numbers.now place out.old result out.new }
 {
     let mut end = place;
-    let mut taken = 0;
-    while taken < numbers.len() {
-        end = put_next(out, end, numbers[taken], 0 < taken);
-        taken += 1;
+    for (taken, number) in numbers.iter().enumerate() {
+        end = put_next(out, end, *number, 0 < taken);
     }
     end
 }
@@ -74,32 +65,23 @@ pub fn put_numbers(numbers: &[u64], out: &mut [u8], place: usize) -> usize
     put_all(numbers, out, place)
 }
 
-// Reads a number in decimal digits, up to `most`.
-pub fn read_number(text: &[u8], most: u64) -> NumberRead
+// Reads a number in decimal digits, up to `most`. There is none in any other text, nor a larger one.
+pub fn read_number(text: &[u8], most: u64) -> Option<u64>
     ensures { result ≡ read_number text.now most }
 {
-    if text.len() == 0 {
-        return NumberRead::NoNumber;
+    if text.is_empty() {
+        return None;
     }
     let mut value: u64 = 0;
-    let mut passed = 0;
-    while passed < text.len() {
-        let character = text[passed];
-        if character < b'0' {
-            return NumberRead::NoNumber;
-        }
-        if b'9' < character {
-            return NumberRead::NoNumber;
-        }
-        let digit = (character - b'0') as u64;
-        if most < digit {
-            return NumberRead::NoNumber;
-        }
-        if (most - digit) / 10 < value {
-            return NumberRead::NoNumber;
+    for character in text {
+        let digit = match *character {
+            b'0'..=b'9' => (*character - b'0') as u64,
+            _ => return None,
+        };
+        if most < digit || (most - digit) / 10 < value {
+            return None;
         }
         value = value * 10 + digit;
-        passed += 1;
     }
-    NumberRead::Number(value)
+    Some(value)
 }

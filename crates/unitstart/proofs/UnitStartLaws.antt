@@ -14,8 +14,7 @@ use Rattle.numbers.specs.Profile.{limits_of}
 use Rattle.numbers.specs.Quality.{quality}
 use Rattle.numbers.proofs.Truth.{by_bool}
 use Rattle.digits.specs.Decimal.{decimal_value}
-use Rattle.text.specs.declared.NumberRead.{NumberRead}
-use Rattle.text.specs.declared.NumberRead.TheVariants.{Number, NoNumber}
+use Rattle.std.specs.Prelude.{None, Some}
 use Rattle.text.specs.Text.{read_number}
 use Rattle.start.specs.declared.StartRead.{StartRead}
 use Rattle.start.specs.declared.StartRead.TheVariants as S
@@ -55,18 +54,14 @@ minimum-above profile value above =
     )
 
 module _ (profile : Profile) (minimum : List ℕ) (decimal : is_decimal minimum ≡ true) where
-  pub with-above : (read : NumberRead) → read ≡ read_number minimum 255 → read ≡ NoNumber
-      → Refused ≡ unit_start_of profile (quality (decimal_value 0 minimum))
-  with-above read is none =
-      minimum-above profile (decimal_value 0 minimum) (number-above minimum 0 255 decimal read is none)
+  pub with-above : None ≡ read_number minimum 255 → Refused ≡ unit_start_of profile (quality (decimal_value 0 minimum))
+  with-above none = minimum-above profile (decimal_value 0 minimum) (number-above minimum 0 255 decimal none)
 
-  pub with_number : (start : UnitStart) (read : NumberRead) (number : ℕ) → read ≡ read_number minimum 255
-      → read ≡ Number number
+  pub with_number : (start : UnitStart) (number : ℕ) → Some number ≡ read_number minimum 255
       → start ≡ unit_start_of profile (quality number)
       → start ≡ unit_start_of profile (quality (decimal_value 0 minimum))
-  with_number start read number reads told is =
-      is ∙
-      ap (λ (value : ℕ). unit_start_of profile (quality value)) (place_is minimum 0 255 decimal read number reads told)
+  with_number start number reads is =
+      is ∙ ap (λ (value : ℕ). unit_start_of profile (quality value)) (place_is minimum 0 255 decimal number reads)
 
 -- ---- unit_start_two
 

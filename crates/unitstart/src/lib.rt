@@ -17,7 +17,6 @@ use calls::{argument, argument_count};
 use numbers::profile::Profile;
 use numbers::quality::Quality;
 use start::{StartRead, is_decimal, is_option_word, start_in};
-use text::NumberRead;
 use unit::is_minimum;
 
 // The arguments: the program's name, and four words.
@@ -59,8 +58,7 @@ fn start_with(profile: Profile, minimum: &[u8]) -> UnitStart
     requires { is_decimal minimum.now ≡ true }
     ensures { result ≡ unit_start_of profile (quality (decimal_value 0 minimum.now)) }
 {
-    let read = text::read_number(minimum, LARGEST);
-    let NumberRead::Number(number) = read else {
+    let Some(number) = text::read_number(minimum, LARGEST) else {
         return UnitStart::Refused;
     };
     start_of(profile, Quality(number as u8))

@@ -8,12 +8,12 @@ use native.Mathlib.Omega.{arith}
 use Rattle.questions.proofs.ask.Goals as goal
 
 pub slice_bounds-frame-end : goal.slice_bounds-frame-end
-slice_bounds-frame-end c = omega (arith, c.lent_room-lent.ensures, lent_room-fits c.args.room)
+slice_bounds-frame-end c = omega (arith, c.lent_room-lent.ensures, lent_room-fits c.args.question.room)
 
 pub slice_bounds-ask-end : goal.slice_bounds-ask-end
 slice_bounds-ask-end c =
     sym (length-take-le _ _
-    (omega (arith, c.lent_room-lent.ensures, lent_room-fits c.args.room)))
+    (omega (arith, c.lent_room-lent.ensures, lent_room-fits c.args.question.room)))
 
 pub returns : goal.returns
 returns c =

@@ -1,6 +1,5 @@
 -- `start::start_at` meets its contract: a place above 255 is above 8.
 -- Assumes nothing.
-use mathlib.Core.Path.{sym, ◌∙◌}
 use native.Mathlib.Omega.{arith}
 use Rattle.text.proofs.PlacedText.{read_number-most}
 use Rattle.start.proofs.StartLaws.{place-above, place_start}
@@ -12,13 +11,7 @@ returns-in_default c = search (place-above, rules)
 
 pub overflow_cast-number : goal.overflow_cast-number
 overflow_cast-number c =
-    record {
-      fits = omega (
-        arith,
-        read_number-most _ _ _
-            (sym c.in-Number.is ∙ c.read_number-read.ensures),
-      );
-    }
+    record { fits = omega (arith, read_number-most _ _ _ c.in-Some.ensures) }
 
 pub returns : goal.returns
-returns c = search place_start
+returns c = place_start _ _ _ c.requires _ _ c.in-Some.ensures c.start_of.ensures

@@ -4,65 +4,41 @@ use mathlib.Core.Path.{sym, ◌∙◌}
 use native.Mathlib.Omega.{arith}
 use Rattle.text.proofs.PlacedText.{read_number-none, read_number-some, read_on_low, read_on_high, read_on_over, read_on_next, read_on_end}
 use Rattle.text.proofs.read_number.Goals as goal
+use Rattle.text.proofs.read_number.Goals.{then-most-digit-via-then-most-digit, then-most-digit-via-else-most-digit+then-most-digit-2}
 
-pub returns-then-text-eq0 : goal.returns-then-text-eq0
-returns-then-text-eq0 c = read_number-none _ _ c.if-text-eq0.true
+pub returns-then-is_empty : goal.returns-then-is_empty
+returns-then-is_empty c = read_number-none _ _ (grind arith)
 
-pub loop-passed-init : goal.loop-passed-init
-loop-passed-init c = record { fits = omega arith; rest = read_number-some _ _ c.if-text-eq0.false }
+pub loop-character-init : goal.loop-character-init
+loop-character-init c = record { fits = omega arith; rest = read_number-some _ _ (grind arith) }
 
-pub bounds-text-passed : goal.bounds-text-passed
-bounds-text-passed c = omega arith
+pub returns-in_default : goal.returns-in_default
+returns-in_default c =
+    read_on_low _ _ _ _ c.loop-character-test.true (omega arith) ∙ sym c.loop-character.invariant.rest
 
-pub returns-then-character-lt48 : goal.returns-then-character-lt48
-returns-then-character-lt48 c =
-    let l = c in
-    read_on_low _ _ _ _ c.loop-passed-test.true c.if-character-lt48.true ∙ sym l.loop-passed.invariant.rest
-
-pub returns-then-character-gt57 : goal.returns-then-character-gt57
-returns-then-character-gt57 c =
-    let k = c in
-    read_on_high _ _ _ _ k.loop-passed-test.true c.if-character-gt57.true ∙ sym k.loop-passed.invariant.rest
-
-pub overflow_cast-digit : goal.overflow_cast-digit
-overflow_cast-digit c =
-    let k = c in
-    omega (arith, k.type_inv.text k.loop-passed.passed)
+pub returns-in_default-2 : goal.returns-in_default-2
+returns-in_default-2 c =
+    read_on_high _ _ _ _ c.loop-character-test.true (omega arith) ∙ sym c.loop-character.invariant.rest
 
 pub returns-then-most-digit : goal.returns-then-most-digit
 returns-then-most-digit c =
-    let k = c in
-    read_on_over _ _ _ _ k.loop-passed-test.true (omega (arith, c.if-most-digit.true))
-    ∙ sym k.loop-passed.invariant.rest
+    read_on_over _ _ c.loop-character.value _ c.loop-character-test.true
+    (elim c.then-most-digit.branch [
+      | then-most-digit-via-then-most-digit w ↦ omega arith
+      | then-most-digit-via-else-most-digit+then-most-digit-2 w ↦ omega arith
+    ])
+    ∙ sym c.loop-character.invariant.rest
 
-pub returns-then-most-digit-2 : goal.returns-then-most-digit-2
-returns-then-most-digit-2 c =
-    let k = c in
-    read_on_over _ _ _ _ k.loop-passed-test.true (omega (arith, c.if-most-digit-2.true, c.if-most-digit.false))
-    ∙ sym k.loop-passed.invariant.rest
-
-pub overflow_add-passed : goal.overflow_add-passed
-overflow_add-passed c =
-    let k = c in
-    omega (arith, k.loop-passed-test.true)
-
-pub loop-passed-smaller : goal.loop-passed-smaller
-loop-passed-smaller c =
-    let k = c in
-    omega (arith, k.loop-passed-test.true)
-
-pub loop-passed-preserved : goal.loop-passed-preserved
-loop-passed-preserved c =
-    let k = c in
+pub loop-character-preserved : goal.loop-character-preserved
+loop-character-preserved c =
     record {
       fits = omega arith;
       rest =
-          k.loop-passed.invariant.rest
-          ∙ read_on_next _ _ _ _ k.loop-passed-test.true c.if-character-lt48.false
-          c.if-character-gt57.false;
+          c.loop-character.invariant.rest
+          ∙ read_on_next _ _ _ _ c.loop-character-test.true (omega arith) (omega arith);
     }
 
 pub returns : goal.returns
 returns c =
-    let i = c.loop-passed.invariant in
-    read_on_end _ _ _ _ c.loop-passed-test.false i.fits ∙ sym i.rest
+    read_on_end _ _ _ _ c.loop-character-test.false c.loop-character.invariant.fits
+    ∙ sym c.loop-character.invariant.rest

@@ -1,6 +1,5 @@
 -- `unitstart::start_with` meets its contract: a minimum above 255 is out of range.
 -- Assumes nothing.
-use mathlib.Core.Path.{sym, ◌∙◌}
 use native.Mathlib.Omega.{arith}
 use Rattle.text.proofs.PlacedText.{read_number-most}
 use Rattle.unitstart.proofs.UnitStartLaws.{with-above, with_number}
@@ -12,13 +11,7 @@ returns-in_default c = search (with-above, rules)
 
 pub overflow_cast-number : goal.overflow_cast-number
 overflow_cast-number c =
-    record {
-      fits =
-          omega (
-            arith,
-            read_number-most _ _ _ (sym c.in-Number.is ∙ c.read_number-read.ensures),
-          );
-    }
+    record { fits = omega (arith, read_number-most _ _ _ c.in-Some.ensures) }
 
 pub returns : goal.returns
-returns c = search with_number
+returns c = with_number _ _ c.requires _ _ c.in-Some.ensures c.start_of.ensures
