@@ -34,11 +34,7 @@ fn octets_of(line: &[u8]) -> [u8; LONGEST_FRAME]
         ++ replicate (longest_frame - length line.now / 2) 0 }
 {
     let mut octets = [0; LONGEST_FRAME];
-    let mut passed = 0;
-    while passed < line.len() / 2 {
-        octets[passed] = digits::octet_of(line[passed * 2], line[passed * 2 + 1]);
-        passed += 1;
-    }
+    digits::write_octets(line, &mut octets);
     octets
 }
 
@@ -47,8 +43,7 @@ fn number_line(number: u8) -> MessageLine
     ensures { result ≡ in_front (digits_of (number ∷ [])) }
 {
     let mut text = [0; 20];
-    text[0] = digits::upper_digit(number);
-    text[1] = digits::lower_digit(number);
+    digits::write_digits(&[number], &mut text);
     text[2] = LINE_FEED;
     MessageLine { text, length: 3 }
 }
@@ -64,20 +59,9 @@ fn flag_digit(event: bool) -> u8
 fn address_digits(source: [u8; 6]) -> [u8; 12]
     ensures { result ≡ digits_of source }
 {
-    [
-        digits::upper_digit(source[0]),
-        digits::lower_digit(source[0]),
-        digits::upper_digit(source[1]),
-        digits::lower_digit(source[1]),
-        digits::upper_digit(source[2]),
-        digits::lower_digit(source[2]),
-        digits::upper_digit(source[3]),
-        digits::lower_digit(source[3]),
-        digits::upper_digit(source[4]),
-        digits::lower_digit(source[4]),
-        digits::upper_digit(source[5]),
-        digits::lower_digit(source[5]),
-    ]
+    let mut text = [0; 12];
+    digits::write_digits(&source, &mut text);
+    text
 }
 
 // The line of a frame that is accepted.

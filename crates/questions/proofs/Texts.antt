@@ -12,7 +12,7 @@ use lib.Seq.{set_at, take-suc, length-take-le, take_all, take-length, append_sno
 use borrow.Author.Tests.{lt-ltb, le-ltb, ltb-true, leb-true, eqb-true, eq-eqb, ne_eqb}
 use Rattle.digits.specs.Digits.{all_digits, digit_value, octets_of, upper_digit, lower_digit, digits_of}
 use Rattle.digits.proofs.Runs.{and_parts}
-use Rattle.digits.proofs.Values.{octets_of-length}
+use Rattle.digits.proofs.Writing.{digits_of-length}
 use Rattle.reader.specs.Lines.{line_feed}
 use Rattle.frame.specs.Write.{written_length}
 use Rattle.numbers.proofs.Truth.{by_bool}
@@ -55,11 +55,6 @@ line_copied text octets count size copied =
     copied ∙ (rw (take-length text, drop-zeros (length text) text_octets)) in
     λ j. record { octets = whole j; count = size j }
 
-pub number_digits : (number upper lower : ℕ) → upper ≡ upper_digit number → lower ≡ lower_digit number
-    → held_line (upper ∷ lower ∷ line_feed ∷ []) ≡ held_line (frame_text (number ∷ []))
-unfolding digits_of
-number_digits number upper lower isUpper is_lower = rw (isUpper, is_lower)
-
 -- ---- is_asked
 
 pub is_asked-none : (line : List ℕ) → length line < 1 → false ≡ is_asked line
@@ -77,74 +72,25 @@ unfolding is_asked
 is_asked-other [] some other = absurd (omega arith)
 is_asked-other (character ∷ rest) some other = sym (ne_eqb character mark other)
 
--- ---- digits_of
+-- ---- frame_text
 
-pub digits_of-length : (octets : List ℕ) → length (digits_of octets) ≡ 2 * length octets
-unfolding digits_of
-digits_of-length [] = refl
-digits_of-length (octet ∷ rest) = omega (arith, digits_of-length rest)
-
-digits_of-append : (octets more : List ℕ) → digits_of (octets ++ more) ≡ digits_of octets ++ digits_of more
-unfolding digits_of
-digits_of-append [] more = refl
-digits_of-append (octet ∷ rest) more =
-    ap (λ (text : List ℕ). upper_digit octet ∷ lower_digit octet ∷ text) (digits_of-append rest more)
-
--- ---- frame_text, octet by octet
-
-module _ (frame : List ℕ) (passed : ℕ) (sixty : length frame ≡ 60) where
-  front_length : passed ≤ 60 → length (digits_of (take passed frame)) ≡ 2 * passed
-  front_length fits =
-      digits_of-length (take passed frame) ∙ ap (λ (n : ℕ). 2 * n) (length-take-le passed frame (omega arith))
-
-  pub frame-turn : (text : List ℕ) (upper lower : ℕ) → text ≡ padded 121 (digits_of (take passed frame))
-      → passed < 60
-      → upper ≡ upper_digit (get_or frame passed 0)
-      → lower ≡ lower_digit (get_or frame passed 0)
-      → set (set text (2 * passed) upper) (2 * passed + 1) lower ≡ padded 121 (digits_of (take (passed + 1) frame))
-  unfolding digits_of
-  frame-turn text upper lower holds left isUpper is_lower =
-      let front : List ℕ = digits_of (take passed frame) in
-      let size : length front ≡ 2 * passed = front_length (omega arith) in
-      let more : length (front ++ (upper ∷ [])) ≡ 2 * passed + 1 = length-append front (upper ∷ []) ∙ (omega arith) in
-      let longer : take (passed + 1) frame ≡ take passed frame ++ (get_or frame passed 0 ∷ []) =
-      ap (λ (n : ℕ). take n frame) (add-one passed) ∙ take-suc frame passed 0 (omega arith) in
-      let pair : digits_of (take (passed + 1) frame) ≡ (front ++ (upper ∷ [])) ++ (lower ∷ []) =
-      ap digits_of longer
-      ∙ digits_of-append (take passed frame) (get_or frame passed 0 ∷ [])
-      ∙ (rw (isUpper, is_lower) (sym (append_assoc front _ _))) in
-      ap (λ (one : List ℕ). set (set one (2 * passed) upper) (2 * passed + 1) lower) holds
-      ∙ ap (λ (one : List ℕ). set one (2 * passed + 1) lower)
-      (padded-next 121 front (2 * passed) upper (sym size) (omega arith))
-      ∙ padded-next 121 (front ++ (upper ∷ [])) (2 * passed + 1) lower (sym more) (omega arith)
-      ∙ ap (padded 121) (sym pair)
-
-  pub frame-done : (text : List ℕ) → text ≡ padded 121 (digits_of (take passed frame)) → 60 ≤ passed → passed ≤ 60
-      → record { octets = set text 120 line_feed; count = 121 } ≡ held_line (frame_text frame)
-  unfolding held_line
-  frame-done text holds over fits =
-      let all : take passed frame ≡ frame = take_all passed frame (omega arith) in
-      let size : length (digits_of frame) ≡ 120 = digits_of-length frame ∙ (omega arith) in
-      let whole : set text 120 line_feed ≡ padded 121 (frame_text frame) =
-      ap (λ (one : List ℕ). set one 120 line_feed) (holds ∙ ap (λ (one : List ℕ). padded 121 (digits_of one)) all)
-      ∙ padded-next 121 (digits_of frame) 120 line_feed (sym size) (omega arith) in
-      let count : 121 ≡ length (frame_text frame) =
-      sym (length-append (digits_of frame) (line_feed ∷ []) ∙ (omega arith)) in
-      λ j. record { octets = whole j; count = count j }
+-- a frame's digits in front, and LF behind them
+pub frame-done : (frame : List ℕ) → length frame ≡ 60
+    → (text : List ℕ) → text ≡ digits_of frame ++ replicate (121 - 2 * length frame) 0
+    → record { octets = set text 120 line_feed; count = 121 } ≡ held_line (frame_text frame)
+unfolding held_line
+frame-done frame sixty text holds =
+    let size : length (digits_of frame) ≡ 120 = digits_of-length frame ∙ (omega arith) in
+    let left : 2 * length frame ≡ length (digits_of frame) = omega arith in
+    let whole : set text 120 line_feed ≡ padded 121 (frame_text frame) =
+    ap (λ (one : List ℕ). set one 120 line_feed)
+    (holds ∙ ap (λ (n : ℕ). digits_of frame ++ replicate (121 - n) 0) left)
+    ∙ padded-next 121 (digits_of frame) 120 line_feed (sym size) (omega arith) in
+    let count : 121 ≡ length (frame_text frame) =
+    sym (length-append (digits_of frame) (line_feed ∷ []) ∙ (omega arith)) in
+    λ j. record { octets = whole j; count = count j }
 
 -- ---- the octets of a source address
-
-octet-at : (text : List ℕ) (count place : ℕ) → place ≡ 2 * count → suc place < length text
-    → get_or (octets_of text) count 0 ≡ digit_value (get_or text place 0) * 16 + digit_value (get_or text (suc place) 0)
-unfolding octets_of
-octet-at [] count place even inside = absurd (omega arith)
-octet-at (a ∷ []) count place even inside = absurd (omega arith)
-octet-at (a ∷ b ∷ rest) zero zero even inside = refl
-octet-at (a ∷ b ∷ rest) zero (suc place) even inside = absurd (omega arith)
-octet-at (a ∷ b ∷ rest) (suc count) zero even inside = absurd (omega arith)
-octet-at (a ∷ b ∷ rest) (suc count) (suc zero) even inside = absurd (omega arith)
-octet-at (a ∷ b ∷ rest) (suc count) (suc (suc place)) even inside =
-    octet-at rest count place (omega arith) (omega arith)
 
 -- a source address that is not `-` is digits, 64 at most
 pub record Address (text : List ℕ) : Type 0 where
@@ -172,47 +118,8 @@ is_source-address text is =
       all = λ _. whole.1;
     })
 
-module _ (text : List ℕ) (count : ℕ) (is : is_source text ≡ true) where
-  pub source_fits : length text ≤ 64
-  source_fits = (is_source-address text is).fits
-
-  half : length (octets_of text) ≡ length text / 2
-  half = octets_of-length text
-
-  pub source-turn : (octets : List ℕ) (octet : ℕ) → octets ≡ padded 32 (take count (octets_of text))
-      → 2 * count + 1 < length text
-      → octet ≡ digit_value (get_or text (2 * count) 0) * 16 + digit_value (get_or text (2 * count + 1) 0)
-      → set octets count octet ≡ padded 32 (take (count + 1) (octets_of text))
-  source-turn octets octet holds inside value =
-      let more : count * 2 + 1 ≤ length text = omega arith in
-      let below : count < length (octets_of text) =
-      let fits : suc count ≤ length text / 2 = (le-div_iff_mul-le {k = 2} (omega arith)).1 (omega arith) in
-      omega (arith, half) in
-      let size : length (take count (octets_of text)) ≡ count = length-take-le count (octets_of text) (omega arith) in
-      let next : take (count + 1) (octets_of text) ≡ take count (octets_of text) ++ (octet ∷ []) =
-      ap (λ (n : ℕ). take n (octets_of text)) (add-one count)
-      ∙ take-suc (octets_of text) count 0 below
-      ∙ ap (λ (one : ℕ). take count (octets_of text) ++ (one ∷ []))
-      (octet-at text count (2 * count) refl (omega arith)
-      ∙ ap (λ (n : ℕ). digit_value (get_or text (2 * count) 0) * 16 + digit_value (get_or text n 0))
-      (sym (add-one (2 * count)))
-      ∙ sym value) in
-      ap (λ (one : List ℕ). set one count octet) holds
-      ∙ padded-next 32 (take count (octets_of text)) count octet (sym size) (omega (arith, source_fits))
-      ∙ ap (padded 32) (sym next)
-
-  pub source-all : length text ≤ 2 * count + 1 → 2 * count ≤ length text → count ≡ length (octets_of text)
-  source-all over inside =
-      let up : count ≤ length text / 2 = (le-div_iff_mul-le {k = 2} (omega arith)).1 (omega arith) in
-      omega (arith, half, div-mul-le_self (length text) 2)
-
-  pub source-done : (octets : List ℕ) → octets ≡ padded 32 (take count (octets_of text))
-      → length text ≤ 2 * count + 1
-      → 2 * count ≤ length text
-      → octets ≡ padded 32 (octets_of text)
-  source-done octets holds over inside =
-      holds
-      ∙ ap (padded 32) (take_all count (octets_of text) (omega (arith, source-all over inside)))
+pub source_fits : (text : List ℕ) → is_source text ≡ true → length text ≤ 64
+source_fits text is = (is_source-address text is).fits
 
 -- ---- lent_room
 

@@ -1,28 +1,20 @@
 -- `frametext::address_digits` meets its contract.
 -- Assumes nothing.
-use mathlib.Core.Path.{◌≡◌, ap}
-use lib.ListN.{length}
+use Prim.Native.Nat.{ℕ, ◌*◌, ◌-◌}
+use mathlib.Core.List.{◌++◌, append-nil}
+use mathlib.Core.Path.{◌≡◌, ap, ◌∙◌}
+use native.Mathlib.Omega.{arith}
+use lib.ListN.{length, replicate}
 use Rattle.digits.specs.Digits.{digits_of}
-use Rattle.frametext.proofs.MessageLaws.{places_from, places_from-all}
+use Rattle.digits.proofs.Writing.{digits-filled}
 use borrow.Author.Rules.{rules}
 use Rattle.frametext.proofs.address_digits.Goals as goal
 
 pub returns : goal.returns
-unfolding digits_of places_from
 returns c =
-    let six : 6 ≡ length c.args.source = search rules in
-    simp (
-      c.upper_digit.ensures,
-      c.lower_digit.ensures,
-      c.upper_digit-2.ensures,
-      c.lower_digit-2.ensures,
-      c.upper_digit-3.ensures,
-      c.lower_digit-3.ensures,
-      c.upper_digit-4.ensures,
-      c.lower_digit-4.ensures,
-      c.upper_digit-5.ensures,
-      c.lower_digit-5.ensures,
-      c.upper_digit-6.ensures,
-      c.lower_digit-6.ensures,
-    )
-    (ap digits_of (places_from-all 0 6 c.args.source six))
+    let source = c.args.source in
+    let six : length source ≡ 6 = search rules in
+    c.write_digits.ensures
+    ∙ digits-filled source 12 0 (omega arith)
+    ∙ ap (λ (n : ℕ). digits_of source ++ replicate (12 - 2 * n) 0) six
+    ∙ append-nil (digits_of source)

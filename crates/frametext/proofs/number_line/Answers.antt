@@ -6,4 +6,4 @@ use Rattle.frametext.proofs.number_line.Goals as goal
 
 pub returns : goal.returns
 unfolding in_front digits_of
-returns c = rw (c.upper_digit.ensures, c.lower_digit.ensures)
+returns c = rw c.write_digits.ensures

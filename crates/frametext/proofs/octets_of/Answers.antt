@@ -1,30 +1,18 @@
--- `frametext::octets_of` meets its contract: the octets passed are written, zeros stand after them.
+-- `frametext::octets_of` meets its contract: the octets are in front, zeros stand after them.
 -- Assumes nothing.
-use Prim.Native.Nat.{◌+◌, ◌*◌, ◌/◌, ◌≤◌}
-use mathlib.Core.Path.{◌≡◌, refl, sym, ◌∙◌}
-use native.Mathlib.Omega.{arith}
-use lib.ListN.{length}
-use Rattle.frametext.proofs.MessageLaws.{octets_of-at, octets-next, octets-all}
-use borrow.Author.Rules.{rules}
+use mathlib.Core.Path.{ap, ◌∙◌}
+use Prim.Native.Nat.{ℕ, ◌-◌}
+use mathlib.Core.List.{◌++◌}
+use lib.ListN.{replicate}
+use Rattle.digits.specs.Digits.{octets_of}
+use Rattle.digits.proofs.Values.{octets_of-length}
+use Rattle.digits.proofs.Writing.{octets-filled}
+use Rattle.frame.specs.Octets.{longest_frame}
 use Rattle.frametext.proofs.octets_of.Goals as goal
-
-pub loop-passed-init : goal.loop-passed-init
-loop-passed-init c = (search rules, refl)
-
-pub loop-passed-preserved : goal.loop-passed-preserved
-loop-passed-preserved c =
-    let l = c in
-    let line = l.args.line.now in
-    let left : l.loop-passed.passed * 2 + 2 ≤ length line = omega arith in (
-      search rules,
-      octets-next line l.loop-passed.passed _ _ c.loop-passed-test.true
-          l.requires.1 l.loop-passed.invariant.1
-          (c.octet_of.ensures ∙ sym (octets_of-at l.loop-passed.passed line left)),
-    )
 
 pub returns : goal.returns
 returns c =
-    let l = c in
-    let line = l.args.line.now in
-    let end : l.loop-passed.passed ≡ length line / 2 = omega arith in
-    octets-all line l.loop-passed.passed _ end l.loop-passed.invariant.1
+    let line = c.args.line.now in
+    c.write_octets.ensures
+    ∙ octets-filled line longest_frame 0 c.requires.1
+    ∙ ap (λ (n : ℕ). octets_of line ++ replicate (longest_frame - n) 0) (octets_of-length line)
