@@ -9,7 +9,7 @@ use lib.Dec.{eqb, leb}
 use lib.ListN.{length}
 use lib.Seq.{slice-cons, slice_empty}
 use borrow.Author.Tests.{eq-eqb, ne_eqb, eqb-true, leb-true, le-leb, lt-leb}
-use Rattle.numbers.specs.Refusal.{accepted, frame_length, frame_destination, frame_protocol, frame_organisation, frame_version, frame_tlv}
+use Rattle.numbers.specs.Refusal.{accepted, frame_length, frame_organisation, frame_version, frame_tlv}
 use Rattle.numbers.specs.Rows.{first_that_applies}
 use Rattle.numbers.proofs.Rows.{NoneOrWithin, first-within}
 use Rattle.frame.specs.declared.FrameRead.TheVariants.{Code, Refused}
@@ -56,15 +56,7 @@ module _ (frame : List ℕ) where
   frame_number-length wrong = rw wrong
 
   module _ (sized : right_length frame ≡ true) where
-    pub frame_number-destination : right_destination frame ≡ false → frame_destination ≡ frame_number frame
-    unfolding frame_number first_that_applies
-    frame_number-destination wrong = rw (sized, wrong)
-
     module _ (addressed : right_destination frame ≡ true) where
-      pub frame_number-protocol : right_protocol frame ≡ false → frame_protocol ≡ frame_number frame
-      unfolding frame_number first_that_applies
-      frame_number-protocol wrong = rw (sized, addressed, wrong)
-
       module _ (slow : right_protocol frame ≡ true) where
         pub frame_number-organisation : right_organisation frame ≡ false → frame_organisation ≡ frame_number frame
         unfolding frame_number first_that_applies

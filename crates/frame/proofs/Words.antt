@@ -1,11 +1,11 @@
 -- Rows of octets compared several at once: octets as one number, the first the lowest, are the same where the numbers
 -- are. Each law is over the width.
 -- Assumes nothing.
-use Prim.Native.Nat.{ℕ, zero, suc, ◌+◌, ◌*◌, ◌^◌, ◌-◌, ◌≤◌, ◌<◌}
+use Prim.Native.Nat.{ℕ, zero, suc, ◌+◌, ◌*◌, ◌-◌, ◌≤◌, ◌<◌}
 use mathlib.Core.Bool.{Bool, true, false, ◌&&◌, and_assoc, and-true, false≢true}
-use mathlib.Core.List.{List, [], ◌∷◌, ◌++◌, foldr}
+use mathlib.Core.List.{List, [], ◌∷◌, foldr}
 use mathlib.Core.Path.{◌≡◌, refl, sym, ap, ◌∙◌}
-use native.Mathlib.Nat.{mul_assoc, pow-suc, zero-add, suc-add, sub-zero, lt_of_le_of_lt}
+use native.Mathlib.Nat.{zero-add, suc-add, sub-zero, lt_of_le_of_lt}
 use native.Mathlib.Omega.{arith}
 use borrow.Author.Tests.{eq-eqb, ne_eqb, eqb-true, eqb-false, ltb-true, le-leb}
 use mir.Syntax.{w8}
@@ -13,7 +13,7 @@ use mir.Val.{Fits}
 use lib.Bits.{bit_and, and_block, and_le_l}
 use lib.Dec.{eqb, leb, ltb}
 use lib.ListN.{length, get_or, take, drop, length-drop}
-use lib.Seq.{slice, get_or-drop, drop-cons, drop-drop, drop-length, take-add, take-take, take-nil, length-take-le}
+use lib.Seq.{slice, get_or-drop, drop-cons, drop-drop, drop-length, take-take, take-nil, length-take-le}
 use Rattle.frame.specs.Octets.{same}
 
 -- the octets of a row as one number
@@ -60,15 +60,6 @@ low_first_same (x ∷ xs) (y ∷ ys) size ones others =
     ∙ ap (λ (rest : Bool). eqb x y && rest)
     (low_first_same xs ys (omega arith) (λ place. ones (suc place)) (λ place. others (suc place)))
 
--- one row behind another
-pub low_first_append : (front back : List ℕ)
-    → low_first (front ++ back) ≡ low_first back * 256 ^ length front + low_first front
-low_first_append [] back = omega arith
-low_first_append (x ∷ xs) back =
-    let above : low_first back * 256 ^ suc (length xs) ≡ low_first back * 256 ^ length xs * 256 =
-    rw (pow-suc 256 (length xs), ← mul_assoc (low_first back) (256 ^ length xs) 256) in
-    rw (low_first_append xs back, above) (omega arith)
-
 -- each octet with the bits that its mask keeps
 abbrev pub masked : List ℕ → List ℕ → List ℕ
 masked [] bits = []
@@ -90,20 +81,6 @@ low_first_masked (x ∷ xs) (bit ∷ bits) size octets masks =
 module _ (row : List ℕ) (place : ℕ) where
   pub low_first_one : place < length row → low_first_at 1 row place ≡ get_or row place 0
   low_first_one inside = rw (drop-cons row place 0) (omega arith)
-
-  -- twice as many: those behind are the higher ones
-  pub low_first_twice : (width : ℕ) → place + (width + width) ≤ length row
-      → low_first_at (width + width) row place
-      ≡ low_first_at width row (place + width) * 256 ^ width + low_first_at width row place
-  low_first_twice width fits =
-      let size : length (take width (drop place row)) ≡ width =
-      length-take-le width (drop place row) (omega (arith, length-drop place row)) in
-      rw (
-        take-add width width (drop place row),
-        drop-drop width place row,
-        low_first_append (take width (drop place row)) (take width (drop (place + width) row)),
-        size,
-      )
 
 -- ---- Octets
 
@@ -215,11 +192,3 @@ module _ (row wanted : List ℕ) (octets : Octets row) (sought : Octets wanted) 
   has_rest-last width last fits =
       has_rest_several width (omega arith) (omega arith)
       ∙ rw (has_rest-end row wanted (place + width) (start + width) last) (and-true _)
-
-  -- or one by itself
-  pub has_rest-one : start < length wanted → place + (length wanted - start) ≤ length row
-      → has_rest row wanted place start
-      ≡ (eqb (get_or row place 0) (get_or wanted start 0) && has_rest row wanted (place + 1) (start + 1))
-  has_rest-one inside fits =
-      has_rest_several 1 (omega arith) fits
-      ∙ rw (low_first_one row place (omega arith), low_first_one wanted start (omega arith))

@@ -75,11 +75,6 @@ module _ (buffer source : List ℕ) (code : ℕ) where
 -- ---- WriteFrame
 
 module _ (before source : List ℕ) (event : Bool) (code : ℕ) where
-  pub write_frame_refused :
-      (number : ℕ) → write_answer before source code ≡ Err number
-      → WriteFrame before source event code (Err number) before
-  write_frame_refused number answer = record { answered = sym answer; content = rw answer }
-
   pub write_frame_written :
       (after : List ℕ) → write_answer before source code ≡ Ok tt
       → after ≡ frame_octets source event code ++ drop written_length before

@@ -182,6 +182,7 @@ fn has_version_and_tlv(frame: &[u8]) -> bool
 
 // The number that a frame is refused with, the smallest that applies; 0 accepted. A good frame is
 // seen to be one in few and wide comparisons; a number is looked for where one of them fails.
+#[tactic(auto, unfolding(crate::specs::Read::frame_number, crate::specs::Read::right_length, crate::specs::Read::right_destination, crate::specs::Read::right_protocol, crate::specs::Read::right_organisation, crate::specs::Read::right_version, crate::specs::Read::right_tlv, numbers::specs::Rows::first_that_applies))]
 fn frame_number(frame: &[u8]) -> u8
     ensures { result ≡ frame_number frame.now }
 {
@@ -207,6 +208,7 @@ fn frame_number(frame: &[u8]) -> u8
 }
 
 // The code of a frame alone, or the smallest number of refusal that applies to it.
+#[tactic(auto, unfolding(crate::specs::Read::read_code))]
 pub fn read_code(frame: &[u8]) -> FrameRead
     ensures { result ≡ read_code frame.now }
 {
@@ -237,6 +239,7 @@ fn source_address(frame: &[u8]) -> [u8; 6]
 
 // Reads a frame: its code, its event flag and its source address, or the smallest number of refusal
 // that applies to it.
+#[tactic(auto, unfolding(crate::specs::Read::read_frame, crate::specs::Read::read_code))]
 pub fn read_frame(frame: &[u8]) -> FrameMessage
     ensures { result ≡ read_frame frame.now }
 {
@@ -312,6 +315,7 @@ fn put_data(buffer: &mut [u8], code: u8)
 
 // Writes a frame into the first 60 octets of `buffer` and keeps the others; a refusal keeps all, and
 // tells its number.
+#[tactic(auto, unfolding(crate::specs::Write::write_answer))]
 pub fn write_frame(buffer: &mut [u8], source: &[u8], event: bool, code: u8) -> Result<(), u8>
     ensures { WriteFrame
         buffer.old source.now event code result buffer.new }

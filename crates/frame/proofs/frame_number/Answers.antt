@@ -7,12 +7,13 @@ use mathlib.Core.Path.{◌≡◌, sym, ap, ◌∙◌}
 use native.Mathlib.Omega.{arith}
 use borrow.Author.Tests.{eq-eqb, ne_eqb, not-true, not-false}
 use Rattle.frame.specs.Octets.{upper_half, destination, protocol, has_octets}
-use Rattle.frame.specs.Read.{right_destination, right_protocol, right_organisation, right_version, right_tlv}
-use Rattle.frame.proofs.ReadLaws.{right_length-right, right_length-short, right_length-long, frame_number-length, frame_number-destination, frame_number-protocol, frame_number-organisation, frame_number-version, frame_number-tlv, frame_number-none}
+use Rattle.std.proofs.lemmas.Grind.{common_steps}
+use Rattle.numbers.specs.Rows.{first_that_applies}
+use Rattle.frame.specs.Read.{frame_number, right_length, right_destination, right_protocol, right_organisation, right_version}
+use Rattle.frame.proofs.ReadLaws.{right_length-right, frame_number-organisation, frame_number-version, frame_number-tlv}
 use Rattle.frame.proofs.Header.{protocol_and_organisation}
 use Rattle.numbers.proofs.Truth.{both_first, both-second}
 use Rattle.frame.proofs.frame_number.Goals as goal
-use Rattle.frame.proofs.frame_number.Goals.{then-frame-lt-SHORTEST_FRAME-via-then-frame-lt-SHORTEST_FRAME, then-frame-lt-SHORTEST_FRAME-via-else-frame-lt-SHORTEST_FRAME+then-frame-gt-LONGEST_FRAME}
 
 -- ---- two parts together
 second-false : (one other : Bool) → one ≡ true → (one && other) ≡ false → other ≡ false
@@ -33,29 +34,6 @@ rows_right frame both =
     (both_first (right_protocol frame) (right_organisation frame) both, both-second (right_protocol frame) (right_organisation frame) both)
 
 -- ---- the needs
-pub returns-then-frame-lt-SHORTEST_FRAME : goal.returns-then-frame-lt-SHORTEST_FRAME
-returns-then-frame-lt-SHORTEST_FRAME c =
-    frame_number-length _
-    (elim c.then-frame-lt-SHORTEST_FRAME.branch [
-      | then-frame-lt-SHORTEST_FRAME-via-then-frame-lt-SHORTEST_FRAME w ↦ right_length-short _ w.if-frame-lt-SHORTEST_FRAME.true
-      | then-frame-lt-SHORTEST_FRAME-via-else-frame-lt-SHORTEST_FRAME+then-frame-gt-LONGEST_FRAME w ↦ right_length-long _ w.if-frame-gt-LONGEST_FRAME.true
-    ])
-
-pub returns-then-not-has_octets : goal.returns-then-not-has_octets
-returns-then-not-has_octets c =
-    let frame = c.args.frame.now in
-    frame_number-destination frame
-    (right_length-right frame c.if-frame-lt-SHORTEST_FRAME.false c.if-frame-gt-LONGEST_FRAME.false)
-    (destination-found frame _ c.has_octets.ensures ∙ not-true _ c.if-not-has_octets.true-raw)
-
-pub returns-then-not-has_octets-3 : goal.returns-then-not-has_octets-3
-returns-then-not-has_octets-3 c =
-    let frame = c.args.frame.now in
-    frame_number-protocol frame
-    (right_length-right frame c.if-frame-lt-SHORTEST_FRAME.false c.if-frame-gt-LONGEST_FRAME.false)
-    (destination-found frame _ c.has_octets.ensures ∙ not-false _ c.if-not-has_octets.false-raw)
-    (protocol-found frame _ c.has_octets-then-not-has_octets-2.ensures ∙ not-true _ c.if-not-has_octets-3.true-raw)
-
 pub returns-then-not-has_octets-2 : goal.returns-then-not-has_octets-2
 returns-then-not-has_octets-2 c =
     let frame = c.args.frame.now in
@@ -95,14 +73,6 @@ returns-then-not-has_version_and_tlv c =
     (second-false _ _ known (sym c.has_version_and_tlv.ensures ∙ not-true _ c.if-not-has_version_and_tlv.true-raw))
 
 pub returns : goal.returns
+unfolding frame_number first_that_applies right_length right_destination
 returns c =
-    let frame = c.args.frame.now in
-    let both_found : c.has_octets-2.result ≡ (right_protocol frame && right_organisation frame) =
-    c.has_octets-2.ensures ∙ protocol_and_organisation frame (omega arith) in
-    let both = rows_right frame (sym both_found ∙ not-false _ c.if-not-has_octets-2.false-raw) in
-    let last = sym c.has_version_and_tlv.ensures ∙ not-false _ c.if-not-has_version_and_tlv.false-raw in
-    frame_number-none frame
-    (right_length-right frame c.if-frame-lt-SHORTEST_FRAME.false c.if-frame-gt-LONGEST_FRAME.false)
-    (destination-found frame _ c.has_octets.ensures ∙ not-false _ c.if-not-has_octets.false-raw)
-    both.0 both.1 (both_first _ (right_tlv frame) last)
-    (both-second (right_version frame) _ last)
+    let both = protocol_and_organisation c.args.frame.now (omega arith) in grind (arith, common_steps)
