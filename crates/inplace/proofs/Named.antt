@@ -1,15 +1,12 @@
--- A switch and a selection as their numbers say them, and that what a choice leaves names inputs alone, so that it is
--- found again. Assumes nothing.
-use Prim.Native.Nat.{ℕ, ◌≤◌, ◌<◌}
+-- What a choice leaves names inputs alone, so that it is found again. Assumes nothing.
+use Prim.Native.Nat.{ℕ, ◌<◌}
 use mathlib.Core.Bool.{Bool, true, false, cond}
 use mathlib.Core.List.{List}
 use mathlib.Core.Path.{◌≡◌, refl}
 use native.Mathlib.Omega.{arith}
 use lib.Dec.{eqb, ltb}
-use mir.Val.{bool_byte}
-use borrow.Author.Tests.{ltb-false, lt-ltb, le-ltb, eq-eqb, ne_eqb}
+use borrow.Author.Tests.{ltb-false, le-ltb}
 use Rattle.std.specs.Prelude.{Option, Some, None}
-use Rattle.std.specs.Option.{is_some}
 use Rattle.numbers.specs.declared.InputNumber.{InputNumber}
 use Rattle.numbers.specs.Inputs.{last_input, input_count}
 use Rattle.numbers.specs.Kind.{kind_forced, kind_manual, kind_clear_switch}
@@ -21,54 +18,8 @@ use Rattle.switch.specs.declared.Switch.{Switch}
 use Rattle.switch.specs.declared.Switch.TheVariants as W
 use Rattle.switch.specs.OneChoice.{forced_may_stand, manual_may_stand, judged, selected_by, decide}
 use Rattle.switch.specs.Choices.{commanded}
-use Rattle.selector.specs.Clock.{switch_forced, switch_manual, selected_number, switch_number, switch_input}
+use Rattle.selector.specs.Clock.{selected_number, switch_number, switch_input}
 use Rattle.inplace.specs.Lists.{switch_of, selection_of, is_selected, held_switch, held_choice}
-
--- ---- switch_of
-
-module _ (kind : ℕ) (on : InputNumber) where
-  pub switch_of_nowhere : last_input < on.0 → W.Nothing ≡ switch_of kind on
-  unfolding switch_of
-  switch_of_nowhere p = rw (lt-ltb _ _ p)
-
-  pub switch_of-forced : on.0 ≤ last_input → kind ≡ switch_forced → W.Forced on ≡ switch_of kind on
-  unfolding switch_of
-  switch_of-forced p e = rw (le-ltb _ _ p, eq-eqb _ _ e)
-
-  pub switch_of-manual : on.0 ≤ last_input → kind ≡ switch_manual → W.Manual on ≡ switch_of kind on
-  unfolding switch_of
-  switch_of-manual p e = rw (le-ltb _ _ p, e)
-
-  pub switch_of-other :
-      on.0 ≤ last_input → (kind ≡ switch_forced → ⊥) → (kind ≡ switch_manual → ⊥)
-      → W.Nothing ≡ switch_of kind on
-  unfolding switch_of
-  switch_of-other p n m = rw (le-ltb _ _ p, ne_eqb _ _ n, ne_eqb _ _ m)
-
-pub ruleset switchOf-laws = (switch_of_nowhere, switch_of-forced, switch_of-manual, switch_of-other)
-
--- ---- selection_of
-
-module _ (selection : ℕ) (number : InputNumber) where
-  pub selection_of_nowhere : last_input < number.0 → None ≡ selection_of selection number
-  unfolding selection_of
-  selection_of_nowhere p = rw (lt-ltb _ _ p)
-
-  pub selection_of-nothing : number.0 ≤ last_input → selection ≡ 0 → None ≡ selection_of selection number
-  unfolding selection_of
-  selection_of-nothing p e = rw (le-ltb _ _ p, eq-eqb _ _ e)
-
-  pub selection_of-at : number.0 ≤ last_input → (selection ≡ 0 → ⊥) → Some number ≡ selection_of selection number
-  unfolding selection_of
-  selection_of-at p n = rw (le-ltb _ _ p, ne_eqb _ _ n)
-
-pub ruleset selectionOf-laws = (selection_of_nowhere, selection_of-nothing, selection_of-at)
-
--- as a yes or no is stored
-pub is_selected_byte : (selection : Option InputNumber) → bool_byte (is_some selection) ≡ is_selected selection
-unfolding is_selected
-is_selected_byte None = refl
-is_selected_byte (Some number) = refl
 
 -- ---- what names an input
 

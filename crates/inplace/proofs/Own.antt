@@ -221,19 +221,6 @@ next_among-after inputs mode time (suc count) h =
     lesser-after time _ _ (next_among-after inputs mode time count h)
     (lesser-after time _ _ (if_later-after time _ h) (if_later-after time _ h))
 
--- ---- `reach`, a law for each way through
-
-module _ (timely : Bool) (time : ℕ) where
-  pub reach-moment : timely ≡ true → time ≡ reach timely time
-  unfolding reach
-  reach-moment e = rw e
-
-  pub reach-any : timely ≡ false → never ≡ reach timely time
-  unfolding reach
-  reach-any e = rw e
-
-pub ruleset reach-laws = (reach-moment, reach-any)
-
 -- ---- some inputs, all timely
 
 timely_from : (inputs : List Input) (mode : Bool) (d : Input)

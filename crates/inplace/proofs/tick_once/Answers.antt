@@ -12,6 +12,3 @@ serve_moment-requires c =
       awaiting_first state.inputs state.mode args.time 18446744073709551615,
       λ chosen. absurd (true≢false (sym chosen)),
     )
-
-pub returns : goal.returns
-returns c = (c.serve_moment.ensures.0, c.serve_moment.ensures.2)

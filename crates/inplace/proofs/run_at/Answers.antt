@@ -1,5 +1,0 @@
--- `inplace::run_at` meets its contract. Assumes nothing.
-use Rattle.inplace.proofs.run_at.Goals as goal
-
-pub returns : goal.returns
-returns c = rw (c.is_set-2.ensures, c.is_set.ensures)
