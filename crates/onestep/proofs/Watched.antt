@@ -24,7 +24,7 @@ use Rattle.selector.specs.declared.Selector.{Selector}
 use Rattle.selector.specs.State.{fresh_selector, decided}
 use Rattle.selector.specs.Answer.{answer_of}
 use Rattle.due.specs.Next.{next_due}
-use Rattle.inplace.specs.Lists.{with_input, framed_at, with_framed, with_time}
+use Rattle.inplace.specs.Lists.{framed_at, with_framed, with_time}
 use Rattle.inplace.proofs.Once.{onces-rest}
 use Rattle.events.specs.Refusals.{early_refusal}
 use Rattle.events.specs.Step.{Stepped, input_after, stepped, early_number, step_read}
@@ -69,13 +69,6 @@ told-answer due told next answer count one seven state =
     [] in
     let same = onces-rest 0 7 ss told refl (omega arith) in
     λ j. watch_of state (get_or-set_same due 0 next 0 (omega arith) j) (six_values (same j)) (same j 6)
-
--- ---- the own input and the time
-
-pub own-moved : (state one after : Selector) (index : ℕ) (input : Input) (time : ℕ)
-    → one ≡ with_input state index input → after ≡ with_time one time
-    → after ≡ moved_to state (set state.inputs index input) time
-own-moved state one after index input time o a = a ∙ ap (λ (moved : Selector). with_time moved time) o
 
 -- ---- a start
 

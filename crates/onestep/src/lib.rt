@@ -40,6 +40,7 @@ pub struct StepTold {
 }
 
 // All inputs after an event: its own, or all of them where it sets the quality mode.
+#[tactic(auto, unfolding(events::specs::Step::inputs_after))]
 fn inputs_after(
     times: &mut [u64; TIMES],
     small: &mut [u8; SMALL],
@@ -100,6 +101,7 @@ fn late_at(times: &[u64; TIMES], small: &[u8; SMALL], wider: &[u16; WIDER], even
 }
 
 // One event on a state that has been ticked to its time: refused, or the event itself.
+#[tactic(auto, unfolding(events::specs::Step::step_ticked))]
 fn step_ticked(
     times: &mut [u64; TIMES],
     small: &mut [u8; SMALL],
@@ -123,6 +125,7 @@ fn step_ticked(
 
 // One event that nothing refuses before its tick: the tick at its time, and then refused or the
 // event itself.
+#[tactic(auto, unfolding(events::specs::Step::step_read))]
 fn step_accepted(
     times: &mut [u64; TIMES],
     small: &mut [u8; SMALL],
@@ -144,6 +147,7 @@ fn step_accepted(
 
 // One event with its frame read: refused at once; or a tick at its time, and then refused or the
 // event itself.
+#[tactic(auto, unfolding(events::specs::Step::step_read))]
 pub fn step_read(
     times: &mut [u64; TIMES],
     small: &mut [u8; SMALL],
@@ -172,6 +176,7 @@ pub fn step_read(
 }
 
 // One event with a lent frame, which counts for a frame event alone.
+#[tactic(auto, unfolding(events::specs::Step::step))]
 pub fn step(
     times: &mut [u64; TIMES],
     small: &mut [u8; SMALL],

@@ -156,6 +156,7 @@ pub fn start_watch(
 
 // A time before which nothing is due of the state that an event left: till it has come it is only
 // lessened.
+#[tactic(auto, unfolding(quickstep::specs::Watch::due_after))]
 fn due_left(
     times: &[u64; TIMES],
     small: &[u8; SMALL],

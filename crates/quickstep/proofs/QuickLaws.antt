@@ -19,7 +19,6 @@ use Rattle.frame.specs.declared.FrameRead.{FrameRead}
 use Rattle.frame.specs.declared.FrameRead.TheVariants.{Code, Refused}
 use Rattle.input.specs.declared.Input.{Input}
 use Rattle.selector.specs.declared.Selector.{Selector}
-use Rattle.due.specs.Next.{lesser, next_due}
 use Rattle.due.specs.Served.{most_served}
 use Rattle.events.specs.Refusals.{early_refusal, is_wrong_kind, frame_refusal}
 use Rattle.events.proofs.EventLaws.{step_read-most}
@@ -28,25 +27,14 @@ use Rattle.quickstep.specs.declared.Left.{Left}
 use Rattle.quickstep.specs.declared.Left.TheVariants.{Nothing, Choice, Service}
 use Rattle.quickstep.specs.Again.{read_again, is_again, says_again, repeats}
 use Rattle.quickstep.specs.Own.{OwnIndex}
-use Rattle.quickstep.specs.Watch.{Watch, due_anew, due_after, served_watch, completed, own_put, own_at, take_step, watch_step}
+use Rattle.quickstep.specs.Watch.{Watch, due_anew, served_watch, completed, own_put, own_at, take_step, watch_step}
 
--- ---- due_anew, due_after
+-- ---- due_anew
 
 module _ (inputs : List Input) (mode : Bool) (last due time : ℕ) where
   pub due_anew-before : time < due → due ≡ due_anew inputs mode last due time
   unfolding due_anew
   due_anew-before h = rw (lt-ltb _ _ h)
-
-module _ (due time : ℕ) (state : Selector) (next : ℕ) (n : next ≡ next_due state) where
-  pub due_after-before : (least : ℕ) → time < due → least ≡ lesser due next → least ≡ due_after due time state
-  unfolding due_after
-  due_after-before least h l = l ∙ (rw (lt-ltb _ _ h, n))
-
-  pub due_after-come : due ≤ time → next ≡ due_after due time state
-  unfolding due_after
-  due_after-come h = n ∙ (rw (le-ltb _ _ h))
-
-pub ruleset dueAfter-laws = (due_after-before, due_after-come)
 
 -- ---- says_again
 
