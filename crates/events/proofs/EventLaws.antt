@@ -9,11 +9,9 @@ use lib.ListN.{length, get_or, set, get_or-eq_default}
 use borrow.Author.Tests.{eq-eqb, ne_eqb, eqb-false, le-leb, lt-leb, ltb-true, ltb-false, not-true, not-false}
 use Rattle.std.specs.Prelude.{Option}
 use Rattle.numbers.specs.declared.Event.{Event}
-use Rattle.numbers.specs.declared.kind.InputKind.{InputKind}
 use Rattle.numbers.specs.declared.InputNumber.{InputNumber}
 use Rattle.numbers.specs.declared.profile.Profile.{Profile}
 use Rattle.numbers.specs.Recorded.{Recorded, said_event}
-use Rattle.numbers.specs.Profile.{limits_of}
 use Rattle.numbers.specs.Inputs.{input_count}
 use Rattle.numbers.specs.Kind.{kind_forced, kind_manual, kind_quality_mode}
 use Rattle.numbers.specs.Refusal.{accepted}
@@ -30,12 +28,12 @@ use Rattle.switch.specs.Choices.{commanded}
 use Rattle.selector.specs.declared.Selector.{Selector}
 use Rattle.selector.specs.State.{candidate_for, seen_all, decided}
 use Rattle.selector.proofs.Scanning.{map-length}
-use Rattle.due.specs.Served.{Served, most_served, served, ticked}
+use Rattle.due.specs.Served.{most_served, served, ticked}
 use Rattle.due.proofs.ServesEachDue.{served-most}
 use Rattle.numbers.specs.Rows.{first_that_applies}
 use Rattle.numbers.proofs.Truth.{by_bool, contra, or_first, or_second}
-use Rattle.events.specs.Refusals.{early_refusal, is_judged_late, ScannedOn, late_refusal}
-use Rattle.events.specs.Step.{Stepped, kind_at, input_after, inputs_after, mode_after, read_event, at_its_moment, stepped, early_number, late_number, step_ticked, step_read}
+use Rattle.events.specs.Refusals.{is_judged_late, ScannedOn, late_refusal}
+use Rattle.events.specs.Step.{input_after, inputs_after, mode_after, at_its_moment, early_number, late_number, step_ticked, step_read}
 
 -- ---- late_refusal
 
@@ -146,41 +144,6 @@ pub at_its_moment_calls : (state : Selector) (event : Recorded) (mode : Bool) (s
     → answer ≡ at_its_moment state event
 unfolding at_its_moment
 at_its_moment_calls state event mode switch inputs answer m s i a = a ∙ rw (i, s, m)
-
--- ---- step_ticked
-
-module _ (state : Selector) (count : ℕ) (event : Event) (read : FrameRead) (late : ℕ) where
-  pub step_ticked-late : late ≡ late_number state event → (late ≡ accepted → ⊥)
-      → stepped late count state ≡ step_ticked state count event read
-  step_ticked-late l n = rw (← l, ne_eqb _ _ n)
-
-  pub step_ticked-accepted : (after : Selector) (recorded : Event) → late ≡ late_number state event → late ≡ accepted
-      → recorded ≡ read_event event read
-      → after ≡ at_its_moment state (said_event state.profile recorded)
-      → stepped accepted count after ≡ step_ticked state count event read
-  step_ticked-accepted after recorded l n r a =
-      rw (← l, n, a) (ap (λ (event : Event). stepped accepted count
-      (at_its_moment state (said_event state.profile event))) r)
-
--- ---- step_read
-
-module _ (state : Selector) (event : Event) (read : FrameRead) (inputkind : InputKind) (early : ℕ) where
-  pub step_read-early : inputkind ≡ kind_at state.inputs event.input
-      → early ≡ early_refusal (limits_of state.profile) state.time inputkind event read
-      → (early ≡ accepted → ⊥) → stepped early 0 state ≡ step_read state event read
-  unfolding step_read
-  step_read-early i e n = rw (← i, ← e, ne_eqb _ _ n)
-
-  pub step_read-late : (tick : Served) (after : Stepped) → inputkind ≡ kind_at state.inputs event.input
-      → early ≡ early_refusal (limits_of state.profile) state.time inputkind event read
-      → early ≡ accepted → tick ≡ served state event.time
-      → after ≡ step_ticked tick.state tick.count event read
-      → after ≡ step_read state event read
-  unfolding step_read
-  step_read-late tick after i e z t a =
-      a ∙
-      ap (λ (brought : Served). step_ticked brought.state brought.count event read) t ∙
-      rw (← i, ← e, z)
 
 -- ---- its count
 

@@ -7,18 +7,12 @@ use native.Mathlib.Omega.{arith}
 use native.Mathlib.Numerals.{add-one}
 use lib.Dec.{eqb}
 use lib.ListN.{length, get_or, set}
-use Rattle.std.specs.Prelude.{Option, Some, None}
-use Rattle.numbers.specs.declared.InputNumber.{InputNumber}
-use Rattle.numbers.specs.declared.profile.Profile.{Profile}
 use Rattle.numbers.specs.Profile.{is_marked, halved}
 use Rattle.input.specs.declared.Input.{Input}
 use Rattle.input.specs.Record.{fresh_input}
-use Rattle.choice.specs.declared.Candidate.{Candidate}
-use Rattle.choice.specs.Candidate.{nobody}
-use Rattle.selector.specs.State.{candidate_for}
 use Rattle.selector.proofs.Filled.{filled, filled-turn}
 use Rattle.selector.proofs.Ports.{port-number}
-use Rattle.selector.specs.Answer.{selected_candidate, sign_for, ports}
+use Rattle.selector.specs.Answer.{sign_for, ports}
 
 -- ---- get_or
 
@@ -44,21 +38,6 @@ module _ (inputs : List Input) (number : ℕ) where
       → found ≡ get_or inputs number fresh_input
   input_at_past found h k e =
       let m : length inputs ≤ number = omega arith in e ∙ sym (get_d_past inputs number fresh_input m)
-
--- ---- selected_candidate
-
-module _ (profile : Profile) (inputs : List Input) (mode : Bool) (selection : Option InputNumber) where
-  pub selected_candidate-nothing : selection ≡ None → nobody ≡ selected_candidate profile inputs mode selection
-  unfolding selected_candidate
-  selected_candidate-nothing s = rw s
-
-  pub selected_candidate-at : (number : InputNumber) (input : Input) (candidate : Candidate) → selection ≡ Some number
-      → input ≡ get_or inputs number.0 fresh_input → candidate ≡ candidate_for profile mode input
-      → candidate ≡ selected_candidate profile inputs mode selection
-  unfolding selected_candidate
-  selected_candidate-at number input candidate s i c = c ∙ (rw (s, i))
-
-pub ruleset selectedCandidate-laws = (selected_candidate-nothing, selected_candidate-at)
 
 -- ---- sign_for, for codes and for words
 
