@@ -7,8 +7,8 @@ use mathlib.Core.Path.{◌≡◌, refl, ap, sym, ◌∙◌}
 use native.Mathlib.Omega.{arith}
 use borrow.Author.Tests.{ltb-false, lt-ltb, le-ltb}
 use lib.Dec.{ltb}
-use lib.ListN.{length, take, drop, get_or, set, replicate, length-set, length-append, length-drop, length-replicate}
-use lib.Seq.{take-take, take_at, take_all, drop_at, set_split}
+use lib.ListN.{length, take, drop, get_or, set, replicate, length-set, length-drop, length-replicate}
+use lib.Seq.{take-take, take_at, drop_at, set_split}
 use Rattle.digits.specs.declared.decimal.DecimalText.{DecimalText}
 use Rattle.digits.specs.Digits.{numeral0}
 use Rattle.digits.specs.Decimal.{decimal_places, decimal_with, decimal_of, decimal, decimal_value, InDecimal}
@@ -202,48 +202,9 @@ module _ (number : ℕ) (text : List ℕ) (start rest : ℕ) (so_far : SoFar num
       rw written (omega (arith, length-drop start text, so_far.size, so_far.within, next)) in
       rw (left, written, put digit)
 
--- ---- where a number's digits stand
-
-module _ (number : ℕ) (places : ℕ) (answer : DecimalText) (is : answer ≡ decimal number)
-    (below : number < tens (suc places))
-    (few : suc places ≤ decimal_places) where
-  pub decimal_start : answer.start ≤ decimal_places
-  unfolding decimal
-  decimal_start = rw is (omega arith)
-
-  -- what stands from there on
-  pub decimal-part : take (decimal_places - answer.start) (drop answer.start answer.text) ≡ decimal_of number
-  unfolding decimal
-  decimal-part =
-      let most = decimal_of-length places number below in
-      let digits : List ℕ = decimal_of number in
-      let start : ℕ = decimal_places - length (decimal_of number) in
-      rw is
-      (ap (take (decimal_places - (decimal_places - length (decimal_of number))))
-      (drop_at (replicate (decimal_places - length (decimal_of number)) 0) (decimal_of number)
-      (decimal_places - length (decimal_of number))
-      (length-replicate (decimal_places - length (decimal_of number)) 0)) ∙
-      take_all (decimal_places - (decimal_places - length (decimal_of number))) (decimal_of number) (omega arith))
+-- ---- few digits
 
 -- of a number below 1,000: at most three digits
-module _ (number : ℕ) (answer : DecimalText) (is : answer ≡ decimal number) (below : number < 1000) where
-  pub three_start : answer.start ≤ decimal_places
-  unfolding tens
-  three_start = decimal_start number 2 answer is below (omega arith)
-
-  pub three-part : take (decimal_places - answer.start) (drop answer.start answer.text) ≡ decimal_of number
-  unfolding tens
-  three-part = decimal-part number 2 answer is below (omega arith)
-
-  pub three-most : length (take (decimal_places - answer.start) (drop answer.start answer.text)) ≤ 3
-  unfolding tens
-  three-most = rw three-part (decimal_of-length 2 number below)
-
-  pub three-size : length answer.text ≡ decimal_places
-  unfolding tens decimal
-  three-size =
-      let most = decimal_of-length 2 number below in
-      rw is
-      (length-append (replicate (decimal_places - length (decimal_of number)) 0) (decimal_of number) ∙
-      ap (λ (n : ℕ). n + length (decimal_of number)) (length-replicate (decimal_places - length (decimal_of number)) 0) ∙
-      omega arith)
+pub decimal_of-three : (number : ℕ) → number < 1000 → length (decimal_of number) ≤ 3
+unfolding tens
+decimal_of-three number below = decimal_of-length 2 number below

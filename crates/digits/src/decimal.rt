@@ -1,7 +1,7 @@
 // Decimal text: counts, line numbers and the like.
 //
 // No public function has a `requires`: every number of 64 bits has its text.
-ghost use Rattle.std.specs.Prelude.{◌≡◌, ◌+◌, ◌<◌};
+ghost use Rattle.std.specs.Prelude.{◌≡◌, ◌+◌, ◌<◌, drop};
 ghost use Rattle.digits.specs.Digits.{numeral0};
 ghost use Rattle.digits.specs.Decimal.{decimal};
 
@@ -11,6 +11,15 @@ ghost use Rattle.digits.specs.Decimal.{decimal};
 pub struct DecimalText {
     pub text: [u8; 20],
     pub start: usize,
+}
+
+impl DecimalText {
+    // The digits alone.
+    pub fn as_slice(&self) -> &[u8]
+        ensures { result.now ≡ drop self.now.start self.now.text }
+    {
+        &self.text[self.start.min(20)..]
+    }
 }
 
 // The numeral of a number below ten.

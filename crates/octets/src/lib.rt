@@ -11,12 +11,7 @@ pub fn copy(from: &[u8], to: &mut [u8]) -> usize
     ensures front { length to.old < length from.now → (result ≡ length to.old) ×
         (to.new ≡ take (length to.old) from.now) }
 {
-    let count = from.len();
-    if to.len() < count {
-        let room = to.len();
-        to.copy_from_slice(&from[..room]);
-        return room;
-    }
-    to[..count].copy_from_slice(from);
+    let count = from.len().min(to.len());
+    to[..count].copy_from_slice(&from[..count]);
     count
 }

@@ -108,28 +108,19 @@ module _ (number : ℕ) (small : number < 18446744073709551616) where
 
 -- ---- Put
 
--- a number of the decimal's text, copied from its start
-pub written-decimal : (number place copied : ℕ) (written : DecimalText) (out part : List ℕ)
-    → number < 18446744073709551616 → place ≤ length out
-    → written ≡ decimal number
-    → copied ≡ length (take (decimal_places - written.start) (drop written.start written.text))
-    → part
-    ≡ take (length (take (decimal_places - written.start) (drop written.start written.text)))
-    (take (decimal_places - written.start) (drop written.start written.text))
-    ++ drop (length (take (decimal_places - written.start) (drop written.start written.text)))
-    (mid_of place (length out - place) out)
+-- a number's digits, copied
+pub written-decimal : (number place copied : ℕ) (digits out part : List ℕ) → place ≤ length out
+    → digits ≡ decimal_of number
+    → copied ≡ length digits
+    → part ≡ take (length digits) digits ++ drop (length digits) (mid_of place (length out - place) out)
     → Put (decimal_of number) place out (place + copied) (put_mid place (length out - place) out part)
-written-decimal number place copied written out part small inside is count copies =
-    let known = decimal-text number small written is in
-    let all : take (decimal_places - written.start) (drop written.start written.text) ≡ decimal_of number =
-    ap (take (decimal_places - written.start)) known.digits
-    ∙ take_all (decimal_places - written.start) (decimal_of number) (omega (arith, known.places)) in
+written-decimal number place copied digits out part inside is count copies =
     record {
-      past = ap (λ (n : ℕ). place + n) (count ∙ ap length all);
+      past = ap (λ (n : ℕ). place + n) (count ∙ ap length is);
       content =
           with_text-part place out (decimal_of number) part inside
           (copies
-          ∙ ap (λ (t : List ℕ). take (length t) t ++ drop (length t) (mid_of place (length out - place) out)) all);
+          ∙ ap (λ (t : List ℕ). take (length t) t ++ drop (length t) (mid_of place (length out - place) out)) is);
     }
 
 -- a text ends inside the output that it was written to

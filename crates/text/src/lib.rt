@@ -20,10 +20,7 @@ fn put_decimal(out: &mut [u8], place: usize, number: u64) -> usize
     requires { place + length (decimal_of number) ≤ length out.old }
     ensures { Put (decimal_of number) place out.old result out.new }
 {
-    let written = decimal(number);
-    let text = written.text;
-    let start = written.start;
-    let copied = octets::copy(&text[start..], &mut out[place..]);
+    let copied = octets::copy(decimal(number).as_slice(), &mut out[place..]);
     place + copied
 }
 
