@@ -1,5 +1,5 @@
 -- One sender in C's hands, a law for each way through the functions that lend it. Assumes nothing.
-use Prim.Native.Nat.{ℕ, ◌*◌, ◌≤◌, ◌<◌}
+use Prim.Native.Nat.{ℕ, ◌≤◌, ◌<◌}
 use mathlib.Core.List.{List}
 use mathlib.Core.Path.{◌≡◌, refl, sym, ap, ◌∙◌}
 use native.Mathlib.Omega.{arith}
@@ -9,33 +9,10 @@ use Rattle.selector.specs.declared.Selector.{Selector}
 use Rattle.selector.specs.Answer.{outgoing_codes}
 use Rattle.selector.proofs.SelectorLaws.{get_d_past}
 use Rattle.sender.specs.declared.Heartbeat.{Heartbeat}
-use Rattle.sender.specs.declared.Heartbeat.TheVariants as H
 use Rattle.sender.specs.declared.Sender.{Sender}
 use Rattle.sender.specs.Heartbeat.{code_of_port}
 use Rattle.sender.specs.Sender.{one_with, AskedOne, AskOne}
 use Rattle.card.specs.Asking.{sender_times, sender_numbers, heartbeat_told, AskLent}
-
--- ---- heartbeat_told
-
-module _ (heartbeat : Heartbeat) where
-  pub told-information : heartbeat ≡ H.Information → 1 ≡ heartbeat_told heartbeat
-  unfolding heartbeat_told
-  told-information e = rw e
-
-  pub told-event : heartbeat ≡ H.Event → 2 ≡ heartbeat_told heartbeat
-  unfolding heartbeat_told
-  told-event e = rw e
-
-  pub told-nothing : heartbeat ≡ H.Nothing → 0 ≡ heartbeat_told heartbeat
-  unfolding heartbeat_told
-  told-nothing e = rw e
-
-  pub told-refused : (number wide : ℕ) → heartbeat ≡ H.Refused number → wide ≡ number
-      → 256 * wide ≡ heartbeat_told heartbeat
-  unfolding heartbeat_told
-  told-refused number wide e w = rw (e, w)
-
-pub ruleset heartbeatTold-laws = (told-information, told-event, told-nothing, told-refused)
 
 -- ---- the code of a port
 

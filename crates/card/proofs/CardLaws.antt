@@ -8,18 +8,14 @@ use borrow.Author.Tests.{eq-eqb, ne_eqb, lt-ltb, le-ltb}
 use Rattle.numbers.specs.declared.Answer.{Answer}
 use Rattle.numbers.specs.declared.profile.Profile.{Profile}
 use Rattle.numbers.specs.Inputs.{last_input}
-use Rattle.numbers.specs.Kind.{kind_frame}
 use Rattle.numbers.specs.Profile.{start_number, profile_in}
 use Rattle.numbers.specs.Refusal.{accepted, input_out_of_range, argument_out_of_range}
-use Rattle.frame.specs.declared.FrameRead.{FrameRead}
-use Rattle.frame.specs.declared.FrameRead.TheVariants.{Code}
-use Rattle.frame.specs.Read.{read_code}
 use Rattle.frame.specs.Write.{Writing, WriteFrame}
 use Rattle.selector.specs.declared.Selector.{Selector}
 use Rattle.selector.specs.Answer.{answer_of, outgoing_codes}
-use Rattle.quickstep.specs.Watch.{Watch, watch_of, fresh_watch, watch_step}
+use Rattle.quickstep.specs.Watch.{Watch, watch_of, fresh_watch}
 use Rattle.sender.specs.Heartbeat.{code_of_port}
-use Rattle.card.specs.Lent.{with_number, names_option, start_lent, event_of, read_for, is_ranged, ranged_watch, event_lent, step_lent, number_of_write, WritePort}
+use Rattle.card.specs.Lent.{with_number, names_option, start_lent, is_ranged, ranged_watch, number_of_write, WritePort}
 
 -- ---- start_lent
 
@@ -46,19 +42,6 @@ module _ (watch : Watch) (option provplace marks : ℕ) (named : Bool) (is : nam
         k ∙ ap (λ (given : ℕ). with_number watch given) n
         ∙ (rw (← is, chosen, ne_eqb (start_number option provplace) accepted (λ e. a (n ∙ e))))
 
--- ---- read_for
-
-module _ (kind : ℕ) (frame : List ℕ) where
-  pub read_for-frame : (read : FrameRead) → kind ≡ kind_frame → read ≡ read_code frame → read ≡ read_for kind frame
-  unfolding read_for
-  read_for-frame read e r = rw (eq-eqb _ _ e, r)
-
-  pub read_for-other : (kind ≡ kind_frame → ⊥) → Code 0 ≡ read_for kind frame
-  unfolding read_for
-  read_for-other n = rw (ne_eqb _ _ n)
-
-pub ruleset readFor-laws = (read_for-frame, read_for-other)
-
 -- ---- ranged_watch
 
 module _ (watch : Watch) (ranged : Bool) (is : ranged ≡ is_ranged watch.answer) where
@@ -72,16 +55,6 @@ module _ (watch : Watch) (ranged : Bool) (is : ranged ≡ is_ranged watch.answer
   unfolding ranged_watch
   ranged_anew answer after n a e =
       e ∙ ap (λ (told : Answer). watch_of watch.state watch.due told 0) a ∙ (rw (← is, n))
-
--- ---- step_lent
-
-pub step-called : (watch ranged after : Watch) (kind time input argument : ℕ) (frame : List ℕ) (read : FrameRead)
-    → read ≡ read_for kind frame → ranged ≡ ranged_watch watch
-    → after ≡ watch_step ranged (event_of kind time input argument) read
-    → after ≡ step_lent watch kind time input argument frame
-unfolding step_lent event_lent
-step-called watch ranged after kind time input argument frame read r e a =
-    a ∙ (λ j. watch_step (e j) (event_of kind time input argument) (r j))
 
 -- ---- WritePort
 

@@ -1,12 +1,11 @@
 -- `CardLaws`: the definitions, a law for each way through the function that meets it. `Same`: those of a sound card.
--- `Status`: those of what is known of an input. `Tested`: those of the self-test. `Asking`: those of one sender.
+-- `Tested`: those of the self-test. `Asking`: those of one sender.
 -- `Range`: what C may index by. `Due`: what is next due after an event that is taken. `Ports`: what is written for a
 -- port. `Calls`: what C holds after calls in a row. `Kept`: a kept card. `SelfTest`: the self-test is passed.
 -- `Portions`: a tick in portions. `Ranges`: the header's ranges. `Questions`: questions in a row to senders lent one by
 -- one.
 pub mod CardLaws
 pub mod Same
-pub mod Status
 pub mod Tested
 pub mod Asking
 pub mod Range

@@ -5,7 +5,7 @@ use mathlib.Core.List.{[]}
 use mathlib.Core.Path.{◌≡◌, refl, sym, ◌∙◌, ap, subst}
 use native.Mathlib.Omega.{arith}
 use lib.Dec.{leb}
-use borrow.Author.Tests.{eq-eqb, ne_eqb, le-leb, lt-leb, leb-true}
+use borrow.Author.Tests.{le-leb, lt-leb, leb-true}
 use Rattle.numbers.specs.From.{◌following◌}
 use Rattle.numbers.specs.Inputs.{time_limit}
 use Rattle.numbers.specs.Kind.{kind_tick}
@@ -41,19 +41,6 @@ pub tick_called : (watch ranged after : Watch) (time : ℕ) → ranged ≡ range
 unfolding step_lent event_lent read_for
 tick_called watch ranged after time e a =
     a ∙ ap (λ (one : Watch). watch_step one (event_of kind_tick time 0 0) (Code 0)) e
-
--- ---- at_least_one
-
-module _ (most : ℕ) where
-  pub at_least_one-none : most ≡ 0 → 1 ≡ at_least_one most
-  unfolding at_least_one
-  at_least_one-none e = rw (eq-eqb most 0 e)
-
-  pub at_least_one-some : (most ≡ 0 → ⊥) → most ≡ at_least_one most
-  unfolding at_least_one
-  at_least_one-some n = rw (ne_eqb most 0 n)
-
-pub ruleset atLeastOne-laws = (at_least_one-none, at_least_one-some)
 
 -- ---- part_served: the loop of `serve_part`
 

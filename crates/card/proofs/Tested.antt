@@ -9,7 +9,7 @@ use lib.Dec.{ltb}
 use lib.ListN.{length, get_or, drop, drop_of_length-le}
 use lib.Seq.{drop-cons}
 use mir.Val.{bool_byte}
-use borrow.Author.Tests.{lt-ltb, le-ltb, ltb-true}
+use borrow.Author.Tests.{ltb-true}
 use Rattle.numbers.specs.declared.profile.Profile.TheVariants as P
 use Rattle.numbers.specs.Kind.{flag}
 use Rattle.frame.specs.Write.{written_length}
@@ -21,22 +21,11 @@ use Rattle.card.proofs.Same.{bool_byte_flag}
 
 -- ---- lent_octets
 
-module _ (octets : ℕ) where
-  pub lent_octets-short : octets < written_length → octets ≡ lent_octets octets
-  unfolding lent_octets
-  lent_octets-short short = rw (lt-ltb _ _ short)
-
-  pub lent_octets-whole : written_length ≤ octets → written_length ≡ lent_octets octets
-  unfolding lent_octets
-  lent_octets-whole long = rw (le-ltb _ _ long)
-
-  pub lent_octets-most : lent_octets octets ≤ written_length
-  unfolding lent_octets
-  lent_octets-most =
-      by_bool (ltb octets written_length) (λ short. rw short (omega (arith, ltb-true octets written_length short)))
-      (λ long. rw long (omega arith))
-
-pub ruleset lentOctets-laws = (lent_octets-short, lent_octets-whole)
+pub lent_octets-most : (octets : ℕ) → lent_octets octets ≤ written_length
+unfolding lent_octets
+lent_octets-most octets =
+    by_bool (ltb octets written_length) (λ short. rw short (omega (arith, ltb-true octets written_length short)))
+    (λ long. rw long (omega arith))
 
 -- ---- answered_right: the loop of `self_test`
 

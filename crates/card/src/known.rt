@@ -13,6 +13,7 @@ use status::input_status;
 
 // When its timer and its frame end; 0 where nothing is still to end, and where there is no such
 // input.
+#[tactic(auto, unfolding(crate::specs::Known::ends_known))]
 pub fn ends_at(
     times: &[u64; TIMES],
     small: &[u8; SMALL],
@@ -31,6 +32,7 @@ pub fn ends_at(
 
 // The number of the refusal or 0, raw and passed quality by their numbers on paper, whether it is
 // eligible and its signal good, priority, whether it is locked, and the floor in force.
+#[tactic(auto, unfolding(crate::specs::Known::input_known))]
 pub fn known_at(
     times: &[u64; TIMES],
     small: &[u8; SMALL],

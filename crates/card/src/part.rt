@@ -41,6 +41,7 @@ fn tick_at(
 }
 
 // How many moments a portion serves: one at least, so that each call comes further.
+#[tactic(auto, unfolding(crate::specs::Part::at_least_one))]
 fn at_least_one(most: u8) -> u8
     ensures { result ≡ at_least_one most }
 {

@@ -65,6 +65,7 @@ fn times_of(sender: Sender) -> [u64; 11]
 }
 
 // What a question was answered with, as a number.
+#[tactic(auto, unfolding(crate::specs::Asking::heartbeat_told))]
 fn told_of(heartbeat: Heartbeat) -> u32
     ensures { result ≡ heartbeat_told heartbeat }
 {
