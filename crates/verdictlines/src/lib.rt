@@ -19,7 +19,7 @@ use bench::shown_by;
 use inplace::time_at;
 use lane::{Lane, Tolerance, fresh_lane};
 use lanes::{ROOM, View};
-use logline::held::{LogHeld, fresh_log};
+use logline::held::LogHeld;
 use numbers::profile::ProvPlace;
 use tell::{advance_all, capped, later};
 
@@ -59,12 +59,9 @@ pub fn fresh_bench(view: View, provplace: ProvPlace, marks: u16) -> BenchHeld
 {
     let fresh = fresh_lane();
     let lanes = [fresh; 16];
-    let log = fresh_log(provplace, marks);
+    let log = LogHeld::fresh(provplace, marks);
     let held = log.held;
-    let times = held.times;
-    let small = held.small;
-    let wider = held.wider;
-    let shows = shown_by(view, &times, &small, &wider);
+    let shows = shown_by(view, &held.times, &held.small, &held.wider);
     BenchHeld {
         log,
         lanes,
@@ -90,22 +87,17 @@ pub fn whole_lanes(
         (StaysStopped stopped.old stopped.new) }
 {
     let tolerance = question.tolerance;
-    let log = bench.log;
-    let held = log.held;
-    let times = held.times;
-    let small = held.small;
-    let wider = held.wider;
-    let lanes = bench.lanes;
+    let held = bench.log.held;
     let behind = capped(capped(tolerance.end, tolerance.early), 1);
-    let until = later(behind, time_at(&times));
+    let until = later(behind, time_at(&held.times));
     advance_all(
         rt,
         question,
-        lanes,
+        bench.lanes,
         room,
-        &times,
-        &small,
-        &wider,
+        &held.times,
+        &held.small,
+        &held.wider,
         bench.since,
         until,
         stopped,
