@@ -8,12 +8,14 @@
 #![tactic(auto)]
 
 ghost use Rattle.std.specs.Prelude.{true, ◌≡◌, length};
+ghost use Rattle.std.specs.List.{list_all};
+ghost use Rattle.std.specs.Char.{is_ascii_digit};
 ghost use Rattle.calls.specs.Calls.{TextSaid};
 ghost use Rattle.digits.specs.Decimal.{decimal_value};
 ghost use Rattle.start.specs.Start.{is_option_word, is_decimal, is_marks, digits_value, start_of, start_in, start_by, StartReadRight};
 ghost use Rattle.start.specs.Said.{start_stream, start_said};
 
-use calls::{Ending, Stream, argument, write_alone};
+use calls::{Ending, LONGEST_WORD, Stream, argument, write_alone};
 use numbers::profile::{OPTION_TWO, ProvPlace, prov_place_in, start_number};
 use numbers::refusal::ACCEPTED;
 
@@ -30,16 +32,18 @@ const MARKS: usize = 4;
 const LARGEST: u64 = 255;
 
 // So many octets of a place are read: the programs' stack has room for them.
-const LONGEST_WORD: usize = 65_536;
+const LONGEST_PLACE: usize = 65_536;
 
-// So many octets of the other words.
-const LONGEST_OTHER: usize = 4_096;
+// What START says: the place of PROV and the marks.
+#[derive(Clone, Copy, PartialEq, Eq)]
+pub struct Start {
+    pub provplace: ProvPlace,
+    pub marks: u16,
+}
 
-// What START says: the place of PROV and the marks; that the start is refused; or that it is no
-// START.
-#[derive(Clone, Copy)]
-pub enum StartRead {
-    Started(ProvPlace, u16),
+// Why there is no start: it is refused; or the words are none.
+#[derive(Clone, Copy, PartialEq, Eq)]
+pub enum StartError {
     Refused,
     NoStart,
 }
@@ -48,41 +52,28 @@ pub enum StartRead {
 pub fn is_option_word(word: &[u8], numeral: u8) -> bool
     ensures { result ≡ is_option_word numeral word.now }
 {
-    if word.len() != 1 {
-        return false;
-    }
-    word[0] == numeral
+    word.len() == 1 && word[0] == numeral
+}
+
+// Whether no character of a word is other than a decimal digit.
+fn has_numerals(word: &[u8]) -> bool
+    ensures { result ≡ list_all is_ascii_digit word.now }
+{
+    word.iter().all(|character| character.is_ascii_digit())
 }
 
 // Whether a word is a number in decimal digits, of any size.
 pub fn is_decimal(word: &[u8]) -> bool
     ensures { result ≡ is_decimal word.now }
 {
-    if word.len() == 0 {
-        return false;
-    }
-    let mut passed = 0;
-    while passed < word.len() {
-        let character = word[passed];
-        if character < b'0' {
-            return false;
-        }
-        if b'9' < character {
-            return false;
-        }
-        passed += 1;
-    }
-    true
+    !word.is_empty() && has_numerals(word)
 }
 
 // Whether a word has four digits.
 fn is_marks(word: &[u8]) -> bool
     ensures { result ≡ is_marks word.now }
 {
-    if word.len() != MARKS {
-        return false;
-    }
-    digits::all_digits(word)
+    word.len() == MARKS && digits::all_digits(word)
 }
 
 // The number of four digits, the first of which counts most: "bit i (of value 2^i) for port i".
@@ -96,72 +87,73 @@ fn marks_in(word: &[u8]) -> u16
 }
 
 // A start with a place and marks: "A place above 8" is refused.
-fn start_of(provplace: u8, marks: u16) -> StartRead
+fn start_of(provplace: u8, marks: u16) -> Result<Start, StartError>
     ensures { result ≡ start_of provplace marks }
 {
     if start_number(OPTION_TWO, provplace) == ACCEPTED {
-        return StartRead::Started(prov_place_in(provplace), marks);
+        Ok(Start {
+            provplace: prov_place_in(provplace),
+            marks,
+        })
+    } else {
+        Err(StartError::Refused)
     }
-    StartRead::Refused
 }
 
 // A start with a place that is a number of any size.
-fn start_at(provplace: &[u8], marks: u16) -> StartRead
+fn start_at(provplace: &[u8], marks: u16) -> Result<Start, StartError>
     requires { is_decimal provplace.now ≡ true }
     ensures { result ≡ start_of (decimal_value 0 provplace.now) marks }
 {
     let Some(number) = text::read_number(provplace, LARGEST) else {
-        return StartRead::Refused;
+        return Err(StartError::Refused);
     };
     start_of(number as u8, marks)
 }
 
 // What three words say: `2 PLACE MARKS`.
-pub fn start_in(option: &[u8], provplace: &[u8], marks: &[u8]) -> StartRead
+pub fn start_in(option: &[u8], provplace: &[u8], marks: &[u8]) -> Result<Start, StartError>
     ensures { result ≡ start_in option.now provplace.now marks.now }
 {
-    if !is_option_word(option, NUMERAL_2) {
-        return StartRead::NoStart;
+    if is_option_word(option, NUMERAL_2) && is_decimal(provplace) && is_marks(marks) {
+        start_at(provplace, marks_in(marks))
+    } else {
+        Err(StartError::NoStart)
     }
-    if !is_decimal(provplace) {
-        return StartRead::NoStart;
-    }
-    if !is_marks(marks) {
-        return StartRead::NoStart;
-    }
-    start_at(provplace, marks_in(marks))
 }
 
 // What so many words say, of which the first three are given: nothing is unplaced, and no marks.
-pub fn start_by(count: usize, option: &[u8], provplace: &[u8], marks: &[u8]) -> StartRead
+pub fn start_by(
+    count: usize,
+    option: &[u8],
+    provplace: &[u8],
+    marks: &[u8],
+) -> Result<Start, StartError>
     ensures { result ≡ start_by count option.now provplace.now marks.now }
 {
-    if count == 0 {
-        return StartRead::Started(ProvPlace::Unplaced, 0);
+    match count {
+        0 => Ok(Start {
+            provplace: ProvPlace::Unplaced,
+            marks: 0,
+        }),
+        ARGUMENTS => start_in(option, provplace, marks),
+        _ => Err(StartError::NoStart),
     }
-    if count != ARGUMENTS {
-        return StartRead::NoStart;
-    }
-    start_in(option, provplace, marks)
 }
 
 // How many words the arguments have behind the program's name.
 fn argument_count(rt: &HostRuntime) -> usize {
-    let count = calls::argument_count(rt);
-    if count == 0 {
-        return 0;
-    }
-    count - 1
+    calls::argument_count(rt).saturating_sub(1)
 }
 
 // Reads START from the program's arguments. A word that is longer than what is lent for it is taken
 // as an empty one, so it is no START: a place of more than 65,536 digits too.
-pub fn read_start(rt: &HostRuntime) -> StartRead
+pub fn read_start(rt: &HostRuntime) -> Result<Start, StartError>
     ensures { StartReadRight result }
 {
-    let mut option = [0u8; LONGEST_OTHER];
-    let mut provplace = [0u8; LONGEST_WORD];
-    let mut marks = [0u8; LONGEST_OTHER];
+    let mut option = [0u8; LONGEST_WORD];
+    let mut provplace = [0u8; LONGEST_PLACE];
+    let mut marks = [0u8; LONGEST_WORD];
     let first = argument(rt, 1, &mut option);
     let second = argument(rt, 2, &mut provplace);
     let third = argument(rt, 3, &mut marks);
@@ -174,7 +166,12 @@ pub fn read_start(rt: &HostRuntime) -> StartRead
 }
 
 // Writes a line that says a start.
-fn start_line(rt: &HostRuntime, stream: Stream, line: &[u8], start: StartRead) -> Ending
+fn start_line(
+    rt: &HostRuntime,
+    stream: Stream,
+    line: &[u8],
+    start: Result<Start, StartError>,
+) -> Ending
     requires { (stream ≡ start_stream start) × (line.now ≡ start_said start) }
     ensures { TextSaid (length (start_said start)) result }
 {
@@ -184,13 +181,13 @@ fn start_line(rt: &HostRuntime, stream: Stream, line: &[u8], start: StartRead) -
 // Says that there is no start: of a refused one its number on standard output, and nothing else; of
 // words that are no START on standard error, in one line, what START is. Of a start nothing is
 // said.
-pub fn say_start(rt: &HostRuntime, start: StartRead) -> Ending
+pub fn say_start(rt: &HostRuntime, start: Result<Start, StartError>) -> Ending
     ensures { TextSaid (length (start_said start)) result }
 {
     match start {
-        StartRead::Started(_, _) => start_line(rt, Stream::Error, b"", start),
-        StartRead::Refused => start_line(rt, Stream::Output, b"06\n", start),
-        StartRead::NoStart => start_line(
+        Ok(_) => start_line(rt, Stream::Error, b"", start),
+        Err(StartError::Refused) => start_line(rt, Stream::Output, b"06\n", start),
+        Err(StartError::NoStart) => start_line(
             rt,
             Stream::Error,
             b"START is nothing, or 2 PLACE MARKS: a decimal number, four hexadecimal digits\n",

@@ -13,10 +13,10 @@ ghost use Rattle.digits.specs.Decimal.{decimal_value};
 ghost use Rattle.start.specs.Start.{is_decimal};
 ghost use Rattle.unitstart.specs.Start.{unit_start_of, unit_start_two, unit_start_in, unit_start_by, UnitStartReadRight};
 
-use calls::{argument, argument_count};
+use calls::{LONGEST_WORD, argument, argument_count};
 use numbers::profile::Profile;
 use numbers::quality::Quality;
-use start::{StartRead, is_decimal, is_option_word, start_in};
+use start::{Start, StartError, is_decimal, is_option_word, start_in};
 use unit::is_minimum;
 
 // The arguments: the program's name, and four words.
@@ -29,63 +29,58 @@ const NUMERAL_1: u8 = b'1';
 const LARGEST: u64 = 255;
 
 // So many octets of a number are read: the program's stack has room for them.
-const LONGEST_WORD: usize = 65_536;
+const LONGEST_NUMBER: usize = 65_536;
 
-// So many octets of the other words.
-const LONGEST_OTHER: usize = 4_096;
-
-// What the words say: a profile and a minimum; that the start is refused; or that they are no start
-// of a unit.
-#[derive(Clone, Copy)]
-pub enum UnitStart {
-    Started(Profile, Quality),
-    Refused,
-    NoStart,
+// What the words say: a profile and a minimum.
+#[derive(Clone, Copy, PartialEq, Eq)]
+pub struct UnitStart {
+    pub profile: Profile,
+    pub minimum: Quality,
 }
 
 // A start of a profile with a minimum.
-fn start_of(profile: Profile, minimum: Quality) -> UnitStart
+fn start_of(profile: Profile, minimum: Quality) -> Result<UnitStart, StartError>
     ensures { result ≡ unit_start_of profile minimum }
 {
     if is_minimum(profile, minimum) {
-        return UnitStart::Started(profile, minimum);
+        Ok(UnitStart { profile, minimum })
+    } else {
+        Err(StartError::Refused)
     }
-    UnitStart::Refused
 }
 
 // A start with a minimum that is a number of any size.
-fn start_with(profile: Profile, minimum: &[u8]) -> UnitStart
+fn start_with(profile: Profile, minimum: &[u8]) -> Result<UnitStart, StartError>
     requires { is_decimal minimum.now ≡ true }
     ensures { result ≡ unit_start_of profile (quality (decimal_value 0 minimum.now)) }
 {
     let Some(number) = text::read_number(minimum, LARGEST) else {
-        return UnitStart::Refused;
+        return Err(StartError::Refused);
     };
     start_of(profile, Quality(number as u8))
 }
 
 // A start of option II, of which START's words have been read.
-fn start_two(start: StartRead, minimum: &[u8]) -> UnitStart
+fn start_two(start: Result<Start, StartError>, minimum: &[u8]) -> Result<UnitStart, StartError>
     requires { is_decimal minimum.now ≡ true }
     ensures { result ≡ unit_start_two start (quality (decimal_value 0 minimum.now)) }
 {
-    match start {
-        StartRead::Started(provplace, marks) => start_with(
-            Profile::OptionTwo(provplace, marks),
-            minimum,
-        ),
-        StartRead::Refused => UnitStart::Refused,
-        StartRead::NoStart => UnitStart::NoStart,
-    }
+    let start = start?;
+    start_with(Profile::OptionTwo(start.provplace, start.marks), minimum)
 }
 
 // What four words say: OPTION PLACE MARKS MINIMUM.
-pub fn unit_start_in(option: &[u8], provplace: &[u8], marks: &[u8], minimum: &[u8]) -> UnitStart
+pub fn unit_start_in(
+    option: &[u8],
+    provplace: &[u8],
+    marks: &[u8],
+    minimum: &[u8],
+) -> Result<UnitStart, StartError>
     ensures { result ≡ unit_start_in option.now provplace.now marks.now
         minimum.now }
 {
     if !is_decimal(minimum) {
-        return UnitStart::NoStart;
+        return Err(StartError::NoStart);
     }
     if is_option_word(option, NUMERAL_1) {
         return start_with(Profile::OptionOne, minimum);
@@ -100,26 +95,26 @@ pub fn unit_start_by(
     provplace: &[u8],
     marks: &[u8],
     minimum: &[u8],
-) -> UnitStart
+) -> Result<UnitStart, StartError>
     ensures { result
         ≡ unit_start_by count option.now provplace.now marks.now
         minimum.now }
 {
     if count != ARGUMENTS {
-        return UnitStart::NoStart;
+        return Err(StartError::NoStart);
     }
     unit_start_in(option, provplace, marks, minimum)
 }
 
 // Reads the start of a unit from the program's arguments. A word that is longer than what is lent
 // for it is taken as an empty one, so it is no start: a number of more than 65,536 digits too.
-pub fn read_unit_start(rt: &HostRuntime) -> UnitStart
+pub fn read_unit_start(rt: &HostRuntime) -> Result<UnitStart, StartError>
     ensures { UnitStartReadRight result }
 {
-    let mut option = [0u8; LONGEST_OTHER];
-    let mut provplace = [0u8; LONGEST_WORD];
-    let mut marks = [0u8; LONGEST_OTHER];
-    let mut minimum = [0u8; LONGEST_WORD];
+    let mut option = [0u8; LONGEST_WORD];
+    let mut provplace = [0u8; LONGEST_NUMBER];
+    let mut marks = [0u8; LONGEST_WORD];
+    let mut minimum = [0u8; LONGEST_NUMBER];
     let first = argument(rt, 1, &mut option);
     let second = argument(rt, 2, &mut provplace);
     let third = argument(rt, 3, &mut marks);

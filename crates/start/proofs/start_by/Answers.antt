@@ -1,13 +1,17 @@
--- `start::start_by` meets its contract: each way is a law.
+-- `start::start_by` meets its contract.
 -- Assumes nothing.
-use Rattle.start.proofs.StartLaws.{startBy-laws}
+use borrow.Author.Rules.{rules}
+use Rattle.start.specs.Start.{start_by}
 use Rattle.start.proofs.start_by.Goals as goal
 
-pub returns-then-count-eq0 : goal.returns-then-count-eq0
-returns-then-count-eq0 c = search startBy-laws
+pub returns-in-0 : goal.returns-in-0
+unfolding start_by
+returns-in-0 c = search rules
 
-pub returns-then-count-ne-ARGUMENTS : goal.returns-then-count-ne-ARGUMENTS
-returns-then-count-ne-ARGUMENTS c = search startBy-laws
+pub returns-in-3 : goal.returns-in-3
+unfolding start_by
+returns-in-3 c = search rules
 
-pub returns : goal.returns
-returns c = search startBy-laws
+pub returns-in_default : goal.returns-in_default
+unfolding start_by
+returns-in_default c = search rules

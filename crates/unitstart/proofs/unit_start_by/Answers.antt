@@ -1,10 +1,13 @@
--- `unitstart::unit_start_by` meets its contract: each way is a law.
+-- `unitstart::unit_start_by` meets its contract.
 -- Assumes nothing.
-use Rattle.unitstart.proofs.UnitStartLaws.{unitStartBy-laws}
+use borrow.Author.Rules.{rules}
+use Rattle.unitstart.specs.Start.{unit_start_by}
 use Rattle.unitstart.proofs.unit_start_by.Goals as goal
 
 pub returns-then-count-ne-ARGUMENTS : goal.returns-then-count-ne-ARGUMENTS
-returns-then-count-ne-ARGUMENTS c = search unitStartBy-laws
+unfolding unit_start_by
+returns-then-count-ne-ARGUMENTS c = search rules
 
 pub returns : goal.returns
-returns c = search unitStartBy-laws
+unfolding unit_start_by
+returns c = search rules
