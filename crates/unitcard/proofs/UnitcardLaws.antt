@@ -1,7 +1,7 @@
 -- The definitions of `specs/`, a law for each way through the function that meets it. Assumes nothing.
 use Prim.Native.Nat.{ℕ, ◌≤◌, ◌<◌}
 use mathlib.Core.Bool.{Bool, true, false}
-use mathlib.Core.List.{List, [], ◌∷◌}
+use mathlib.Core.List.{List}
 use mathlib.Core.Path.{◌≡◌, sym, ◌∙◌, ap}
 use lib.ListN.{get_or}
 use borrow.Author.Tests.{eq-eqb, ne_eqb, lt-ltb, le-ltb}
@@ -9,7 +9,6 @@ use Rattle.numbers.specs.declared.Answer.{Answer}
 use Rattle.numbers.specs.declared.Event.{Event}
 use Rattle.numbers.specs.declared.profile.Limits.{Limits}
 use Rattle.numbers.specs.declared.profile.Profile.{Profile}
-use Rattle.numbers.specs.Kind.{flag}
 use Rattle.numbers.specs.Quality.{quality}
 use Rattle.numbers.specs.Refusal.{accepted, argument_out_of_range}
 use Rattle.numbers.specs.Profile.{limits_of, profile_in}
@@ -18,27 +17,13 @@ use Rattle.selector.specs.declared.Selector.{Selector}
 use Rattle.selector.specs.State.{fresh_selector}
 use Rattle.selector.specs.Answer.{answer_of}
 use Rattle.due.specs.Next.{next_due}
-use Rattle.events.specs.Step.{Stepped}
 use Rattle.quickstep.specs.Watch.{Watch, watch_of}
 use Rattle.unit.specs.declared.Half.{Half}
 use Rattle.unit.specs.declared.Half.TheVariants as H
 use Rattle.unit.specs.Unit.{unit_start_number, goes_to}
-use Rattle.unit.specs.Kept.{Unit, fresh_unit, half_step, step_unit_read, squelched_by, source_by}
+use Rattle.unit.specs.Kept.{Unit, fresh_unit, half_step, step_unit_read}
 use Rattle.card.specs.Lent.{with_number, names_option, event_of, read_for}
 use Rattle.unitcard.specs.Lent.{LentUnit, station_half, half_in, half_held, stepped_held, sent_by, unit_in, unit_held, with_numbers, start_lent_unit, step_lent_unit}
-
--- ---- half_in
-
-module _ (half : ℕ) where
-  pub half_in-station : half ≡ station_half → H.Station ≡ half_in half
-  unfolding half_in
-  half_in-station e = rw (eq-eqb _ _ e)
-
-  pub half_in-equipment : (half ≡ station_half → ⊥) → H.Equipment ≡ half_in half
-  unfolding half_in
-  half_in-equipment n = rw (ne_eqb _ _ n)
-
-pub ruleset halfIn-laws = (half_in-station, half_in-equipment)
 
 -- ---- half_held
 
@@ -48,30 +33,6 @@ pub half-told : (number : ℕ) (state : Selector) (next : ℕ) (answer : Answer)
     → held ≡ watch_of state next answer 0
     → held ≡ half_held number state
 half-told number state next answer held n a h = h ∙ (λ j. watch_of state (n j) (a j) 0)
-
--- ---- stepped_held
-
--- what a half holds after its own step
-pub half-stepped : (whole : Stepped) (number : ℕ) (state : Selector) (held : Watch) → number ≡ whole.number
-    → state ≡ whole.state
-    → held ≡ half_held number state
-    → held ≡ stepped_held whole
-half-stepped whole number state held n s h = h ∙ (λ j. half_held (n j) (s j))
-
--- ---- sent_by
-
-pub sent-told : (station : Selector) (minimum : ℕ) (answer : Answer) (mode : Bool) (profile : Profile) (squelched : Bool)
-    (source : ℕ) → answer ≡ answer_of accepted station
-    → mode ≡ station.mode
-    → profile ≡ station.profile
-    → squelched ≡ squelched_by answer mode profile (quality minimum)
-    → source ≡ source_by squelched answer
-    → (minimum ∷ flag squelched ∷ source ∷ []) ≡ sent_by station (quality minimum)
-unfolding sent_by
-sent-told station minimum answer mode profile squelched source a m p s o =
-    let by : squelched ≡ squelched_by (answer_of accepted station) station.mode station.profile (quality minimum) =
-    s ∙ (λ j. squelched_by (a j) (m j) (p j) (quality minimum)) in
-    (λ j. minimum ∷ flag (by j) ∷ (o ∙ (λ i. source_by (by i) (a i))) j ∷ [])
 
 -- ---- a unit held
 

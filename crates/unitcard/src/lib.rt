@@ -34,6 +34,7 @@ const STATION: u8 = 1;
 pub const SENT: usize = 3;
 
 // The half of a number.
+#[tactic(auto, unfolding(crate::specs::Lent::half_in))]
 fn half_in(half: u8) -> Half
     ensures { result ≡ half_in half }
 {
@@ -102,6 +103,7 @@ fn start_half(
 }
 
 // What the station output sends stored, by the station's selector and the minimum.
+#[tactic(auto, unfolding(crate::specs::Lent::sent_by))]
 fn send(
     times: &[u64; TIMES],
     small: &[u8; SMALL],
