@@ -9,8 +9,9 @@ use native.Mathlib.Nat.{add_assoc, zero-add}
 use native.Mathlib.Omega.{arith}
 use borrow.Author.Tests.{eq-eqb, eqb-true}
 use lib.Dec.{eqb}
-use lib.ListN.{length, take, drop, length-append}
-use lib.Seq.{paste, take-paste, drop-paste, take-length, drop-drop}
+use native.Mathlib.Numerals.{add-one}
+use lib.ListN.{length, get_or, set, take, drop, length-append}
+use lib.Seq.{paste, paste-suc, take-paste, drop-paste, take-length, drop-drop}
 use Rattle.frame.specs.Octets.{same}
 use Rattle.frame.specs.Write.{put_octets}
 
@@ -45,6 +46,17 @@ same-other one other differ = go (same one other) refl
     go : (test : Bool) → same one other ≡ test → same one other ≡ false
     go true equal = absurd (differ (same_true one other equal))
     go false unequal = unequal
+
+-- ---- a row put into a buffer, octet by octet
+
+module _ (before row buffer : List ℕ) (start put : ℕ) (fits : start + length row ≤ length before) where
+  pub paste_put :
+      put < length row
+      → buffer ≡ paste before start row put
+      → set buffer (start + put) (get_or row put 0) ≡ paste before start row (put + 1)
+  paste_put left holds =
+      let inside : start + put < length before = omega arith in
+      rw (holds, paste-suc before start row put 0, add-one)
 
 -- ---- two rows put one behind the other are one row
 

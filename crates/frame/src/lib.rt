@@ -232,9 +232,14 @@ fn source_address(frame: &[u8]) -> [u8; 6]
     requires { shortest_frame ≤ length frame.now }
     ensures { result ≡ source_address frame.now }
 {
-    let mut source = [0; SOURCE_LENGTH];
-    source.copy_from_slice(&frame[6..12]);
-    source
+    [
+        octet(frame, 7),
+        octet(frame, 8),
+        octet(frame, 9),
+        octet(frame, 10),
+        octet(frame, 11),
+        octet(frame, 12),
+    ]
 }
 
 // Reads a frame: its code, its event flag and its source address, or the smallest number of refusal
@@ -270,13 +275,16 @@ pub fn number_of_read(read: FrameRead) -> u8
     }
 }
 
-// Puts a row of octets into a buffer from number `first` on, and keeps the others.
+// Puts a row of octets into a buffer from number `first` on, and keeps the others. The library's
+// copy can't be compiled for 32-bit processors: it compares addresses as numbers of 64 bits.
 fn put_octets(buffer: &mut [u8], first: usize, row: &[u8])
     requires { (0 < first) × (first - 1 + length row.now ≤ length buffer.old) }
     ensures { buffer.new ≡ put_octets buffer.old first row.now }
 {
     let start = first - 1;
-    buffer[start..start + row.len()].copy_from_slice(row);
+    for (put, octet) in row.iter().enumerate() {
+        buffer[start + put] = *octet;
+    }
 }
 
 // Octet 21 of a frame that is written.
