@@ -1,4 +1,4 @@
--- The definitions of `specs/`, a law for each way through the function that meets it. Assumes nothing.
+-- The definitions of `specs/`, a law for each turn of the loops of `inplace` that meet them. Assumes nothing.
 use Prim.Native.Nat.{ℕ, zero, suc, ◌+◌, ◌-◌, ◌≤◌, ◌<◌}
 use mathlib.Core.Bool.{Bool}
 use mathlib.Core.List.{List}
@@ -12,19 +12,8 @@ use Rattle.input.specs.Record.{fresh_input}
 use Rattle.selector.specs.declared.Selector.{Selector}
 use Rattle.selector.specs.State as State
 use Rattle.selector.proofs.SelectorLaws.{get_d_any}
-use Rattle.due.specs.Next.{never, lesser, sum_or_never, next_of, next_among, next_of_all, next_due}
+use Rattle.due.specs.Next.{never, lesser, next_of, next_among, next_of_all, next_due}
 use Rattle.due.specs.Served.{served_of, served_from, served}
-
--- ---- sum_or_never
-
-module _ (began length : ℕ) where
-  pub sum_or_never_sum : began + length ≤ never → began + length ≡ sum_or_never began length
-  unfolding sum_or_never lesser
-  sum_or_never_sum h = rw (le-leb _ _ h)
-
-  pub sum_or_never-never : never < began + length → never ≡ sum_or_never began length
-  unfolding sum_or_never lesser
-  sum_or_never-never h = rw (lt-leb _ _ h)
 
 -- ---- next_among: the loop of `next_of_all`
 
