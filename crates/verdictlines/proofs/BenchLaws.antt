@@ -46,16 +46,6 @@ module _ (view : View) (shows : Shows) (number : ℕ) where
   unfolding right_at
   right_at-answer t = rw t
 
-module _ (lane : Lane) (time : ℕ) where
-  pub may_show-later : lane.after ≤ time → true ≡ may_show lane time
-  unfolding may_show
-  may_show-later h = rw (le-leb lane.after time h)
-
-  pub may_show-same : (behind : ℕ) → time < lane.after → behind ≡ capped time 1
-      → eqb behind lane.after ≡ may_show lane time
-  unfolding may_show
-  may_show-same behind h b = rw (lt-leb lane.after time h, b)
-
 module _ (option : ℕ) (lane : Lane) (time border : ℕ) (happened : Bool) (last : ℕ) where
   pub is_sound-option : option ≡ no_option → false ≡ is_sound option lane time border happened last
   unfolding is_sound
@@ -83,15 +73,6 @@ module _ (closed border : ℕ) where
   pub closed_after-same : border < closed → closed ≡ closed_after closed border
   unfolding closed_after
   closed_after-same h = rw (lt-leb closed border h)
-
-module _ (number : ℕ) where
-  pub is_early-none : number ≡ 0 → false ≡ is_early number
-  unfolding is_early
-  is_early-none e = rw (eq-eqb number 0 e)
-
-  pub is_early-some : (number ≡ 0 → ⊥) → leb number 13 ≡ is_early number
-  unfolding is_early
-  is_early-some n = rw (ne_eqb number 0 n)
 
 module _ (read : Option LineRead) where
   pub sets_sending-event : (said : LineRead) → read ≡ Some said
@@ -134,14 +115,6 @@ module _ (number : ℕ) (early : Bool) (e : early ≡ is_early number) where
   pub happened-now : (happened : Bool) → early ≡ false → true ≡ happened_after happened number
   unfolding happened_after
   happened-now happened f = rw (← e, f)
-
-  pub late-early : (time closed : ℕ) → early ≡ true → false ≡ is_late number time closed
-  unfolding is_late
-  late-early time closed t = rw (← e, t)
-
-  pub late-time : (time closed : ℕ) → early ≡ false → ltb time closed ≡ is_late number time closed
-  unfolding is_late
-  late-time time closed f = rw (← e, f)
 
   module _ (changes late : Bool) where
     pub told-early : early ≡ true → false ≡ is_told changes number late
@@ -198,4 +171,4 @@ whole-made question bench room end behind time until e b t u =
     (λ (n : ℕ). spans_told_all question (spans_since bench.log.watch.state bench.since n) bench.lanes room)
     (u ∙ (λ j. max ((b ∙ ap (λ (n : ℕ). capped n 1) e) j) (t j)))
 
-pub ruleset bench-laws = (shown_by-made, right_at-code, right_at-none, right_at-answer, may_show-later, may_show-same, is_sound-option, is_sound-early, is_sound-closed, is_sound_open, closed_after-on, closed_after-same, is_early-none, is_early-some, sets_sending-event, sets_sending-malformed, may_change-first, may_change-anew, may_change-sent, shows_after-anew, shows_after-same, happened-early, happened-now, late-early, late-time, told-early, told-late, told-changed)
+pub ruleset bench-laws = (shown_by-made, right_at-code, right_at-none, right_at-answer, is_sound-option, is_sound-early, is_sound-closed, is_sound_open, closed_after-on, closed_after-same, sets_sending-event, sets_sending-malformed, may_change-first, may_change-anew, may_change-sent, shows_after-anew, shows_after-same, happened-early, happened-now, told-early, told-late, told-changed)

@@ -1,4 +1,5 @@
 -- What a shown line says: a law for each way through. Assumes nothing.
+use Rattle.std.specs.Prelude.{Option, Some, None}
 use Prim.Native.Nat.{ℕ, suc, ◌+◌, ◌*◌, ◌-◌, ◌≤◌, ◌<◌}
 use mathlib.Core.Bool.{Bool, true, false, cond, ◌||◌, or-true}
 use mathlib.Core.List.{List, [], ◌∷◌}
@@ -15,9 +16,8 @@ use Rattle.eventlog.specs.Line.{with_octets}
 use Rattle.eventlog.specs.InnerPromises.{octet_at}
 use Rattle.lanes.specs.declared.View.{View}
 use Rattle.lanes.specs.Value.{answer_value}
-use Rattle.verdictlines.specs.declared.shown.ShownRead.{ShownRead}
-use Rattle.verdictlines.specs.declared.shown.ShownRead.TheVariants.{Telling, Nothing}
-use Rattle.verdictlines.specs.Shown.{mark, is_shown, shown_octets, shown_time, shown_octet, shown_answer, is_shown_form, port_said, read_port, read_answer, read_shown, OctetIn}
+use Rattle.verdictlines.specs.declared.shown.Shown.{Shown}
+use Rattle.verdictlines.specs.Shown.{mark, is_shown, shown_octets, shown_time, shown_octet, shown_answer, is_shown_form, said_in, port_said, read_port, read_answer, read_shown, OctetIn}
 
 -- ---- the mark
 
@@ -128,13 +128,13 @@ rest-digits line digits part =
     part ∙ ap all_digits (take_all (length line - 1) (drop 1 line) (omega (arith, length-drop 1 line)))
 
 module _ (line : List ℕ) where
-  pub port-long : (length line ≡ 17 → ⊥) → Nothing ≡ read_port line
+  pub port-long : (length line ≡ 17 → ⊥) → None ≡ read_port line
   unfolding read_port is_shown_form
   port-long other = rw (ne_eqb (length line) 17 other)
 
   module _ (size : length line ≡ 17) (digits : Bool)
       (part : digits ≡ all_digits (take (length line - 1) (drop 1 line))) where
-    pub port-other : digits ≡ false → Nothing ≡ read_port line
+    pub port-other : digits ≡ false → None ≡ read_port line
     unfolding read_port is_shown_form
     port-other f = rw (eq-eqb (length line) 17 size, ← rest-digits line digits part, f)
 
@@ -152,58 +152,58 @@ module _ (line : List ℕ) where
             ← octet-second line code (omega arith) is_code,
           )
 
-      pub port-none : 15 < port → Nothing ≡ read_port line
+      pub port-none : 15 < port → None ≡ read_port line
       unfolding port_said
       port-none h = sym (said ∙ rw (lt-ltb 15 port h))
 
-      pub port_uncoded : 15 < code → Nothing ≡ read_port line
+      pub port_uncoded : 15 < code → None ≡ read_port line
       unfolding port_said
       port_uncoded h = sym (said ∙ rw (lt-ltb 15 code h, or-true (ltb 15 port)))
 
-      pub port-told : port ≤ 15 → code ≤ 15 → Telling port time code ≡ read_port line
+      pub port-told : port ≤ 15 → code ≤ 15 → said_in port time code ≡ read_port line
       unfolding port_said
       port-told p c = sym (said ∙ rw (le-ltb 15 port p, le-ltb 15 code c))
 
 module _ (view : View) (line : List ℕ) where
-  pub answer-long : (length line ≡ 23 → ⊥) → Nothing ≡ read_answer view line
+  pub answer-long : (length line ≡ 23 → ⊥) → None ≡ read_answer view line
   unfolding read_answer is_shown_form
   answer-long other = rw (ne_eqb (length line) 23 other)
 
   module _ (size : length line ≡ 23) (digits : Bool)
       (part : digits ≡ all_digits (take (length line - 1) (drop 1 line))) where
-    pub answer-other : digits ≡ false → Nothing ≡ read_answer view line
+    pub answer-other : digits ≡ false → None ≡ read_answer view line
     unfolding read_answer is_shown_form
     answer-other f = rw (eq-eqb (length line) 23 size, ← rest-digits line digits part, f)
 
     pub answer-told : digits ≡ true → (time : ℕ) (answer : Answer) (value : ℕ) → time ≡ shown_time line
         → answer ≡ shown_answer line
         → value ≡ answer_value view answer
-        → Telling 0 time value ≡ read_answer view line
+        → said_in 0 time value ≡ read_answer view line
     unfolding read_answer is_shown_form
     answer-told t time answer value is_time isAnswer is_value =
         rw (eq-eqb (length line) 23 size, ← rest-digits line digits part, t, is_time, is_value, isAnswer)
 
-  pub shown-port : (read : ShownRead) → view.codes ≡ true → read ≡ read_port line → read ≡ read_shown view line
+  pub shown-port : (read : Option Shown) → view.codes ≡ true → read ≡ read_port line → read ≡ read_shown view line
   unfolding read_shown
   shown-port read t is =
       is ∙ sym (ap (λ (test : Bool). cond test (read_port line) (read_answer view line)) t)
 
-  pub shown-answer : (read : ShownRead) → view.codes ≡ false → read ≡ read_answer view line → read ≡ read_shown view line
+  pub shown-answer : (read : Option Shown) → view.codes ≡ false → read ≡ read_answer view line → read ≡ read_shown view line
   unfolding read_shown
   shown-answer read f is =
       is ∙ sym (ap (λ (test : Bool). cond test (read_port line) (read_answer view line)) f)
 
 -- ---- there are sixteen lanes
 
-abbrev pub InLanes : ShownRead → Type 0
-InLanes (Telling number time value) = number < 16
-InLanes Nothing = Unit {0}
+abbrev pub InLanes : Option Shown → Type 0
+InLanes (Some shown) = shown.lane < 16
+InLanes None = Unit {0}
 
 said-inside : (port time code : ℕ) → InLanes (port_said port time code)
 unfolding port_said
 said-inside port time code = go (ltb 15 port) (ltb 15 code) refl
   where
-    go : (high coded : Bool) → ltb 15 port ≡ high → InLanes (cond (high || coded) Nothing (Telling port time code))
+    go : (high coded : Bool) → ltb 15 port ≡ high → InLanes (cond (high || coded) None (said_in port time code))
     go true coded is = tt
     go false true is = tt
     go false false is = omega (arith, ltb-false 15 port is)
@@ -214,8 +214,8 @@ shown-inside view line = go view.codes (is_shown_form 17 line) (is_shown_form 23
   where
     go : (codes port answer : Bool)
         → InLanes
-        (cond codes (cond port (port_said (shown_octet line 0) (shown_time line) (shown_octet line 1)) Nothing)
-        (cond answer (Telling 0 (shown_time line) (answer_value view (shown_answer line))) Nothing))
+        (cond codes (cond port (port_said (shown_octet line 0) (shown_time line) (shown_octet line 1)) None)
+        (cond answer (said_in 0 (shown_time line) (answer_value view (shown_answer line))) None))
     go true true answer = said-inside (shown_octet line 0) (shown_time line) (shown_octet line 1)
     go true false answer = tt
     go false port true = omega arith

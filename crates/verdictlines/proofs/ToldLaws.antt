@@ -133,10 +133,12 @@ module _ {S : Type 0} (tell : Span → S → S) (until : ℕ) (whole : S) where
       unfolding over_spans
       over_last h = rw (le-leb until span.to h) at over-one
 
-      over-next : (next : Span) (after : S) → next ≡ next_span span until → after ≡ tell span told → span.to < until
-          → over_spans tell (spans_left (left - 1) next until) after ≡ whole
-      over-next next after n a h =
-          (λ j. over_spans tell (spans_left (left - 1) (n j) until) (a j)) ∙
+      over-next : (fewer : ℕ) (next : Span) (after : S) → fewer ≡ left - 1 → next ≡ next_span span until
+          → after ≡ tell span told
+          → span.to < until
+          → over_spans tell (spans_left fewer next until) after ≡ whole
+      over-next fewer next after f n a h =
+          (λ j. over_spans tell (spans_left (f j) (n j) until) (a j)) ∙
           (rw (lt-leb until span.to h) at over-one)
 
   -- and so does all of them, from the first on
@@ -186,9 +188,10 @@ module _ (question : Question) (number until : ℕ) (whole : Told) (left : ℕ) 
     going-end-room h =
         ap room_of (told-one ∙ over_last (lane_told question number) until whole left span _ going some h)
 
-    pub going_on : (next : Span) → next ≡ next_span span until → span.to < until
-        → Going question number until whole (left - 1) next after kept
-    going_on next n h = over-next (lane_told question number) until whole left span _ going some next _ n told-one h
+    pub going_on : (fewer : ℕ) (next : Span) → fewer ≡ left - 1 → next ≡ next_span span until → span.to < until
+        → Going question number until whole fewer next after kept
+    going_on fewer next f n h =
+        over-next (lane_told question number) until whole left span _ going some fewer next _ f n told-one h
 
 -- of all lanes
 abbrev pub GoingAll : Question → ℕ → AllTold → ℕ → Span → List Lane → List ℕ → Type 0
@@ -223,9 +226,10 @@ module _ (question : Question) (until : ℕ) (whole : AllTold) (left : ℕ) (spa
     pub going-end-places : until ≤ span.to → kept ≡ places_of whole
     going-end-places h = ap places_of (told-all ∙ over_last (all_told question) until whole left span _ going some h)
 
-    pub going-on-all : (next : Span) → next ≡ next_span span until → span.to < until
-        → GoingAll question until whole (left - 1) next after kept
-    going-on-all next n h = over-next (all_told question) until whole left span _ going some next _ n told-all h
+    pub going-on-all : (fewer : ℕ) (next : Span) → fewer ≡ left - 1 → next ≡ next_span span until → span.to < until
+        → GoingAll question until whole fewer next after kept
+    going-on-all fewer next f n h =
+        over-next (all_told question) until whole left span _ going some fewer next _ f n told-all h
 
 -- ---- a value is shown
 

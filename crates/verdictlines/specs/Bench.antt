@@ -36,12 +36,12 @@ bench_in held =
     record {
       log = log_in held.log;
       lanes = held.lanes;
-      since = held.since;
-      shows = held.shows;
-      happened = held.happened;
-      closed = held.closed;
-      line = held.line;
-      trouble = held.trouble;
+      since = held.kept.since;
+      shows = held.kept.shows;
+      happened = held.kept.happened;
+      closed = held.kept.closed;
+      line = held.kept.line;
+      trouble = held.kept.trouble;
     }
 
 -- what a state shows: the codes of its ports, and what is judged of its answer

@@ -56,11 +56,7 @@ pub fn border_of(tolerance: Tolerance, time: u64) -> u64
 fn may_show(lane: Lane, time: u64) -> bool
     ensures { result ≡ may_show lane time }
 {
-    if lane.after <= time {
-        return true;
-    }
-    let behind = capped(time, 1);
-    behind == lane.after
+    lane.after <= time || capped(time, 1) == lane.after
 }
 
 // Whether a shown line is no trouble. Trouble is what nothing says by which option it is judged,
@@ -95,10 +91,7 @@ pub fn closed_after(closed: u64, border: u64) -> u64
 fn is_early(number: u8) -> bool
     ensures { result ≡ is_early number }
 {
-    if number == 0 {
-        return false;
-    }
-    number <= LAST_EARLY
+    number != 0 && number <= LAST_EARLY
 }
 
 // Whether a line says an event that sets what a port sends.
@@ -158,10 +151,7 @@ pub fn happened_after(happened: bool, number: u8) -> bool
 pub fn is_late(number: u8, time: u64, closed: u64) -> bool
     ensures { result ≡ is_late number time closed }
 {
-    if is_early(number) {
-        return false;
-    }
-    time < closed
+    !is_early(number) && time < closed
 }
 
 // Whether the lanes are told what was right up to an event: one that may change what shows, is not

@@ -16,6 +16,7 @@ ghost use Rattle.verdictlines.specs.Bench.{bench_in, whole_told};
 ghost use Rattle.verdictlines.specs.Carried.{fresh_bench};
 
 use bench::shown_by;
+use calls::Ending;
 use inplace::time_at;
 use lane::{Lane, Tolerance, fresh_lane};
 use lanes::{ROOM, View};
@@ -37,14 +38,12 @@ pub struct Shows {
     pub value: u64,
 }
 
-// What is carried from line to line: the log; the lanes; from when on they have not been told what
-// is right, and what the state has shown since then; whether an event has come that leaves its
-// time; the millisecond behind which events have to come, 0 where nothing was shown; how many lines
-// have come; and whether one of them is trouble.
+// What is carried from line to line beside the log and the lanes: from when on the lanes have not
+// been told what is right, and what the state has shown since then; whether an event has come that
+// leaves its time; the millisecond behind which events have to come, 0 where nothing was shown; how
+// many lines have come; and whether one of them is trouble.
 #[derive(Clone, Copy)]
-pub struct BenchHeld {
-    pub log: LogHeld,
-    pub lanes: [Lane; 16],
+pub struct Kept {
     pub since: u64,
     pub shows: Shows,
     pub happened: bool,
@@ -53,24 +52,31 @@ pub struct BenchHeld {
     pub trouble: bool,
 }
 
+// What is carried from line to line.
+#[derive(Clone, Copy)]
+pub struct BenchHeld {
+    pub log: LogHeld,
+    pub lanes: [Lane; 16],
+    pub kept: Kept,
+}
+
 // What is carried before any line.
 pub fn fresh_bench(view: View, provplace: ProvPlace, marks: u16) -> BenchHeld
     ensures { bench_in result ≡ fresh_bench view provplace marks }
 {
-    let fresh = fresh_lane();
-    let lanes = [fresh; 16];
     let log = LogHeld::fresh(provplace, marks);
-    let held = log.held;
-    let shows = shown_by(view, &held.times, &held.small, &held.wider);
+    let shows = shown_by(view, &log.held.times, &log.held.small, &log.held.wider);
     BenchHeld {
         log,
-        lanes,
-        since: 0,
-        shows,
-        happened: false,
-        closed: 0,
-        line: 0,
-        trouble: false,
+        lanes: [fresh_lane(); 16],
+        kept: Kept {
+            since: 0,
+            shows,
+            happened: false,
+            closed: 0,
+            line: 0,
+            trouble: false,
+        },
     }
 }
 
@@ -78,16 +84,16 @@ pub fn fresh_bench(view: View, provplace: ProvPlace, marks: u16) -> BenchHeld
 pub fn whole_lanes(
     rt: &HostRuntime,
     question: Question,
-    bench: BenchHeld,
+    bench: &BenchHeld,
     room: &mut [u64; ROOM],
-    stopped: &mut u8,
+    written: &mut Ending,
 ) -> [Lane; 16]
-    ensures { (result ≡ lanes_of (whole_told question (bench_in bench) room.old)) ×
-        (room.new ≡ places_of (whole_told question (bench_in bench) room.old)) ×
-        (StaysStopped stopped.old stopped.new) }
+    ensures { (result ≡ lanes_of (whole_told question (bench_in bench.now) room.old)) ×
+        (room.new ≡ places_of (whole_told question (bench_in bench.now) room.old)) ×
+        (StaysStopped written.old written.new) }
 {
     let tolerance = question.tolerance;
-    let held = bench.log.held;
+    let held = &bench.log.held;
     let behind = capped(capped(tolerance.end, tolerance.early), 1);
     let until = later(behind, time_at(&held.times));
     advance_all(
@@ -98,8 +104,8 @@ pub fn whole_lanes(
         &held.times,
         &held.small,
         &held.wider,
-        bench.since,
+        bench.kept.since,
         until,
-        stopped,
+        written,
     )
 }

@@ -17,11 +17,12 @@ const CODE_LINE: usize = 17;
 // The last port, and the largest code.
 const LAST: u64 = 15;
 
-// What a shown line says: the lane, the time, the value; or nothing.
+// What a shown line says.
 #[derive(Clone, Copy)]
-pub enum ShownRead {
-    Telling { lane: usize, time: u64, value: u64 },
-    Nothing,
+pub struct Shown {
+    pub lane: usize,
+    pub time: u64,
+    pub value: u64,
 }
 
 // Whether a line is a shown one.
@@ -77,53 +78,53 @@ fn answer_in(line: &[u8]) -> Answer
 }
 
 // What a line says of a port.
-fn read_port(line: &[u8]) -> ShownRead
+fn read_port(line: &[u8]) -> Option<Shown>
     ensures { result ≡ read_port line.now }
 {
     if line.len() != CODE_LINE {
-        return ShownRead::Nothing;
+        return None;
     }
     if !all_digits(&line[1..]) {
-        return ShownRead::Nothing;
+        return None;
     }
     let time = time_in(line);
     let port = octet_in(line, 13);
     let code = octet_in(line, 15);
     if LAST < port {
-        return ShownRead::Nothing;
+        return None;
     }
     if LAST < code {
-        return ShownRead::Nothing;
+        return None;
     }
-    ShownRead::Telling {
+    Some(Shown {
         lane: port as usize,
         time,
         value: code,
-    }
+    })
 }
 
 // What a line says of an answer.
-fn read_answer(view: View, line: &[u8]) -> ShownRead
+fn read_answer(view: View, line: &[u8]) -> Option<Shown>
     ensures { result ≡ read_answer view line.now }
 {
     if line.len() != ANSWER_LINE {
-        return ShownRead::Nothing;
+        return None;
     }
     if !all_digits(&line[1..]) {
-        return ShownRead::Nothing;
+        return None;
     }
     let time = time_in(line);
     let answer = answer_in(line);
     let value = answer_value(view, answer);
-    ShownRead::Telling {
+    Some(Shown {
         lane: 0,
         time,
         value,
-    }
+    })
 }
 
 // What a line that begins with the mark says.
-pub fn read_shown(view: View, line: &[u8]) -> ShownRead
+pub fn read_shown(view: View, line: &[u8]) -> Option<Shown>
     ensures { result ≡ read_shown view line.now }
 {
     if view.codes {

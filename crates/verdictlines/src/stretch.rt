@@ -1,62 +1,31 @@
 // The line of a stretch, and whether writing goes on.
-ghost use Rattle.verdictlines.specs.Stopped.{IsMark, StaysStopped};
+ghost use Rattle.verdictlines.specs.Stopped.{StaysStopped};
 
-use calls::{Ending, Stream, write_alone};
+use calls::{Ending, Stream, is_whole, write_alone};
 use digits::{lower_digit, upper_digit};
 use lane::Stretch;
 use lanes::View;
 use reader::LINE_FEED;
 use text::put_numbers;
 
-// Whether writing goes on: all was taken so far; a write failed; nobody reads any more.
-pub const GOING: u8 = 0;
-
-const UNWRITTEN: u8 = 1;
-
-pub const CLOSED: u8 = 2;
-
-// Whether writing goes on after a text.
-fn mark_of(ending: Ending) -> u8
-    ensures { IsMark result }
+// Writes the front of a text to standard output; nothing after a write that failed. How writing has
+// ended so far is carried on: all was taken, a write failed, or nobody reads any more.
+pub fn send(rt: &HostRuntime, out: &[u8], end: usize, written: &mut Ending)
+    ensures { StaysStopped written.old written.new }
 {
-    match ending {
-        Ending::Whole => GOING,
-        Ending::Unread => UNWRITTEN,
-        Ending::Unwritten => UNWRITTEN,
-        Ending::Closed => CLOSED,
-    }
-}
-
-// Writes the front of a text to standard output; nothing after a write that failed.
-pub fn send(rt: &HostRuntime, out: &[u8], end: usize, stopped: &mut u8)
-    ensures { StaysStopped stopped.old stopped.new }
-{
-    if *stopped != GOING {
+    if !is_whole(*written) {
         return;
     }
     if out.len() < end {
-        *stopped = UNWRITTEN;
+        *written = Ending::Unwritten;
         return;
     }
-    let ending = write_alone(rt, Stream::Output, &out[..end]);
-    *stopped = mark_of(ending);
+    *written = write_alone(rt, Stream::Output, &out[..end]);
 }
 
-// The octet at a scale of a value.
-fn octet_at(value: u64, scale: u64) -> u8 {
-    if scale == 0 {
-        return 0;
-    }
-    (value / scale % 256) as u8
-}
-
-// The ten digits of a value's five octets.
+// The ten digits of a value's last five octets.
 fn value_digits(value: u64) -> [u8; 10] {
-    let a = octet_at(value, 4_294_967_296);
-    let b = octet_at(value, 16_777_216);
-    let c = octet_at(value, 65_536);
-    let d = octet_at(value, 256);
-    let e = octet_at(value, 1);
+    let [_, _, _, a, b, c, d, e] = value.to_be_bytes();
     [
         upper_digit(a),
         lower_digit(a),
@@ -87,9 +56,9 @@ pub fn write_stretch(
     view: View,
     number: usize,
     stretch: Stretch,
-    stopped: &mut u8,
+    written: &mut Ending,
 )
-    ensures { StaysStopped stopped.old stopped.new }
+    ensures { StaysStopped written.old written.new }
 {
     if stretch.until <= stretch.from {
         return;
@@ -106,10 +75,10 @@ pub fn write_stretch(
         out[end + 1] = digits[8];
         out[end + 2] = digits[9];
         out[end + 3] = LINE_FEED;
-        send(rt, &out, end + 4, stopped);
+        send(rt, &out, end + 4, written);
         return;
     }
     put_at(&mut out, end + 1, &digits);
     out[end + 11] = LINE_FEED;
-    send(rt, &out, end + 12, stopped);
+    send(rt, &out, end + 12, written);
 }

@@ -8,6 +8,7 @@ ghost use Rattle.verdictlines.specs.Told.{new_from, last_at, lane_of, room_of, p
 
 use crate::Question;
 use crate::stretch::write_stretch;
+use calls::Ending;
 use inplace::{SMALL, TIMES, WIDER, codes_at, time_at};
 use lane::{Lane, Tolerance, right, shown};
 use lanes::{ROOM, View, next_span, span_end, value_index, value_of};
@@ -19,20 +20,14 @@ const SPANS: u64 = 49;
 pub fn capped(one: u64, other: u64) -> u64
     ensures { result ≡ capped one other }
 {
-    if other <= u64::MAX - one {
-        return one + other;
-    }
-    u64::MAX
+    one.saturating_add(other)
 }
 
 // The later of two times.
 pub fn later(one: u64, other: u64) -> u64
     ensures { result ≡ max one other }
 {
-    if one <= other {
-        return other;
-    }
-    one
+    one.max(other)
 }
 
 // When the value at an index was right last.
@@ -66,14 +61,13 @@ pub fn push(
     from: u64,
     to: u64,
     value: u64,
-    stopped: &mut u8,
+    written: &mut Ending,
 ) -> Lane
     ensures { (result ≡ lane_of (pushed question number lane room.old from to value)) ×
         (room.new ≡ room_of (pushed question number lane room.old from to value)) ×
-        (StaysStopped stopped.old stopped.new) }
+        (StaysStopped written.old written.new) }
 {
-    let view = question.view;
-    let tolerance = question.tolerance;
+    let Question { view, tolerance } = question;
     let start = new_from(tolerance, lane, from);
     if to < start {
         return lane;
@@ -86,8 +80,7 @@ pub fn push(
     if index < ROOM {
         room[index] = over;
     }
-    let ended = judged.ended;
-    write_stretch(rt, view, number, ended, stopped);
+    write_stretch(rt, view, number, judged.ended, written);
     judged.lane
 }
 
@@ -100,18 +93,16 @@ pub fn show(
     room: &[u64; ROOM],
     time: u64,
     value: u64,
-    stopped: &mut u8,
+    written: &mut Ending,
 ) -> Lane
     ensures { (result ≡ (shown_in question number known room.now time value).lane) ×
-        (StaysStopped stopped.old stopped.new) }
+        (StaysStopped written.old written.new) }
 {
-    let view = question.view;
-    let tolerance = question.tolerance;
+    let Question { view, tolerance } = question;
     let index = value_index(view, number, value);
     let last = last_at(room, index);
     let judged = shown(tolerance, known, last, time, value);
-    let ended = judged.ended;
-    write_stretch(rt, view, number, ended, stopped);
+    write_stretch(rt, view, number, judged.ended, written);
     judged.lane
 }
 
@@ -132,7 +123,7 @@ pub fn tell_shown(
     border: u64,
     time: u64,
     value: u64,
-    stopped: &mut u8,
+    written: &mut Ending,
 ) -> Lane
     ensures { (result ≡ lane_of (shown_told question number lane room.old
         (selector_at times.now small.now wider.now) due since right
@@ -140,18 +131,18 @@ pub fn tell_shown(
         (room.new ≡ room_of (shown_told question number lane room.old
         (selector_at times.now small.now wider.now) due since right
         border time value)) ×
-        (StaysStopped stopped.old stopped.new) }
+        (StaysStopped written.old written.new) }
 {
     if border < due {
         let known = push(
-            rt, question, number, lane, room, since, border, right, stopped,
+            rt, question, number, lane, room, since, border, right, written,
         );
-        return show(rt, question, number, known, room, time, value, stopped);
+        return show(rt, question, number, known, room, time, value, written);
     }
     let known = advance(
-        rt, question, number, lane, room, times, small, wider, since, border, stopped,
+        rt, question, number, lane, room, times, small, wider, since, border, written,
     );
-    show(rt, question, number, known, room, time, value, stopped)
+    show(rt, question, number, known, room, time, value, written)
 }
 
 // A lane after all that is right up to `until`, where no event comes, of a state that has shown the
@@ -167,7 +158,7 @@ pub fn advance(
     wider: &[u16; WIDER],
     since: u64,
     until: u64,
-    stopped: &mut u8,
+    written: &mut Ending,
 ) -> Lane
     ensures { (result ≡ lane_of (spans_told question number (spans_since
         (selector_at times.now small.now wider.now) since until) before
@@ -175,7 +166,7 @@ pub fn advance(
         (room.new ≡ room_of (spans_told question number (spans_since
         (selector_at times.now small.now wider.now) since until) before
         room.old)) ×
-        (StaysStopped stopped.old stopped.new) }
+        (StaysStopped written.old written.new) }
 {
     let view = question.view;
     let mut later = *times;
@@ -183,16 +174,14 @@ pub fn advance(
     let mut lane = before;
     let mut from = since;
     let mut to = span_end(times, small, wider, until);
-    let mut left: u64 = SPANS;
-    while 0 < left {
+    for _ in 0..SPANS {
         let value = value_of(view, &later, &after, wider, number);
-        lane = push(rt, question, number, lane, room, from, to, value, stopped);
+        lane = push(rt, question, number, lane, room, from, to, value, written);
         if until <= to {
             return lane;
         }
         to = next_span(&mut later, &mut after, wider, to, until);
         from = time_at(&later);
-        left -= 1;
     }
     lane
 }
@@ -206,20 +195,26 @@ fn push_codes(
     from: u64,
     to: u64,
     codes: [u8; 16],
-    stopped: &mut u8,
+    written: &mut Ending,
 ) -> [Lane; 16]
     ensures { (result ≡ lanes_of (ports_told question from to codes 16 0 before room.old)) ×
         (room.new ≡ places_of (ports_told question from to codes 16 0 before room.old)) ×
-        (StaysStopped stopped.old stopped.new) }
+        (StaysStopped written.old written.new) }
 {
     let mut lanes = before;
-    let mut number: usize = 0;
-    while number < 16 {
-        let lane = lanes[number];
+    for number in 0..16 {
         let value = codes[number] as u64;
-        let next = push(rt, question, number, lane, room, from, to, value, stopped);
-        lanes[number] = next;
-        number += 1;
+        lanes[number] = push(
+            rt,
+            question,
+            number,
+            lanes[number],
+            room,
+            from,
+            to,
+            value,
+            written,
+        );
     }
     lanes
 }
@@ -235,24 +230,22 @@ fn push_all(
     wider: &[u16; WIDER],
     from: u64,
     to: u64,
-    stopped: &mut u8,
+    written: &mut Ending,
 ) -> [Lane; 16]
     ensures { (result ≡ lanes_of (span_told question (span_from
         (selector_at times.now small.now wider.now) from to) before room.old)) ×
         (room.new ≡ places_of (span_told question (span_from
         (selector_at times.now small.now wider.now) from to) before room.old)) ×
-        (StaysStopped stopped.old stopped.new) }
+        (StaysStopped written.old written.new) }
 {
     let view = question.view;
     if view.codes {
         let codes = codes_at(times, small, wider);
-        return push_codes(rt, question, before, room, from, to, codes, stopped);
+        return push_codes(rt, question, before, room, from, to, codes, written);
     }
     let mut lanes = before;
-    let lane = lanes[0];
     let value = value_of(view, times, small, wider, 0);
-    let next = push(rt, question, 0, lane, room, from, to, value, stopped);
-    lanes[0] = next;
+    lanes[0] = push(rt, question, 0, lanes[0], room, from, to, value, written);
     lanes
 }
 
@@ -268,7 +261,7 @@ pub fn advance_all(
     wider: &[u16; WIDER],
     since: u64,
     until: u64,
-    stopped: &mut u8,
+    written: &mut Ending,
 ) -> [Lane; 16]
     ensures { (result ≡ lanes_of (spans_told_all question (spans_since
         (selector_at times.now small.now wider.now) since until) before
@@ -276,17 +269,16 @@ pub fn advance_all(
         (room.new ≡ places_of (spans_told_all question (spans_since
         (selector_at times.now small.now wider.now) since until) before
         room.old)) ×
-        (StaysStopped stopped.old stopped.new) }
+        (StaysStopped written.old written.new) }
 {
     let mut later = *times;
     let mut after = *small;
     let mut lanes = before;
     let mut from = since;
     let mut to = span_end(times, small, wider, until);
-    let mut left: u64 = SPANS;
-    while 0 < left {
+    for _ in 0..SPANS {
         let next = push_all(
-            rt, question, lanes, room, &later, &after, wider, from, to, stopped,
+            rt, question, lanes, room, &later, &after, wider, from, to, written,
         );
         lanes = next;
         if until <= to {
@@ -294,7 +286,6 @@ pub fn advance_all(
         }
         to = next_span(&mut later, &mut after, wider, to, until);
         from = time_at(&later);
-        left -= 1;
     }
     lanes
 }

@@ -8,4 +8,4 @@ pub returns : goal.returns
 unfolding watch_at
 returns c =
     let log = c in
-    fresh-made log.args.view _ _ _ _ _ log.fresh_lane-fresh.ensures log.fresh-log.ensures c.shown_by-shows.ensures
+    fresh-made log.args.view _ _ _ _ _ log.fresh_lane.ensures log.fresh-log.ensures c.shown_by-shows.ensures

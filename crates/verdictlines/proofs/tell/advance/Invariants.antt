@@ -1,20 +1,18 @@
 -- `verdictlines::tell::advance` meets its contract: what is left of the spans leads to what all of them lead to.
 -- Assumes nothing.
+use Prim.Native.Nat.{◌-◌}
 use Rattle.inplace.specs.Lists.{selector_at}
 use Rattle.verdictlines.specs.Stopped.{StaysStopped}
 use Rattle.verdictlines.specs.Told.{span_from, spans_since, spans_told}
 use Rattle.verdictlines.proofs.ToldLaws.{Going}
 use Rattle.verdictlines.proofs.tell.advance.Given as goal
 
-abbrev pub invariant-loop-left : goal.invariant-loop-left
-invariant-loop-left l =
+abbrev pub invariant-loop : goal.invariant-loop
+invariant-loop l =
     Going l.question l.number l.until
     (spans_told l.question l.number (spans_since (selector_at l.times l.small l.wider) l.since l.until) l.initial.lane l.initial.room)
-    l.left
+    (49 - l.counter)
     (span_from (selector_at l.later l.after l.wider) l.from l.to)
     l.lane
     l.room ×
-    StaysStopped l.initial.stopped l.stopped
-
-abbrev pub decreases-loop-left : goal.decreases-loop-left
-decreases-loop-left l = l.left
+    StaysStopped l.initial.written l.written

@@ -7,4 +7,4 @@ pub returns-then-view : goal.returns-then-view
 returns-then-view c = (search span-laws, search span-laws, c.push_codes.ensures.2)
 
 pub returns : goal.returns
-returns c = (search span-laws, search span-laws, c.push-next.ensures.2)
+returns c = (search span-laws, search span-laws, c.push.ensures.2)
