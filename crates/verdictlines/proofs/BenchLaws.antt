@@ -4,7 +4,7 @@ use mathlib.Core.Bool.{Bool, true, false}
 use mathlib.Core.List.{List}
 use mathlib.Core.Path.{◌≡◌, ◌∙◌, ap}
 use borrow.Author.Tests.{lt-ltb, le-ltb, le-leb, lt-leb, eq-eqb, ne_eqb}
-use lib.Dec.{eqb, leb, ltb}
+use lib.Dec.{eqb, leb}
 use lib.ListN.{get_or, replicate}
 use Rattle.std.proofs.Common.{Option, Some, None}
 use Rattle.numbers.specs.declared.Answer.{Answer}
@@ -23,7 +23,7 @@ use Rattle.verdictlines.specs.declared.Question.{Question}
 use Rattle.verdictlines.specs.declared.Shows.{Shows}
 use Rattle.verdictlines.specs.Told.{spans_since, spans_told_all}
 use Rattle.verdictlines.specs.Carried.{fresh_bench}
-use Rattle.verdictlines.specs.Bench.{Bench, whole_told, shown_by, right_at, may_show, is_sound, closed_after, is_early, sets_sending, may_change_by, shows_after, happened_after, is_late, is_told}
+use Rattle.verdictlines.specs.Bench.{Bench, whole_told, shown_by, right_at, may_show, is_sound, closed_after, is_early, sets_sending, may_change_by, shows_after, happened_after, is_told}
 
 pub shown_by-made : (view : View) (state : Selector) (codes : List ℕ) (answer : Answer) (value : ℕ)
     → codes ≡ outgoing_codes state

@@ -1,13 +1,19 @@
--- How writing has ended so far, and what a function that writes leaves of that. Cited by `src/stretch.rt`. Assumes nothing.
-use Rattle.std.specs.Prelude.{◌≡◌}
-use Rattle.calls.specs.declared.Ending.{Ending}
-use Rattle.calls.specs.declared.Ending.TheVariants.{Whole, Unread}
+-- Whether writing goes on, and what a function that writes leaves of that. Cited by `src/stretch.rt`. Assumes nothing.
+use Rattle.std.specs.Prelude.{ℕ, ◌≤◌, ◌≡◌}
 
--- all was taken, a write failed, or nobody reads any more
-abbrev pub IsMark : Ending → Type 0
-IsMark ending = ending ≡ Unread → ⊥
+-- all was taken so far
+abbrev pub going : ℕ
+going = 0
+
+-- nobody reads any more; between the two stands that a write failed
+abbrev pub closed : ℕ
+closed = 2
+
+-- one of these three
+abbrev pub IsMark : ℕ → Type 0
+IsMark mark = mark ≤ closed
 
 -- where writing had stopped it stays as it was; otherwise it goes on, failed, or nobody reads
-pub record StaysStopped (before after : Ending) : Type 0 where
-  pub stays : (before ≡ Whole → ⊥) → after ≡ before
-  pub marked : before ≡ Whole → IsMark after
+pub record StaysStopped (before after : ℕ) : Type 0 where
+  pub stays : (before ≡ going → ⊥) → after ≡ before
+  pub marked : before ≡ going → IsMark after

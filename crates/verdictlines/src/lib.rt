@@ -16,7 +16,6 @@ ghost use Rattle.verdictlines.specs.Bench.{bench_in, whole_told};
 ghost use Rattle.verdictlines.specs.Carried.{fresh_bench};
 
 use bench::shown_by;
-use calls::Ending;
 use inplace::time_at;
 use lane::{Lane, Tolerance, fresh_lane};
 use lanes::{ROOM, View};
@@ -86,11 +85,11 @@ pub fn whole_lanes(
     question: Question,
     bench: &BenchHeld,
     room: &mut [u64; ROOM],
-    written: &mut Ending,
+    stopped: &mut u8,
 ) -> [Lane; 16]
     ensures { (result ≡ lanes_of (whole_told question (bench_in bench.now) room.old)) ×
         (room.new ≡ places_of (whole_told question (bench_in bench.now) room.old)) ×
-        (StaysStopped written.old written.new) }
+        (StaysStopped stopped.old stopped.new) }
 {
     let tolerance = question.tolerance;
     let held = &bench.log.held;
@@ -106,6 +105,6 @@ pub fn whole_lanes(
         &held.wider,
         bench.kept.since,
         until,
-        written,
+        stopped,
     )
 }

@@ -1,26 +1,45 @@
 // The line of a stretch, and whether writing goes on.
-ghost use Rattle.verdictlines.specs.Stopped.{StaysStopped};
+ghost use Rattle.verdictlines.specs.Stopped.{IsMark, StaysStopped};
 
-use calls::{Ending, Stream, is_whole, write_alone};
+use calls::{Ending, Stream, write_alone};
 use digits::{lower_digit, upper_digit};
 use lane::Stretch;
 use lanes::View;
 use reader::LINE_FEED;
 use text::put_numbers;
 
-// Writes the front of a text to standard output; nothing after a write that failed. How writing has
-// ended so far is carried on: all was taken, a write failed, or nobody reads any more.
-pub fn send(rt: &HostRuntime, out: &[u8], end: usize, written: &mut Ending)
-    ensures { StaysStopped written.old written.new }
+// Whether writing goes on: all was taken so far; a write failed; nobody reads any more.
+pub const GOING: u8 = 0;
+
+const UNWRITTEN: u8 = 1;
+
+pub const CLOSED: u8 = 2;
+
+// Whether writing goes on after a text.
+fn mark_of(ending: Ending) -> u8
+    ensures { IsMark result }
 {
-    if !is_whole(*written) {
+    match ending {
+        Ending::Whole => GOING,
+        Ending::Unread => UNWRITTEN,
+        Ending::Unwritten => UNWRITTEN,
+        Ending::Closed => CLOSED,
+    }
+}
+
+// Writes the front of a text to standard output; nothing after a write that failed.
+pub fn send(rt: &HostRuntime, out: &[u8], end: usize, stopped: &mut u8)
+    ensures { StaysStopped stopped.old stopped.new }
+{
+    if *stopped != GOING {
         return;
     }
     if out.len() < end {
-        *written = Ending::Unwritten;
+        *stopped = UNWRITTEN;
         return;
     }
-    *written = write_alone(rt, Stream::Output, &out[..end]);
+    let ending = write_alone(rt, Stream::Output, &out[..end]);
+    *stopped = mark_of(ending);
 }
 
 // The ten digits of a value's last five octets.
@@ -56,9 +75,9 @@ pub fn write_stretch(
     view: View,
     number: usize,
     stretch: Stretch,
-    written: &mut Ending,
+    stopped: &mut u8,
 )
-    ensures { StaysStopped written.old written.new }
+    ensures { StaysStopped stopped.old stopped.new }
 {
     if stretch.until <= stretch.from {
         return;
@@ -75,10 +94,10 @@ pub fn write_stretch(
         out[end + 1] = digits[8];
         out[end + 2] = digits[9];
         out[end + 3] = LINE_FEED;
-        send(rt, &out, end + 4, written);
+        send(rt, &out, end + 4, stopped);
         return;
     }
     put_at(&mut out, end + 1, &digits);
     out[end + 11] = LINE_FEED;
-    send(rt, &out, end + 12, written);
+    send(rt, &out, end + 12, stopped);
 }

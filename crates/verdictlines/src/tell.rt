@@ -8,7 +8,6 @@ ghost use Rattle.verdictlines.specs.Told.{new_from, last_at, lane_of, room_of, p
 
 use crate::Question;
 use crate::stretch::write_stretch;
-use calls::Ending;
 use inplace::{SMALL, TIMES, WIDER, codes_at, time_at};
 use lane::{Lane, Tolerance, right, shown};
 use lanes::{ROOM, View, next_span, span_end, value_index, value_of};
@@ -61,11 +60,11 @@ pub fn push(
     from: u64,
     to: u64,
     value: u64,
-    written: &mut Ending,
+    stopped: &mut u8,
 ) -> Lane
     ensures { (result ≡ lane_of (pushed question number lane room.old from to value)) ×
         (room.new ≡ room_of (pushed question number lane room.old from to value)) ×
-        (StaysStopped written.old written.new) }
+        (StaysStopped stopped.old stopped.new) }
 {
     let Question { view, tolerance } = question;
     let start = new_from(tolerance, lane, from);
@@ -80,7 +79,7 @@ pub fn push(
     if index < ROOM {
         room[index] = over;
     }
-    write_stretch(rt, view, number, judged.ended, written);
+    write_stretch(rt, view, number, judged.ended, stopped);
     judged.lane
 }
 
@@ -93,16 +92,16 @@ pub fn show(
     room: &[u64; ROOM],
     time: u64,
     value: u64,
-    written: &mut Ending,
+    stopped: &mut u8,
 ) -> Lane
     ensures { (result ≡ (shown_in question number known room.now time value).lane) ×
-        (StaysStopped written.old written.new) }
+        (StaysStopped stopped.old stopped.new) }
 {
     let Question { view, tolerance } = question;
     let index = value_index(view, number, value);
     let last = last_at(room, index);
     let judged = shown(tolerance, known, last, time, value);
-    write_stretch(rt, view, number, judged.ended, written);
+    write_stretch(rt, view, number, judged.ended, stopped);
     judged.lane
 }
 
@@ -123,7 +122,7 @@ pub fn tell_shown(
     border: u64,
     time: u64,
     value: u64,
-    written: &mut Ending,
+    stopped: &mut u8,
 ) -> Lane
     ensures { (result ≡ lane_of (shown_told question number lane room.old
         (selector_at times.now small.now wider.now) due since right
@@ -131,18 +130,18 @@ pub fn tell_shown(
         (room.new ≡ room_of (shown_told question number lane room.old
         (selector_at times.now small.now wider.now) due since right
         border time value)) ×
-        (StaysStopped written.old written.new) }
+        (StaysStopped stopped.old stopped.new) }
 {
     if border < due {
         let known = push(
-            rt, question, number, lane, room, since, border, right, written,
+            rt, question, number, lane, room, since, border, right, stopped,
         );
-        return show(rt, question, number, known, room, time, value, written);
+        return show(rt, question, number, known, room, time, value, stopped);
     }
     let known = advance(
-        rt, question, number, lane, room, times, small, wider, since, border, written,
+        rt, question, number, lane, room, times, small, wider, since, border, stopped,
     );
-    show(rt, question, number, known, room, time, value, written)
+    show(rt, question, number, known, room, time, value, stopped)
 }
 
 // A lane after all that is right up to `until`, where no event comes, of a state that has shown the
@@ -158,7 +157,7 @@ pub fn advance(
     wider: &[u16; WIDER],
     since: u64,
     until: u64,
-    written: &mut Ending,
+    stopped: &mut u8,
 ) -> Lane
     ensures { (result ≡ lane_of (spans_told question number (spans_since
         (selector_at times.now small.now wider.now) since until) before
@@ -166,7 +165,7 @@ pub fn advance(
         (room.new ≡ room_of (spans_told question number (spans_since
         (selector_at times.now small.now wider.now) since until) before
         room.old)) ×
-        (StaysStopped written.old written.new) }
+        (StaysStopped stopped.old stopped.new) }
 {
     let view = question.view;
     let mut later = *times;
@@ -176,7 +175,7 @@ pub fn advance(
     let mut to = span_end(times, small, wider, until);
     for _ in 0..SPANS {
         let value = value_of(view, &later, &after, wider, number);
-        lane = push(rt, question, number, lane, room, from, to, value, written);
+        lane = push(rt, question, number, lane, room, from, to, value, stopped);
         if until <= to {
             return lane;
         }
@@ -195,11 +194,11 @@ fn push_codes(
     from: u64,
     to: u64,
     codes: [u8; 16],
-    written: &mut Ending,
+    stopped: &mut u8,
 ) -> [Lane; 16]
     ensures { (result ≡ lanes_of (ports_told question from to codes 16 0 before room.old)) ×
         (room.new ≡ places_of (ports_told question from to codes 16 0 before room.old)) ×
-        (StaysStopped written.old written.new) }
+        (StaysStopped stopped.old stopped.new) }
 {
     let mut lanes = before;
     for number in 0..16 {
@@ -213,7 +212,7 @@ fn push_codes(
             from,
             to,
             value,
-            written,
+            stopped,
         );
     }
     lanes
@@ -230,22 +229,22 @@ fn push_all(
     wider: &[u16; WIDER],
     from: u64,
     to: u64,
-    written: &mut Ending,
+    stopped: &mut u8,
 ) -> [Lane; 16]
     ensures { (result ≡ lanes_of (span_told question (span_from
         (selector_at times.now small.now wider.now) from to) before room.old)) ×
         (room.new ≡ places_of (span_told question (span_from
         (selector_at times.now small.now wider.now) from to) before room.old)) ×
-        (StaysStopped written.old written.new) }
+        (StaysStopped stopped.old stopped.new) }
 {
     let view = question.view;
     if view.codes {
         let codes = codes_at(times, small, wider);
-        return push_codes(rt, question, before, room, from, to, codes, written);
+        return push_codes(rt, question, before, room, from, to, codes, stopped);
     }
     let mut lanes = before;
     let value = value_of(view, times, small, wider, 0);
-    lanes[0] = push(rt, question, 0, lanes[0], room, from, to, value, written);
+    lanes[0] = push(rt, question, 0, lanes[0], room, from, to, value, stopped);
     lanes
 }
 
@@ -261,7 +260,7 @@ pub fn advance_all(
     wider: &[u16; WIDER],
     since: u64,
     until: u64,
-    written: &mut Ending,
+    stopped: &mut u8,
 ) -> [Lane; 16]
     ensures { (result ≡ lanes_of (spans_told_all question (spans_since
         (selector_at times.now small.now wider.now) since until) before
@@ -269,7 +268,7 @@ pub fn advance_all(
         (room.new ≡ places_of (spans_told_all question (spans_since
         (selector_at times.now small.now wider.now) since until) before
         room.old)) ×
-        (StaysStopped written.old written.new) }
+        (StaysStopped stopped.old stopped.new) }
 {
     let mut later = *times;
     let mut after = *small;
@@ -278,7 +277,7 @@ pub fn advance_all(
     let mut to = span_end(times, small, wider, until);
     for _ in 0..SPANS {
         let next = push_all(
-            rt, question, lanes, room, &later, &after, wider, from, to, written,
+            rt, question, lanes, room, &later, &after, wider, from, to, stopped,
         );
         lanes = next;
         if until <= to {

@@ -2,7 +2,6 @@
 -- Assumes nothing.
 use Rattle.verdictlines.proofs.ShownLaws.{shown-laws, answer-other, answer-told}
 use native.Mathlib.Omega.{arith}
-use borrow.Author.Tests.{not-true, not-false}
 use Rattle.verdictlines.proofs.shown.read_answer.Goals as goal
 
 pub returns-then-line-ne-ANSWER_LINE : goal.returns-then-line-ne-ANSWER_LINE

@@ -2,7 +2,6 @@
 -- Assumes nothing.
 use Rattle.verdictlines.proofs.ShownLaws.{shown-laws, port-other, port-none, port_uncoded, port-told}
 use native.Mathlib.Omega.{arith}
-use borrow.Author.Tests.{not-true, not-false}
 use borrow.Author.Rules.{rules}
 use Rattle.verdictlines.proofs.shown.read_port.Goals as goal
 

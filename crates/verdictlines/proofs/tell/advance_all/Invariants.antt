@@ -15,4 +15,4 @@ invariant-loop l =
     (span_from (selector_at l.later l.after l.wider) l.from l.to)
     l.lanes
     l.room ×
-    StaysStopped l.initial.written l.written
+    StaysStopped l.initial.stopped l.stopped

@@ -6,4 +6,4 @@ use Rattle.verdictlines.proofs.ToldLaws.{Ports}
 use Rattle.verdictlines.proofs.tell.push_codes.Given as goal
 
 abbrev pub invariant-loop-number : goal.invariant-loop-number
-invariant-loop-number l = Ports l.question l.from l.to l.codes (ports_told l.question l.from l.to l.codes 16 0 l.initial.lanes l.initial.room) l.number l.lanes l.room × StaysStopped l.initial.written l.written
+invariant-loop-number l = Ports l.question l.from l.to l.codes (ports_told l.question l.from l.to l.codes 16 0 l.initial.lanes l.initial.room) l.number l.lanes l.room × StaysStopped l.initial.stopped l.stopped
