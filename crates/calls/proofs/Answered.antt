@@ -116,14 +116,6 @@ module _ {so_far whole : List ℕ → List ℕ} {Carried : List ℕ → Type 0} 
   turn_on is (on goes) = goes
   turn_on is (over ending answered) = absurd (cc)
 
-  pub turn-over : {read sent : ℕ} {ended : Option Ending} (ending : Ending) → ended ≡ Some ending
-      → TurnEnded so_far whole Carried read sent ended
-      → Answered so_far whole (record { ending = ending; read = read; sent = sent })
-  turn-over ending is (on goes) = absurd (cc)
-  turn-over {read} {sent} ending is (over other answered) =
-      let same : other ≡ ending = cc in
-      rw (← same) answered
-
   -- the turns are used up: the input was not read to its end
   pub goes-unread : {read sent : ℕ} → GoesOn so_far Carried read sent
       → Answered so_far whole (record { ending = Unread; read = read; sent = sent })

@@ -40,10 +40,6 @@ decimal-by word answer some all = all ∙ numerals-all word ∙ (rw (lt-ltb 0 (l
 
 -- ---- digits_value
 
--- marks are four characters
-pub marks-size : (word : List ℕ) → is_marks word ≡ true → length word ≡ 4
-marks-size word holds = eqb-true (length word) 4 (and_parts (eqb (length word) 4) (all_digits word) holds).0
-
 -- the number of four digits, by their two octets
 pub four-value : (word : List ℕ) (upper lower : ℕ) → length word ≡ 4
     → upper ≡ digit_value (get_or word 0 0) * 16 + digit_value (get_or word 1 0)

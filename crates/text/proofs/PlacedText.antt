@@ -123,20 +123,6 @@ written-decimal number place copied digits out part inside is count copies =
           ∙ ap (λ (t : List ℕ). take (length t) t ++ drop (length t) (mid_of place (length out - place) out)) is);
     }
 
--- a text ends inside the output that it was written to
-pub put-inside : (text : List ℕ) (place : ℕ) (before : List ℕ) (end : ℕ) (after : List ℕ) → place ≤ length before
-    → Put text place before end after → end ≤ length after
-put-inside text place before end after inside put =
-    let behind = drop (place + length text) before in
-    omega (
-      arith,
-      put.past,
-      ap length put.content,
-      length-append (take place before ++ text) behind,
-      length-append (take place before) text,
-      length-take-le place before inside,
-    )
-
 -- a space and a number
 pub written-spaced : (number place end : ℕ) (out after : List ℕ)
     → place < length out

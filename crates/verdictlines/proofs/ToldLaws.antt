@@ -366,8 +366,4 @@ pub ruleset shown-told-laws = (quick-lane, quick-room, slow-lane, slow-room)
 
 pub ruleset span-laws = (codes-lanes, codes-room, answer-lanes, answer-room)
 
-pub ruleset going-laws = (going-lane, going-room, going-end-lane, going-end-room, going_on)
-
-pub ruleset going-all-laws = (going-lanes, going-places, going-end-lanes, going-end-places, going-on-all)
-
 pub ruleset ports-laws = (ports-lanes, ports-room, ports-on)
