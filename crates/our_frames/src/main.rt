@@ -45,22 +45,6 @@ fn print_frame(rt: &HostRuntime, event: bool, code: u8, sent: &mut usize) -> End
     let mut buffer = [0xff; WRITTEN_LENGTH];
     let _ = write_frame(&mut buffer, &SOURCE, event, code);
     let mut line = [b'\n'; LINE];
-    put_octets(&buffer, &mut line);
-    write_line(rt, &line, sent)
-}
-
-// An array of fixed length is lent, so that its length is known.
-fn write_line(rt: &HostRuntime, line: &[u8; LINE], sent: &mut usize) -> Ending {
-    write_text(rt, Stream::Output, line, sent)
-}
-
-// Two digits an octet.
-fn put_octets(octets: &[u8; WRITTEN_LENGTH], line: &mut [u8; LINE]) {
-    let mut put = 0;
-    while put < WRITTEN_LENGTH {
-        let octet = octets[put];
-        line[2 * put] = digits::upper_digit(octet);
-        line[2 * put + 1] = digits::lower_digit(octet);
-        put += 1;
-    }
+    digits::write_digits(&buffer, &mut line);
+    write_text(rt, Stream::Output, &line, sent)
 }
