@@ -1,5 +1,5 @@
 -- A step in place, a law for each way through it. Assumes nothing.
-use Prim.Native.Nat.{◌<◌}
+use Prim.Native.Nat.{ℕ, ◌<◌}
 use mathlib.Core.Bool.{Bool}
 use mathlib.Core.Path.{◌≡◌, refl, sym, ap, ◌∙◌, subst}
 use Rattle.numbers.specs.declared.Event.{Event}
@@ -15,7 +15,8 @@ use Rattle.selector.specs.declared.Selector.{Selector}
 use Rattle.selector.specs.State.{decided}
 use Rattle.inplace.specs.Lists.{with_inputs, with_command, held_switch}
 use Rattle.inplace.proofs.Named.{On, switch_of-back, commanded-on}
-use Rattle.events.specs.Step.{inputs_after, mode_after, at_its_moment, kind_at, early_number}
+use Rattle.due.specs.Served.{Served, served_of, served}
+use Rattle.events.specs.Step.{inputs_after, mode_after, at_its_moment, kind_at, early_number, stepped, step_ticked, step_read}
 use Rattle.events.proofs.EventLaws.{at_its_moment_calls}
 use Rattle.events.proofs.Refused.{accepted-input}
 
@@ -56,3 +57,13 @@ pub accepted-few : (state : Selector) (event : Event) (read : FrameRead) → ear
     → event.input < input_count
 accepted-few state event read none =
     accepted-input (limits_of state.profile) state.time (kind_at state.inputs event.input) event read none
+
+-- its tick, and then refused or the event itself: the step
+pub accepted-step : (state ticked after : Selector) (count number : ℕ) (event : Event) (read : FrameRead)
+    → early_number state event read ≡ accepted
+    → served_of ticked count ≡ served state event.time
+    → stepped number count after ≡ step_ticked ticked count event read
+    → stepped number count after ≡ step_read state event read
+unfolding step_read
+accepted-step state ticked after count number event read none s a =
+    a ∙ ap (λ (brought : Served). step_ticked brought.state brought.count event read) s ∙ rw none
