@@ -1,4 +1,4 @@
-// What an event and what is shown do to what is carried from line to line.
+// What a state shows, and what comes of an event and of what is shown, piece by piece.
 ghost use Rattle.std.specs.Prelude.{◌≡◌};
 ghost use Rattle.inplace.specs.Lists.{selector_at};
 ghost use Rattle.verdictlines.specs.Bench.{shown_by, right_at, border_of, may_show, is_sound, closed_after, is_early, sets_sending, may_change_by, shows_after, happened_after, is_late, is_told};
