@@ -33,7 +33,7 @@ early_rows limits time inputkind event =
     refusal time_too_large (leb time_limit event.time) ∷
     refusal time_before_state (ltb event.time time) ∷
     refusal input_out_of_range (input_refused (kind_row_of limits event.kind) event.input) ∷
-    refusal argument_out_of_range (argument_refused (kind_row_of limits event.kind) event.argument) ∷
+    refusal argument_out_of_range (argument_refused event.kind (kind_row_of limits event.kind) event.argument) ∷
     refusal wrong_input_kind (is_wrong_kind event.kind inputkind) ∷
     []
 
