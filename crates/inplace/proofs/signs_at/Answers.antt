@@ -14,4 +14,4 @@ returns g c =
     c.told_by.ensures
     c.says-2.ensures
     c.marks_of.ensures
-    c.signs_for.ensures
+    c.put_signs.ensures
