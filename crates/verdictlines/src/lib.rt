@@ -95,10 +95,11 @@ pub fn whole_lanes(
     let held = &bench.log.held;
     let behind = capped(capped(tolerance.end, tolerance.early), 1);
     let until = later(behind, time_at(&held.times));
+    let mut lanes = bench.lanes;
     advance_all(
         rt,
         question,
-        bench.lanes,
+        &mut lanes,
         room,
         &held.times,
         &held.small,
@@ -106,5 +107,6 @@ pub fn whole_lanes(
         bench.kept.since,
         until,
         stopped,
-    )
+    );
+    lanes
 }

@@ -253,7 +253,7 @@ fn push_all(
 pub fn advance_all(
     rt: &HostRuntime,
     question: Question,
-    before: [Lane; 16],
+    lanes: &mut [Lane; 16],
     room: &mut [u64; ROOM],
     times: &[u64; TIMES],
     small: &[u8; SMALL],
@@ -261,30 +261,28 @@ pub fn advance_all(
     since: u64,
     until: u64,
     stopped: &mut u8,
-) -> [Lane; 16]
-    ensures { (result ≡ lanes_of (spans_told_all question (spans_since
-        (selector_at times.now small.now wider.now) since until) before
+)
+    ensures { (lanes.new ≡ lanes_of (spans_told_all question (spans_since
+        (selector_at times.now small.now wider.now) since until) lanes.old
         room.old)) ×
         (room.new ≡ places_of (spans_told_all question (spans_since
-        (selector_at times.now small.now wider.now) since until) before
+        (selector_at times.now small.now wider.now) since until) lanes.old
         room.old)) ×
         (StaysStopped stopped.old stopped.new) }
 {
     let mut later = *times;
     let mut after = *small;
-    let mut lanes = before;
     let mut from = since;
     let mut to = span_end(times, small, wider, until);
     for _ in 0..SPANS {
         let next = push_all(
-            rt, question, lanes, room, &later, &after, wider, from, to, stopped,
+            rt, question, *lanes, room, &later, &after, wider, from, to, stopped,
         );
-        lanes = next;
+        *lanes = next;
         if until <= to {
-            return lanes;
+            return;
         }
         to = next_span(&mut later, &mut after, wider, to, until);
         from = time_at(&later);
     }
-    lanes
 }
