@@ -169,6 +169,20 @@ numbers_text_snoc (n ∷ ns) number =
     ∙ sym (append_assoc (decimal_of n) (spaced_numbers ns) (space ∷ decimal_of number))
     ∙ rw (lt-ltb 0 (suc (length ns)) (omega arith))
 
+-- a text ends inside the output that it was written to
+pub put-inside : (text : List ℕ) (place : ℕ) (before : List ℕ) (end : ℕ) (after : List ℕ) → place ≤ length before
+    → Put text place before end after → end ≤ length after
+put-inside text place before end after inside put =
+    let behind = drop (place + length text) before in
+    omega (
+      arith,
+      put.past,
+      ap length put.content,
+      length-append (take place before ++ text) behind,
+      length-append (take place before) text,
+      length-take-le place before inside,
+    )
+
 -- ---- PutNumbers
 
 -- what holds at each turn of `put_all`
@@ -193,6 +207,9 @@ put_start numbers place before =
 module _ {numbers : List ℕ} {place : ℕ} {before : List ℕ} {taken end : ℕ} {after : List ℕ}
     (so_far : PutSoFar numbers place before taken end after)
     (room : place + widest_number * length numbers ≤ length before) where
+  pub put-room : taken < length numbers → end + widest_number ≤ length after
+  put-room more = omega (arith, so_far.short, so_far.size)
+
   pub put_next : (next : ℕ) (later : List ℕ) → taken < length numbers
       → get_or numbers taken 0 < 18446744073709551616
       → Put (next_text (ltb 0 taken) (get_or numbers taken 0)) end after next later
