@@ -15,7 +15,7 @@ use Rattle.numbers.specs.Recorded.{Recorded}
 use Rattle.numbers.specs.From.{started, ◌following◌, profile_of}
 use Rattle.numbers.specs.Codes.{Sign, said_by, codes_of, words, quality_of_code, quality_of_word, said_in}
 use Rattle.numbers.specs.Inputs.{last_input, frame_life}
-use Rattle.numbers.specs.Kind.{kind_row_of, is_known, kind_word, kind_line_code, kind_frame, takes_frames, is_counted, is_frame}
+use Rattle.numbers.specs.Kind.{known_row_of, is_known, kind_word, kind_line_code, kind_frame, takes_frames, is_counted, is_frame}
 use Rattle.numbers.specs.Profile.{limits_of, number_of_prov_place, prov_place_of, number_in_one, paper_number}
 use Rattle.numbers.specs.Quality.{quality, not_told, invalid, failed, prov, is_failed}
 use Rattle.frame.specs.Read.{read_code}
@@ -220,7 +220,7 @@ word_ranged provplace marks word =
 words_ranged : (profile : Profile) (kind argument : ℕ) → is_known (limits_of profile) kind ≡ true
     → kind ≡ kind_word
     → Ranged profile (quality_of_word argument)
-unfolding kind_row_of limits_of
+unfolding known_row_of limits_of
 words_ranged P.OptionOne kind argument known word = absurd (true≢false (sym (rw word at known)))
 words_ranged (P.OptionTwo provplace marks) kind argument known word = word_ranged provplace marks argument
 

@@ -14,7 +14,7 @@ use Rattle.numbers.specs.declared.quality.Quality.{Quality}
 use Rattle.numbers.specs.declared.profile.Profile.{Profile}
 use Rattle.numbers.specs.declared.profile.Profile.TheVariants as P
 use Rattle.numbers.specs.From.{started, ◌following◌, profile_of}
-use Rattle.numbers.specs.Kind.{kind_row_of, kind_frame, kind_tick, kind_fixed_quality, kind_floor}
+use Rattle.numbers.specs.Kind.{known_row_of, kind_frame, kind_tick, kind_fixed_quality, kind_floor}
 use Rattle.numbers.specs.Profile.{limits_of, floor_in, prov_place_of, last_prov_place}
 use Rattle.numbers.specs.Quality.{prov, dus, invalid}
 use Rattle.numbers.specs.Refusal.{accepted}
@@ -234,7 +234,7 @@ module _ (kind number fresh : ℕ) (notTick : eqb kind_tick kind ≡ false) (not
   abbrev Ranged : History → Type 0
   Ranged history =
       (last_argument number kind fresh history ≡ fresh) ⊎
-      InRow (kind_row_of (limits_of (profile_of history)) kind) (last_argument number kind fresh history)
+      InRow (known_row_of (limits_of (profile_of history)) kind) (last_argument number kind fresh history)
 
   tick_off : (time : ℕ) → is_on number kind (tick_event time) ≡ false
   unfolding is_on
@@ -247,7 +247,7 @@ module _ (kind number fresh : ℕ) (notTick : eqb kind_tick kind ≡ false) (not
   module _ (past : Past) (given : Given) (none : early_by past given ≡ accepted) where
     -- an accepted event of that kind has an argument in its row
     own_ranged : given.event.kind ≡ kind
-        → InRow (kind_row_of (limits_of (profile_of past.history)) kind)
+        → InRow (known_row_of (limits_of (profile_of past.history)) kind)
         (recorded_argument given.event.kind given.event.argument (read_code given.frame))
     unfolding recorded_argument
     own_ranged same =
@@ -258,7 +258,7 @@ module _ (kind number fresh : ℕ) (notTick : eqb kind_tick kind ≡ false) (not
         (input_kind given.event.input past.history) given.event (read_code given.frame) early
         in
         rw (same, notFrame)
-        (subst (λ (known : ℕ). InRow (kind_row_of (limits_of (profile_of past.history)) known) given.event.argument)
+        (subst (λ (known : ℕ). InRow (known_row_of (limits_of (profile_of past.history)) known) given.event.argument)
         same
         within)
 
@@ -301,16 +301,16 @@ unfolding limits_of
 own_ranged_floor P.OptionOne = (omega arith, omega arith)
 own_ranged_floor (P.OptionTwo provplace marks) = (omega arith, omega arith)
 
-floor_ranged : (profile : Profile) (set : ℕ) → (set ≡ 0) ⊎ InRow (kind_row_of (limits_of profile) kind_floor) set
+floor_ranged : (profile : Profile) (set : ℕ) → (set ≡ 0) ⊎ InRow (known_row_of (limits_of profile) kind_floor) set
     → (1 ≤ floor_in (limits_of profile).freerunning set) × (floor_in (limits_of profile).freerunning set ≤ (limits_of profile).floor)
-unfolding floor_in kind_row_of
+unfolding floor_in known_row_of
 floor_ranged profile set (inl e) = rw e (own_ranged_floor profile)
 floor_ranged profile set (inr h) = rw (ne_eqb set 0 (λ e. omega (arith, e, h.0))) h
 
 fixed_ranged : (profile : Profile) (fixed : ℕ)
-    → (fixed ≡ 0) ⊎ InRow (kind_row_of (limits_of profile) kind_fixed_quality) fixed
+    → (fixed ≡ 0) ⊎ InRow (known_row_of (limits_of profile) kind_fixed_quality) fixed
     → fixed ≤ (limits_of profile).fixed
-unfolding kind_row_of
+unfolding known_row_of
 fixed_ranged profile fixed (inl e) = omega (arith, e)
 fixed_ranged profile fixed (inr h) = h.1
 

@@ -5,7 +5,7 @@ use Rattle.numbers.specs.declared.Event.{Event}
 use Rattle.numbers.specs.declared.kind.InputKind.{InputKind}
 use Rattle.numbers.specs.declared.profile.Limits.{Limits}
 use Rattle.numbers.specs.Inputs.{time_limit}
-use Rattle.numbers.specs.Kind.{kind_row_of, is_known, input_refused, argument_refused, takes_codes, takes_frames, takes_words, kind_frame, kind_line_code, kind_word, kind_forced, kind_manual}
+use Rattle.numbers.specs.Kind.{known_row_of, is_known, input_refused, argument_refused, takes_codes, takes_frames, takes_words, kind_frame, kind_line_code, kind_word, kind_forced, kind_manual}
 use Rattle.numbers.specs.Refusal.{accepted, kind_unknown, time_too_large, time_before_state, input_out_of_range, argument_out_of_range, wrong_input_kind, forced_barred, manual_forced_stands, manual_not_eligible, manual_lower_quality}
 use Rattle.numbers.specs.Rows.{Refusal, refusal, first_that_applies}
 use Rattle.frame.specs.declared.FrameRead.{FrameRead}
@@ -32,8 +32,8 @@ early_rows limits time inputkind event =
     refusal kind_unknown (not (is_known limits event.kind)) ∷
     refusal time_too_large (leb time_limit event.time) ∷
     refusal time_before_state (ltb event.time time) ∷
-    refusal input_out_of_range (input_refused (kind_row_of limits event.kind) event.input) ∷
-    refusal argument_out_of_range (argument_refused event.kind (kind_row_of limits event.kind) event.argument) ∷
+    refusal input_out_of_range (input_refused (known_row_of limits event.kind) event.input) ∷
+    refusal argument_out_of_range (argument_refused event.kind (known_row_of limits event.kind) event.argument) ∷
     refusal wrong_input_kind (is_wrong_kind event.kind inputkind) ∷
     []
 

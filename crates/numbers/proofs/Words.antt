@@ -9,14 +9,14 @@ use borrow.Author.Tests.{le-ltb}
 use Rattle.std.proofs.Common.{Option, Some, None}
 use Rattle.numbers.specs.declared.profile.Limits.{Limits}
 use Rattle.numbers.specs.declared.kind.KindRow.{KindRow}
-use Rattle.numbers.specs.Kind.{kind_word, kind_row_of, row, is_argument_out, argument_refused}
+use Rattle.numbers.specs.Kind.{kind_word, known_row_of, row, is_argument_out, argument_refused}
 
 module _ (argument : ℕ) (inside : argument ≤ 65535) where
   known-or-not : (words : Bool) → argument_refused kind_word (cond words (row 0 65535 false) None) argument ≡ false
   unfolding is_argument_out
   known-or-not true = rw (le-ltb argument 0 (omega arith), le-ltb 65535 argument inside)
-  known-or-not false = le-ltb 65535 argument inside
+  known-or-not false = rw (le-ltb argument 0 (omega arith), le-ltb 65535 argument inside)
 
-  pub word_argument-any : (limits : Limits) → argument_refused kind_word (kind_row_of limits kind_word) argument ≡ false
-  unfolding kind_row_of
+  pub word_argument-any : (limits : Limits) → argument_refused kind_word (known_row_of limits kind_word) argument ≡ false
+  unfolding known_row_of
   word_argument-any limits = known-or-not limits.words

@@ -11,7 +11,7 @@ use Rattle.numbers.specs.declared.Event.{Event}
 use Rattle.numbers.specs.declared.profile.Profile.{Profile}
 use Rattle.numbers.specs.Profile.{limits_of}
 use Rattle.numbers.specs.Inputs.{last_input, time_limit}
-use Rattle.numbers.specs.Kind.{kind_frame, kind_line_code, kind_tick, kind_row_of, is_argument_out, is_input_out, takes_codes, takes_frames}
+use Rattle.numbers.specs.Kind.{kind_frame, kind_line_code, kind_tick, known_row_of, is_argument_out, is_input_out, takes_codes, takes_frames}
 use Rattle.numbers.specs.Refusal.{accepted}
 use Rattle.numbers.specs.Rows.{first_that_applies}
 use Rattle.numbers.proofs.Truth.{by_bool}
@@ -69,7 +69,7 @@ module _ (before : Input) (profile : Profile) (time due : ℕ) (event : Event) (
   module _ (later : time ≤ event.time) (sooner : event.time < due) (below : event.time < time_limit) where
     asked-code : event.kind ≡ kind_line_code
         → repeats before profile event read ≡ says_again before profile time due event read
-    unfolding repeats says_again is_again early_refusal first_that_applies kind_row_of is_argument_out is_input_out is_wrong_kind
+    unfolding repeats says_again is_again early_refusal first_that_applies known_row_of is_argument_out is_input_out is_wrong_kind
         frame_refusal
     asked-code k =
         by_bool (ltb 15 event.input)
@@ -136,7 +136,7 @@ module _ (before : Input) (profile : Profile) (time due : ℕ) (event : Event) (
         → event.argument ≡ 0
         → takes_frames before.settings.kind ≡ true
         → repeats before profile event read ≡ says_again before profile time due event read
-    unfolding repeats says_again is_again read_again early_refusal first_that_applies kind_row_of is_argument_out is_input_out
+    unfolding repeats says_again is_again read_again early_refusal first_that_applies known_row_of is_argument_out is_input_out
         is_wrong_kind frame_refusal
     asked-read k (Code code) r inside none y =
         rw (
@@ -154,7 +154,7 @@ module _ (before : Input) (profile : Profile) (time due : ℕ) (event : Event) (
 
     asked-frame : event.kind ≡ kind_frame
         → repeats before profile event read ≡ says_again before profile time due event read
-    unfolding repeats says_again is_again early_refusal first_that_applies kind_row_of is_argument_out is_input_out is_wrong_kind
+    unfolding repeats says_again is_again early_refusal first_that_applies known_row_of is_argument_out is_input_out is_wrong_kind
         frame_refusal
     asked-frame k =
         by_bool (ltb 15 event.input)
@@ -190,7 +190,7 @@ module _ (before : Input) (profile : Profile) (time due : ℕ) (event : Event) (
 
     asked_tick : event.kind ≡ kind_tick
         → repeats before profile event read ≡ says_again before profile time due event read
-    unfolding repeats says_again is_again early_refusal first_that_applies kind_row_of is_argument_out is_input_out is_wrong_kind
+    unfolding repeats says_again is_again early_refusal first_that_applies known_row_of is_argument_out is_input_out is_wrong_kind
         frame_refusal
     asked_tick k =
         by_bool (eqb event.input 0)

@@ -3,7 +3,7 @@ use mathlib.Core.Logic.{inl}
 use mathlib.Core.Path.{refl}
 use Rattle.numbers.specs.Codes.{said_by, quality_of_code, quality_of_word, said_in}
 use Rattle.numbers.specs.Profile.{limits_of, prov_place_of, floor_in}
-use Rattle.numbers.specs.Kind.{kind_row_of, input_kind_of, is_argument_out, is_input_out}
+use Rattle.numbers.specs.Kind.{known_row_of, input_kind_of, is_argument_out, is_input_out}
 use Rattle.numbers.specs.Rows.{first_that_applies}
 use Rattle.frame.specs.Octets.{same}
 use Rattle.frame.specs.Read.{right_length, right_destination, right_protocol, right_organisation, right_version, right_tlv, frame_number, read_code}
@@ -34,7 +34,7 @@ pub counts-differ : CountsDiffer
 unfolding
     S.count_after S.state_after step
     step_read at_its_moment commanded recorded_argument mode_after inputs_after input_after held_argument is_held_in_byte
-    late_refusal is_forced_switch early_refusal frame_refusal is_wrong_kind first_that_applies is_input_out is_argument_out kind_row_of
+    late_refusal is_forced_switch early_refusal frame_refusal is_wrong_kind first_that_applies is_input_out is_argument_out known_row_of
     served served_from next_among next_of frame_due timer_due if_later sum_or_never lesser
     ticked_once decided candidate_for decide was_locked is_clock_locked selected_by judged manual_may_stand
     choose scanned offered seeded lower_among is_lower is_better is_eligible candidate_of ranked_quality is_admitted is_usable

@@ -9,7 +9,7 @@ use lib.Dec.{eqb, leb, ltb}
 use borrow.Author.Tests.{leb-false, ltb-false, ne_eqb, le-ltb, eqb-true, eqb-false}
 use Rattle.numbers.specs.From.{◌following◌, profile_of}
 use Rattle.numbers.specs.Inputs.{time_limit}
-use Rattle.numbers.specs.Kind.{kind_row_of, is_known, is_input_out, is_argument_out}
+use Rattle.numbers.specs.Kind.{known_row_of, is_known, is_input_out, is_argument_out}
 use Rattle.numbers.specs.Profile.{limits_of}
 use Rattle.numbers.specs.Refusal.{accepted, kind_unknown, time_too_large, time_before_state}
 use Rattle.numbers.specs.Rows.{RowApplies, first_that_applies}
@@ -74,7 +74,7 @@ number_by-early past given number e refused = rw (e, ne_eqb number accepted refu
 
 module _ (past : Past) (time : ℕ) where
   tick_early : early_by past (tick_at time) ≡ time_number (time_of past.history) time
-  unfolding first_that_applies kind_row_of is_input_out is_argument_out is_wrong_kind time_number
+  unfolding first_that_applies known_row_of is_input_out is_argument_out is_wrong_kind time_number
   tick_early = refl
 
   tick_late : late_by past (tick_at time) ≡ accepted
