@@ -248,8 +248,8 @@ fn push_all(
     lanes
 }
 
-// All lanes after all that is right up to `until`, where no event comes, of a state that has shown
-// the same since a time: a copy of it is brought on from span to span.
+// Tells all lanes, in place, all that is right up to `until`, where no event comes, of a state that
+// has shown the same since a time: a copy of the state is brought on from span to span.
 pub fn advance_all(
     rt: &HostRuntime,
     question: Question,
